@@ -1,0 +1,3 @@
+pub mod RingLaws
+pub mod Sums
+pub mod Solver

@@ -1,0 +1,4 @@
+pub mod Ring
+pub mod Ops
+pub mod Elements
+pub mod Sum

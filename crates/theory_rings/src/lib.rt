@@ -1,0 +1,10 @@
+// The mathematics of rings and fields.
+#![tactic(auto)]
+
+ghost use Rattle.std.specs.Prelude.{◌≡◌};
+
+pub fn same(x: usize) -> usize
+    ensures { result ≡ x }
+{
+    x
+}
