@@ -1,0 +1,4 @@
+// Fields as a program has them, and the fields of few elements.
+#![tactic(auto)]
+
+pub mod field;
