@@ -47,7 +47,7 @@ pub(crate) fn inverse_of(p: u16, a: u16) -> Option<u16>
 /// Whether the numbers give a field: p to the number of digits, of which there is one, is 2 to 256, the numbers of the
 /// modulus are below p, and each nonzero element has an inverse. A fault of size comes before one of the inverses,
 /// which carries the first element without one. It takes no memory.
-pub(crate) fn admits(p: u16, modulus: &[u8]) -> Result<(), FieldFault>
+pub(crate) fn admits_numbers(p: u16, modulus: &[u8]) -> Result<(), FieldFault>
     requires { length modulus.now ≡ 1 }
     ensures ok { OnOk result (IsAdmitted p modulus.now) }
     ensures size { IsErrOf result FieldFault.Size → FitsField p modulus.now → ⊥ }
