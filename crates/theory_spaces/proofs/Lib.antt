@@ -1,0 +1,5 @@
+pub mod Families
+pub mod Modules
+pub mod Decide
+pub mod Dimension
+pub mod Spaces
