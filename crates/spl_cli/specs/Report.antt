@@ -2,7 +2,8 @@
 use Rattle.std.specs.Prelude.{◌≡◌, ◌⊎◌, ℕ, ◌==◌, List, [], ◌∷◌, ◌++◌, codes, decimal, count_by}
 use Rattle.spl_algebra.specs.Algebra.{IsAssociative}
 use Rattle.spl_table.specs.TableText.{TableText, IsTableText}
-use Rattle.spl_table.specs.Table.{algebra_of, ops_of, IsTableOf, IsFirstFailed}
+use Rattle.spl_table.specs.Table.{algebra_of, ops_of, IsTableOf}
+use Rattle.spl_table.specs.Triple.{IsFirstFailed}
 use Rattle.spl_table.specs.Refusal.{IsRefusal}
 use Rattle.spl_table.specs.declared.table.Table.{Table}
 use Rattle.spl_table.specs.declared.triple.Triple.{Triple}

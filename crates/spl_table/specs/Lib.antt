@@ -1,3 +1,4 @@
 pub mod TableText
 pub mod Table
 pub mod Refusal
+pub mod Triple
