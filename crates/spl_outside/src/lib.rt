@@ -7,4 +7,6 @@ mod faults;
 pub mod memory;
 pub mod outside;
 pub mod streams;
+#[cfg(test)]
+mod tests;
 pub mod write;

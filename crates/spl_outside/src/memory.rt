@@ -76,23 +76,21 @@ impl Source for MemSource {
     fn read(&mut self, buf: &mut [u8]) -> Result<usize, Failed>
         // As every source.
         ensures within { IfOk result (λ n. n ≤ length buf.new) }
-        ensures taken { IfOk result (λ n. Consumes (Some (left_of self.old)) (Some (left_of self.new)) (take n buf.new)) }
-        ensures end { result ≡ Ok 0 → 0 < length buf.new → IsAtEnd (Some (left_of self.old)) }
+        ensures taken { IfOk result (λ n. left_of self.old ≡ take n buf.new ++ left_of self.new) }
+        ensures end { result ≡ Ok 0 → 0 < length buf.new → left_of self.old ≡ [] }
         ensures rose { OnErr result (Rose (source_faults self.old) (source_faults self.new)) }
-        ensures kept { OnErr result (Keeps (Some (left_of self.old)) (Some (left_of self.new))) }
+        ensures kept { OnErr result (left_of self.new ≡ left_of self.old) }
         ensures faults { source_faults self.old ≤ source_faults self.new }
-        ensures told { is_some (Some (left_of self.new)) ≡ is_some (Some (left_of self.old)) }
         ensures steady { source_steady self.new ≡ source_steady self.old }
 
-        // Exactly the listed calls fail, and each other gives all that it may.
+        // Exactly the listed calls fail, and each other call gives all that it may.
         ensures failed { IsErr result ↔ Contains (source_failing self.old) (source_call self.old) }
         ensures given { IfOk result (λ n. n ≡ min (min (length (left_of self.old)) (length buf.old)) (source_most self.old)) }
         ensures copied { IfOk result (λ n. buf.new ≡ take n (left_of self.old) ++ drop n buf.old) }
-        ensures rest { IfOk result (λ n. left_of self.new ≡ drop n (left_of self.old)) }
         ensures untouched { OnErr result (buf.new ≡ buf.old) }
 
-        ensures passed { OnOk result (source_faults self.new ≡ source_faults self.old) }
-        ensures counted { OnErr result (source_faults self.new ≡ next_count (source_faults self.old)) }
+        ensures no_fault { OnOk result (source_faults self.new ≡ source_faults self.old) }
+        ensures fault { OnErr result (source_faults self.new ≡ next_count (source_faults self.old)) }
         ensures call { source_call self.new ≡ next_count (source_call self.old) }
         ensures failing { source_failing self.new ≡ source_failing self.old }
         ensures most { source_most self.new ≡ source_most self.old }
@@ -103,7 +101,9 @@ impl Source for MemSource {
             self.faults = next(self.faults);
             return Err(Failed);
         }
-        let n = (self.bytes.len() - self.start).min(buf.len()).min(self.most);
+        let n = (self.bytes.len() - self.start)
+            .min(buf.len())
+            .min(self.most);
         buf[..n].copy_from_slice(&self.bytes[self.start..self.start + n]);
         self.start += n;
         Ok(n)
@@ -117,7 +117,12 @@ impl MemSink {
 
     /// A sink that takes at most `most` bytes at a call and `room` in all, and whose calls with the listed numbers
     /// fail. Calls are counted from 1.
-    pub fn new(alloc: Global, room: usize, most: usize, failing: Vec<u64>) -> Result<MemSink, NoMemory>
+    pub fn new(
+        alloc: Global,
+        room: usize,
+        most: usize,
+        failing: Vec<u64>,
+    ) -> Result<MemSink, NoMemory>
         requires { 1 ≤ most }
         ensures written { IfOk result (λ s. written_of s ≡ []) }
         ensures room { IfOk result (λ s. room_of s ≡ room) }
@@ -168,21 +173,20 @@ impl Sink for MemSink {
         // As every sink.
         ensures within { IfOk result (λ n. n ≤ length piece.now) }
         ensures some { IfOk result (λ n. 0 < length piece.now → 0 < n) }
-        ensures grew { IfOk result (λ n. Appends (Some (written_of self.old)) (Some (written_of self.new)) (take n piece.now)) }
+        ensures grew { IfOk result (λ n. written_of self.new ≡ written_of self.old ++ take n piece.now) }
         ensures rose { OnErr result (Rose (sink_faults self.old) (sink_faults self.new)) }
-        ensures kept { OnErr result (Keeps (Some (written_of self.old)) (Some (written_of self.new))) }
+        ensures kept { OnErr result (written_of self.new ≡ written_of self.old) }
         ensures faults { sink_faults self.old ≤ sink_faults self.new }
-        ensures told { is_some (Some (written_of self.new)) ≡ is_some (Some (written_of self.old)) }
         ensures steady { sink_steady self.new ≡ sink_steady self.old }
 
-        // Exactly the listed calls fail, and those that find no room; each other takes all that it may.
+        // Exactly the listed calls fail and those that find no room, and each other call takes all that it may.
         ensures failed { IsErr result ↔ (Contains (sink_failing self.old) (sink_call self.old)
             ⊎ ((0 < length piece.now) × (length (written_of self.old) ≡ room_of self.old))) }
         ensures given { IfOk result (λ n. n ≡ min (min (length piece.now) (room_of self.old - length (written_of self.old)))
             (sink_most self.old)) }
 
-        ensures passed { OnOk result (sink_faults self.new ≡ sink_faults self.old) }
-        ensures counted { OnErr result (sink_faults self.new ≡ next_count (sink_faults self.old)) }
+        ensures no_fault { OnOk result (sink_faults self.new ≡ sink_faults self.old) }
+        ensures fault { OnErr result (sink_faults self.new ≡ next_count (sink_faults self.old)) }
         ensures call { sink_call self.new ≡ next_count (sink_call self.old) }
         ensures failing { sink_failing self.new ≡ sink_failing self.old }
         ensures most { sink_most self.new ≡ sink_most self.old }

@@ -1,5 +1,5 @@
 -- The bytes that are taken so far were appended, and no more.
-use Rattle.std.proofs.Common.{◌≡◌, ℕ, ◌-◌, ◌≤◌, length, take, is_some, Option}
+use Rattle.std.proofs.Common.{◌≡◌, ◌-◌, ◌≤◌, length, take, is_some}
 use Rattle.std.specs.Io.KnownBytes.{Appends}
 use Rattle.spl_outside.proofs.write.write_whole.Given as goal
 
@@ -9,7 +9,7 @@ invariant-loop-taken g l = record {
   grew : Appends (g.K.Sink.written l.fn.sink) (g.K.Sink.written l.sink) (take l.taken l.bytes);
   faults : g.K.Sink.faults l.fn.sink ≤ g.K.Sink.faults l.sink;
   told : is_some (g.K.Sink.written l.sink) ≡ is_some (g.K.Sink.written l.fn.sink);
-  steady : g.K.Sink.steady l.sink ≡ g.K.Sink.steady l.fn.sink
+  steady : g.K.Sink.steady l.sink ≡ g.K.Sink.steady l.fn.sink;
 }
 
 abbrev pub decreases-loop-taken : goal.decreases-loop-taken

@@ -1,5 +1,5 @@
 -- What is left loses the bytes at the front of the buffer.
-use Rattle.std.proofs.Common.{◌≡◌, ℕ, ◌+◌, ◌-◌, ◌≤◌, ◌++◌, length, take, drop, arith, length-take, length-drop}
+use Rattle.std.proofs.Common.{◌≡◌, length, take, drop, arith}
 use Rattle.std.proofs.lemmas.Grind.{common_steps}
 use Rattle.spl_outside.proofs.Pieces.{left-take}
 use Rattle.spl_outside.proofs.memory.MemSourceSource.read.Goals as goal
