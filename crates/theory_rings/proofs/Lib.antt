@@ -1,3 +1,6 @@
 pub mod RingLaws
 pub mod Sums
 pub mod Solver
+pub mod Fields
+pub mod Powers
+pub mod Times

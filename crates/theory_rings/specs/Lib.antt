@@ -2,3 +2,6 @@ pub mod Ring
 pub mod Ops
 pub mod Elements
 pub mod Sum
+pub mod Power
+pub mod Prime
+pub mod Binomial
