@@ -4,3 +4,5 @@ pub mod Solver
 pub mod Fields
 pub mod Powers
 pub mod Times
+pub mod ClosedSets
+pub mod Primes
