@@ -6,3 +6,6 @@ pub mod Powers
 pub mod Times
 pub mod ClosedSets
 pub mod Primes
+pub mod Pigeonhole
+pub mod Semirings
+pub mod Binomial
