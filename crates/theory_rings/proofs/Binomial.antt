@@ -3,15 +3,16 @@ use Rattle.std.specs.Prelude.{◌≡◌, ℕ, zero, suc, ◌-◌, ◌*◌, ◌<�
 use Rattle.std.specs.Int.{◌∣◌}
 use Rattle.std.proofs.Common.{refl, sym, ◌∙◌, ap, ap₂, subst, arith, ⊎_elim}
 use Rattle.std.proofs.Math.Nat.{dvd-mul_right}
+use Rattle.theory_rings.specs.Ring.{CommRingOn}
 use Rattle.theory_rings.specs.Prime.{IsPrime}
 use Rattle.theory_rings.specs.Sum.{sum}
-use Rattle.theory_rings.specs.Power.{times}
+use Rattle.theory_rings.specs.Power.{power, times}
 use Rattle.theory_rings.specs.Binomial.{choose}
 use Rattle.theory_rings.proofs.RingLaws.{add-zero, add_left_comm}
 use Rattle.theory_rings.proofs.Sums.{sum_congr, sum-add, sum_first}
 use Rattle.theory_rings.proofs.Times.{one-times, add-times}
 use Rattle.theory_rings.proofs.Primes.{IsPrime-dvd-mul, IsPrime-not_dvd}
-use Rattle.theory_rings.proofs.Semirings.{CommSemiringOn, power_in, add-mul, mul-sum, mul-times, mul_left_comm}
+use Rattle.theory_rings.proofs.Semirings.{CommSemiringOn, semiring, power_in, add-mul, mul-sum, mul-times, mul_left_comm}
 
 pub choose-eq-zero_of_lt : (n k : ℕ) → n < k → choose n k ≡ 0
 choose-eq-zero_of_lt n zero l = absurd (omega arith)
@@ -103,3 +104,9 @@ module _ {K : Type 0} (S : CommSemiringOn K) (a b : K) where
       ∙ add_left_comm monoid A (t 0) D
       ∙ ap (λ x. t 0 ⊕ x) (sym (sum-add monoid (suc n) (more_left n) (more_right n)) ∙ sum_congr monoid (suc n) (λ k. more_left n k ⊕ more_right n k) (λ k. t (suc k)) (λ k _. sym (term-suc n k)))
       ∙ sym (sum_first monoid (suc n) t)
+
+-- the binomial theorem in a commutative ring
+pub binomial_theorem : {K : Type 0} (C : CommRingOn K) (a b : K) (n : ℕ)
+    → power C.ring (C.◌⊕◌ a b) n
+    ≡ sum C.monoid (suc n) (λ k. times C.monoid (choose n k) (C.◌⊗◌ (power C.ring a k) (power C.ring b (n - k))))
+binomial_theorem C a b n = add-power (semiring C) a b n

@@ -9,3 +9,5 @@ pub mod Primes
 pub mod Pigeonhole
 pub mod Semirings
 pub mod Binomial
+pub mod Frobenius
+pub mod Fermat

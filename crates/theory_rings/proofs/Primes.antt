@@ -1,10 +1,10 @@
 -- Prime numbers: Euclid's lemma and its converse, the test by inverses, and powers of a prime.
-use Rattle.std.specs.Prelude.{◌≡◌, ℕ, zero, suc, ◌*◌, ◌/◌, ◌%◌, ◌^◌, ◌<◌, ◌≤◌, ◌⊎◌}
+use Rattle.std.specs.Prelude.{◌≡◌, ℕ, zero, suc, ◌-◌, ◌*◌, ◌+◌, ◌/◌, ◌%◌, ◌^◌, ◌<◌, ◌≤◌, ◌⊎◌}
 use Rattle.std.specs.Int.{◌∣◌}
 use Rattle.std.proofs.Common.{refl, sym, ◌∙◌, ap, subst, subst₂, arith, inl, inr, ⊎_elim, mul_comm, add-mul, mul-le-mul_right, mul-one, one-mul}
 use Rattle.std.proofs.lemmas.Bool.{cases_lt}
 use Rattle.std.proofs.lemmas.Nat.Gcd.{dvd_refl, dvd_antisymm, le_of_dvd, dvd_of_mod-eq-zero, mod-eq-zero_of_dvd}
-use Rattle.std.proofs.Math.Nat.{dvd-add, dvd-add_iff_right, dvd-mul_left, dvd-mul_right, pos_of_dvd_of_pos, eq-one_of_dvd-one, mul-div_cancel', mul-mod_right, mod-mod_of_dvd, pow-zero, pow-suc, pow-succ', mul-dvd-mul_left}
+use Rattle.std.proofs.Math.Nat.{div-add-mod, mul-sub, add-mul-mod_self_left, dvd-add, dvd-add_iff_right, dvd-mul_left, dvd-mul_right, pos_of_dvd_of_pos, eq-one_of_dvd-one, mul-div_cancel', mul-mod_right, mod-mod_of_dvd, pow-zero, pow-suc, pow-succ', mul-dvd-mul_left}
 use Rattle.theory_rings.specs.Prime.{IsPrime}
 use Rattle.theory_rings.proofs.ClosedSets.{IsClosed, common_divisor, IsClosed-mul, IsClosed-scaled}
 
@@ -40,6 +40,35 @@ IsPrime-dvd-mul p prime a b d = ⊎_elim
       sums = λ x y sx sy. subst (λ z. p ∣ z) (sym (add-mul x y b)) (dvd-add p sx sy);
       differences = λ x y sx sy. (dvd-add_iff_right p sx).1 (subst (λ z. p ∣ z) (add-mul x y b) sy);
     }
+
+-- numbers with one remainder differ by a multiple, and conversely
+pub dvd-sub_of_mod-eq : (n x y : ℕ) → x % n ≡ y % n → n ∣ x - y
+dvd-sub_of_mod-eq n x y e =
+    let a = div-add-mod x n in
+    let b = div-add-mod y n in
+    let c : n * (x / n - y / n) ≡ x - y = mul-sub n (x / n) (y / n) ∙ omega arith in
+    subst (λ z. n ∣ z) c (dvd-mul_right n (x / n - y / n))
+
+mod-eq_of_dvd-sub_le : (n x y : ℕ) → x ≤ y → n ∣ y - x → x % n ≡ y % n
+mod-eq_of_dvd-sub_le n x y l d =
+    let e : x + n * ((y - x) / n) ≡ y = ap (λ z. x + z) (mul-div_cancel' n d) ∙ omega arith in
+    sym (add-mul-mod_self_left x n ((y - x) / n)) ∙ ap (λ z. z % n) e
+
+pub mod-eq_of_dvd-sub : (n x y : ℕ) → n ∣ x - y → n ∣ y - x → x % n ≡ y % n
+mod-eq_of_dvd-sub n x y c d = ⊎_elim
+    (λ (l : x < y). mod-eq_of_dvd-sub_le n x y (omega arith) d)
+    (λ (l : y ≤ x). sym (mod-eq_of_dvd-sub_le n y x l c))
+    (cases_lt x y)
+
+-- modulo a prime a factor that it does not divide can be taken off both sides
+pub IsPrime-mul_mod_cancel : (p : ℕ) → IsPrime p → (a x y : ℕ) → (p ∣ a → ⊥) → (a * x) % p ≡ (a * y) % p → x % p ≡ y % p
+IsPrime-mul_mod_cancel p prime a x y n e = mod-eq_of_dvd-sub p x y (side x y e) (side y x (sym e))
+  where
+    side : (u v : ℕ) → (a * u) % p ≡ (a * v) % p → p ∣ u - v
+    side u v h = ⊎_elim
+        (λ (d : p ∣ a). absurd (n d))
+        (λ (d : p ∣ u - v). d)
+        (IsPrime-dvd-mul p prime a (u - v) (subst (λ z. p ∣ z) (sym (mul-sub a u v)) (dvd-sub_of_mod-eq p (a * u) (a * v) h)))
 
 -- its converse
 pub IsPrime_of_dvd-mul : (p : ℕ) → 2 ≤ p → ((a b : ℕ) → p ∣ a * b → (p ∣ a) ⊎ (p ∣ b)) → IsPrime p
