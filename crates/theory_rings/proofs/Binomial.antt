@@ -12,7 +12,7 @@ use Rattle.theory_rings.proofs.RingLaws.{add-zero, add_left_comm}
 use Rattle.theory_rings.proofs.Sums.{sum_congr, sum-add, sum_first}
 use Rattle.theory_rings.proofs.Times.{one-times, add-times}
 use Rattle.theory_rings.proofs.Primes.{IsPrime-dvd-mul, IsPrime-not_dvd}
-use Rattle.theory_rings.proofs.Semirings.{CommSemiringOn, semiring, power_in, add-mul, mul-sum, mul-times, mul_left_comm}
+use Rattle.theory_rings.proofs.Semirings.{CommSemiringOn, semiring, power_in, add-mul, mul-sum, mul-times_comm, mul_left_comm}
 
 pub choose-eq-zero_of_lt : (n k : ℕ) → n < k → choose n k ≡ 0
 choose-eq-zero_of_lt n zero l = absurd (omega arith)
@@ -59,12 +59,12 @@ module _ {K : Type 0} (S : CommSemiringOn K) (a b : K) where
 
   mul-term_left : (n k : ℕ) → a ⊗ binomial_term n k ≡ more_left n k
   mul-term_left n k =
-      mul-times S (choose n k) a (power_in S a k ⊗ power_in S b (n - k))
+      mul-times_comm S (choose n k) a (power_in S a k ⊗ power_in S b (n - k))
       ∙ ap (times monoid (choose n k)) (sym (S.mul_assoc a (power_in S a k) (power_in S b (n - k))))
 
   mul-term_right : (n k : ℕ) → b ⊗ binomial_term n k ≡ times monoid (choose n k) (power_in S a k ⊗ power_in S b (suc (n - k)))
   mul-term_right n k =
-      mul-times S (choose n k) b (power_in S a k ⊗ power_in S b (n - k))
+      mul-times_comm S (choose n k) b (power_in S a k ⊗ power_in S b (n - k))
       ∙ ap (times monoid (choose n k)) (mul_left_comm S b (power_in S a k) (power_in S b (n - k)))
 
   term-first : (n : ℕ) → b ⊗ binomial_term n 0 ≡ binomial_term (suc n) 0

@@ -11,7 +11,7 @@ use Rattle.theory_rings.proofs.RingLaws.{add-zero, add_cancel_left}
 use Rattle.theory_rings.proofs.Sums.{sum_congr, sum_first, map-sum}
 use Rattle.theory_rings.proofs.Powers.{power_first, power-zero, power-power, power_only_zero}
 use Rattle.theory_rings.proofs.Times.{one-times, mul-times, times-sum, times_char}
-use Rattle.theory_rings.proofs.Primes.{pow-pos}
+use Rattle.theory_rings.proofs.Divisibility.{pow-pos}
 use Rattle.theory_rings.proofs.Semirings.{CommSemiringOn, semiring, power_in}
 use Rattle.theory_rings.proofs.Binomial.{binomial_term, add-power, choose_self, IsPrime-dvd-choose}
 
@@ -67,6 +67,7 @@ module _ {K : Type 0} (C : CommRingOn K) (p : ℕ) (prime : IsPrime p) (char : t
   infixl 65 ◌⊕◌
   open C use {ring, monoid, ◌⊕◌}
 
+  -- the p-th power of a sum is the sum of the p-th powers
   pub frobenius-add : (a b : K) → power ring (a ⊕ b) p ≡ power ring a p ⊕ power ring b p
   frobenius-add a b =
       let r = add-power_prime (semiring C) a b p prime in

@@ -4,6 +4,7 @@ pub mod Solver
 pub mod Fields
 pub mod Powers
 pub mod Times
+pub mod Divisibility
 pub mod ClosedSets
 pub mod Primes
 pub mod Pigeonhole
@@ -11,3 +12,5 @@ pub mod Semirings
 pub mod Binomial
 pub mod Frobenius
 pub mod Fermat
+pub mod ElementPowers
+pub mod FrobeniusRoots

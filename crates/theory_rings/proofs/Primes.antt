@@ -1,19 +1,13 @@
 -- Prime numbers: Euclid's lemma and its converse, the test by inverses, and powers of a prime.
-use Rattle.std.specs.Prelude.{◌≡◌, ℕ, zero, suc, ◌-◌, ◌*◌, ◌+◌, ◌/◌, ◌%◌, ◌^◌, ◌<◌, ◌≤◌, ◌⊎◌}
+use Rattle.std.specs.Prelude.{◌≡◌, ℕ, zero, suc, ◌-◌, ◌*◌, ◌/◌, ◌%◌, ◌^◌, ◌<◌, ◌≤◌, ◌⊎◌}
 use Rattle.std.specs.Int.{◌∣◌}
-use Rattle.std.proofs.Common.{refl, sym, ◌∙◌, ap, subst, subst₂, arith, inl, inr, ⊎_elim, mul_comm, add-mul, mul-le-mul_right, mul-one, one-mul}
+use Rattle.std.proofs.Common.{refl, sym, ◌∙◌, ap, subst, subst₂, arith, inl, inr, ⊎_elim, mul_comm, add-mul, mul-one, one-mul}
 use Rattle.std.proofs.lemmas.Bool.{cases_lt}
-use Rattle.std.proofs.lemmas.Nat.Gcd.{dvd_refl, dvd_antisymm, le_of_dvd, dvd_of_mod-eq-zero, mod-eq-zero_of_dvd}
-use Rattle.std.proofs.Math.Nat.{div-add-mod, mul-sub, add-mul-mod_self_left, dvd-add, dvd-add_iff_right, dvd-mul_left, dvd-mul_right, pos_of_dvd_of_pos, eq-one_of_dvd-one, mul-div_cancel', mul-mod_right, mod-mod_of_dvd, pow-zero, pow-suc, pow-succ', mul-dvd-mul_left}
+use Rattle.std.proofs.lemmas.Nat.Gcd.{dvd_refl, dvd_antisymm, le_of_dvd, dvd_of_mod-eq-zero}
+use Rattle.std.proofs.Math.Nat.{mul-sub, dvd-add, dvd-add_iff_right, dvd-mul_left, dvd-mul_right, pos_of_dvd_of_pos, eq-one_of_dvd-one, mul-div_cancel', mul-mod_right, mod-mod_of_dvd, pow-zero, pow-suc, pow-succ', mul-dvd-mul_left}
 use Rattle.theory_rings.specs.Prime.{IsPrime}
+use Rattle.theory_rings.proofs.Divisibility.{dvd_or_not, dvd-sub_of_mod-eq, mod-eq_of_dvd-sub}
 use Rattle.theory_rings.proofs.ClosedSets.{IsClosed, common_divisor, IsClosed-mul, IsClosed-scaled}
-
--- a number divides another or not
-pub dvd_or_not : (a b : ℕ) → (a ∣ b) ⊎ (a ∣ b → ⊥)
-dvd_or_not a b = ⊎_elim
-    (λ (h : 0 < b % a). inr (λ d. let e = mod-eq-zero_of_dvd a d in omega arith))
-    (λ (h : b % a ≤ 0). inl (let e : b % a ≡ 0 = omega arith in dvd_of_mod-eq-zero a e))
-    (cases_lt 0 (b % a))
 
 -- a prime divides no smaller number but 0
 pub IsPrime-not_dvd : (p : ℕ) → IsPrime p → (k : ℕ) → 0 < k → k < p → p ∣ k → ⊥
@@ -41,36 +35,7 @@ IsPrime-dvd-mul p prime a b d = ⊎_elim
       differences = λ x y sx sy. (dvd-add_iff_right p sx).1 (subst (λ z. p ∣ z) (add-mul x y b) sy);
     }
 
--- numbers with one remainder differ by a multiple, and conversely
-pub dvd-sub_of_mod-eq : (n x y : ℕ) → x % n ≡ y % n → n ∣ x - y
-dvd-sub_of_mod-eq n x y e =
-    let a = div-add-mod x n in
-    let b = div-add-mod y n in
-    let c : n * (x / n - y / n) ≡ x - y = mul-sub n (x / n) (y / n) ∙ omega arith in
-    subst (λ z. n ∣ z) c (dvd-mul_right n (x / n - y / n))
-
-mod-eq_of_dvd-sub_le : (n x y : ℕ) → x ≤ y → n ∣ y - x → x % n ≡ y % n
-mod-eq_of_dvd-sub_le n x y l d =
-    let e : x + n * ((y - x) / n) ≡ y = ap (λ z. x + z) (mul-div_cancel' n d) ∙ omega arith in
-    sym (add-mul-mod_self_left x n ((y - x) / n)) ∙ ap (λ z. z % n) e
-
-pub mod-eq_of_dvd-sub : (n x y : ℕ) → n ∣ x - y → n ∣ y - x → x % n ≡ y % n
-mod-eq_of_dvd-sub n x y c d = ⊎_elim
-    (λ (l : x < y). mod-eq_of_dvd-sub_le n x y (omega arith) d)
-    (λ (l : y ≤ x). sym (mod-eq_of_dvd-sub_le n y x l c))
-    (cases_lt x y)
-
--- modulo a prime a factor that it does not divide can be taken off both sides
-pub IsPrime-mul_mod_cancel : (p : ℕ) → IsPrime p → (a x y : ℕ) → (p ∣ a → ⊥) → (a * x) % p ≡ (a * y) % p → x % p ≡ y % p
-IsPrime-mul_mod_cancel p prime a x y n e = mod-eq_of_dvd-sub p x y (side x y e) (side y x (sym e))
-  where
-    side : (u v : ℕ) → (a * u) % p ≡ (a * v) % p → p ∣ u - v
-    side u v h = ⊎_elim
-        (λ (d : p ∣ a). absurd (n d))
-        (λ (d : p ∣ u - v). d)
-        (IsPrime-dvd-mul p prime a (u - v) (subst (λ z. p ∣ z) (sym (mul-sub a u v)) (dvd-sub_of_mod-eq p (a * u) (a * v) h)))
-
--- its converse
+-- its converse: from 2 on, what divides a factor of each product that it divides is prime
 pub IsPrime_of_dvd-mul : (p : ℕ) → 2 ≤ p → ((a b : ℕ) → p ∣ a * b → (p ∣ a) ⊎ (p ∣ b)) → IsPrime p
 IsPrime_of_dvd-mul p least euclid = record { least = least; only = only }
   where
@@ -106,16 +71,16 @@ IsPrime_of_inverses p least inverse = record { least = least; only = only }
         (λ (l : p ≤ d). inr (omega arith))
         (cases_lt d p)
 
--- powers of a number from 1 on, and from 2 on
-pub pow-pos : (p i : ℕ) → 0 < p → 0 < p ^ i
-pow-pos p zero h = subst (λ n. 0 < n) (sym (pow-zero p)) (omega arith)
-pow-pos p (suc i) h = let a = mul-le-mul_right (p ^ i) h in let b = pow-pos p i h in let e = pow-succ' p i in let o = one-mul (p ^ i) in omega arith
+-- modulo a prime a factor that it does not divide can be taken off both sides
+pub IsPrime-mul_mod_cancel : (p : ℕ) → IsPrime p → (a x y : ℕ) → (p ∣ a → ⊥) → (a * x) % p ≡ (a * y) % p → x % p ≡ y % p
+IsPrime-mul_mod_cancel p prime a x y n e = mod-eq_of_dvd-sub p x y (side x y e) (side y x (sym e))
+  where
+    side : (u v : ℕ) → (a * u) % p ≡ (a * v) % p → p ∣ u - v
+    side u v h = ⊎_elim
+        (λ (d : p ∣ a). absurd (n d))
+        (λ (d : p ∣ u - v). d)
+        (IsPrime-dvd-mul p prime a (u - v) (subst (λ z. p ∣ z) (sym (mul-sub a u v)) (dvd-sub_of_mod-eq p (a * u) (a * v) h)))
 
-pub lt-pow : (p i : ℕ) → 2 ≤ p → i < p ^ i
-lt-pow p zero h = pow-pos p zero (omega arith)
-lt-pow p (suc i) h = let a = mul-le-mul_right (p ^ i) h in let b = lt-pow p i h in let e = pow-succ' p i in omega arith
-
--- with p ^ (i + 1) a closed set holds p ^ i, if it holds a number that p ^ (i + 1) does not divide
 apart-pow_mem : (p : ℕ) → IsPrime p → (i j : ℕ) (S : ℕ → Type 0) → IsClosed S → S (p ^ suc i) → S j → (p ∣ j → ⊥) → S (p ^ i)
 apart-pow_mem p prime i j S closed sp sj n =
     let T : ℕ → Type 0 = λ x. S (p ^ i * x) in
@@ -123,6 +88,7 @@ apart-pow_mem p prime i j S closed sp sj n =
     let tj : T j = subst S (mul_comm j (p ^ i)) (IsClosed-mul S closed j (p ^ i) sj) in
     subst S (mul-one (p ^ i)) (IsPrime-one_mem p prime T (IsClosed-scaled S closed (p ^ i)) tp j tj n)
 
+-- with p ^ (i + 1) a closed set holds p ^ i, if it holds a number that p ^ (i + 1) does not divide
 pub IsPrime-pow_mem : (p : ℕ) → IsPrime p → (i j : ℕ) (S : ℕ → Type 0) → IsClosed S → S (p ^ suc i) → S j → (p ^ suc i ∣ j → ⊥) → S (p ^ i)
 IsPrime-pow_mem p prime zero j S closed sp sj n = ⊎_elim
     (λ (d : p ∣ j). let e : p ^ 1 ≡ p = pow-suc p 0 ∙ ap (λ x. x * p) (pow-zero p) ∙ one-mul p in absurd (n (subst (λ x. x ∣ j) (sym e) d)))

@@ -76,8 +76,8 @@ module _ {K : Type 0} (S : CommSemiringOn K) where
   pub mul-sum : (n : ℕ) (a : K) (f : ℕ → K) → a ⊗ sum monoid n f ≡ sum monoid n (λ i. a ⊗ f i)
   mul-sum n a f = map-sum monoid monoid (λ x. a ⊗ x) (S.mul-zero a) (S.mul-add a) n f
 
-  pub mul-times : (n : ℕ) (a x : K) → a ⊗ times monoid n x ≡ times monoid n (a ⊗ x)
-  mul-times n a x = mul-sum n a (λ _. x)
+  pub mul-times_comm : (n : ℕ) (a x : K) → a ⊗ times monoid n x ≡ times monoid n (a ⊗ x)
+  mul-times_comm n a x = mul-sum n a (λ _. x)
 
   pub power_in-one : (n : ℕ) → power_in S.one n ≡ S.one
   power_in-one zero = refl
