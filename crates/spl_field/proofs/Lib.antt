@@ -1,0 +1,2 @@
+pub mod FieldByDigits
+pub mod Rows

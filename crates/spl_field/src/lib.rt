@@ -6,4 +6,5 @@
 pub mod admission;
 pub mod field;
 pub mod small;
+mod tables;
 pub mod vector;

@@ -1,5 +1,5 @@
 // Lists of elements of a field.
-ghost use Rattle.std.specs.Prelude.{◌≡◌, ◌<◌, ◌≤◌, ◌↔◌, List, [], ◌∷◌, ◌++◌, length, IfOk, IfSome, OnOk, OnErr, get_or, All};
+ghost use Rattle.std.specs.Prelude.{◌≡◌, ◌<◌, ◌≤◌, ◌↔◌, List, [], ◌∷◌, ◌++◌, length, ◌==◌, IfOk, IfSome, OnOk, OnErr, get_or, All};
 ghost use Rattle.theory_rings.specs.Ops.{IsElem};
 
 use crate::field::{Field, NoMemory};

@@ -2,3 +2,16 @@ pub mod RingLaws
 pub mod Sums
 pub mod Solver
 pub mod IntegersMod
+pub mod Fields
+pub mod Powers
+pub mod Times
+pub mod Divisibility
+pub mod ClosedSets
+pub mod Primes
+pub mod Pigeonhole
+pub mod Semirings
+pub mod Binomial
+pub mod Frobenius
+pub mod Fermat
+pub mod ElementPowers
+pub mod FrobeniusRoots
