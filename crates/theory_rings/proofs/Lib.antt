@@ -2,3 +2,5 @@ pub mod RingLaws
 pub mod Sums
 pub mod Solver
 pub mod IntegersMod
+pub mod NaturalSums
+pub mod Digits

@@ -3,3 +3,5 @@ pub mod Ops
 pub mod Elements
 pub mod Sum
 pub mod IntegersMod
+pub mod Naturals
+pub mod Digits
