@@ -1,3 +1,4 @@
 pub mod RingLaws
 pub mod Sums
 pub mod Solver
+pub mod Embedding
