@@ -2,3 +2,5 @@ pub mod RingLaws
 pub mod Sums
 pub mod Solver
 pub mod Embedding
+pub mod Lists
+pub mod Series
