@@ -4,3 +4,6 @@ pub mod Solver
 pub mod IntegersMod
 pub mod NaturalSums
 pub mod Digits
+pub mod Embedding
+pub mod Lists
+pub mod Series

@@ -5,3 +5,4 @@ pub mod Sum
 pub mod IntegersMod
 pub mod Naturals
 pub mod Digits
+pub mod Polynomial
