@@ -1,5 +1,5 @@
 -- The integers modulo n: the numbers below n with the sum and the product modulo n are a commutative ring.
-use Rattle.std.specs.Prelude.{◌≡◌, ℕ, ◌+◌, ◌-◌, ◌*◌, ◌%◌, ◌<◌, ◌≤◌, IsTrue, true, nat_lt, nat_eq, List, slice_index}
+use Rattle.std.specs.Prelude.{◌≡◌, ℕ, ◌+◌, ◌-◌, ◌*◌, ◌%◌, ◌<◌, ◌≤◌, Bool, IsTrue, true, nat_lt, nat_eq, List, slice_index}
 use Rattle.std.proofs.Common.{sym, ◌∙◌, ap, ap₂}
 use Rattle.std.proofs.Math.Bool.{Bool-set}
 use Rattle.std.proofs.Math.Nat as nat
@@ -76,14 +76,21 @@ module _ (n : ℕ) (two_le : 2 ≤ n) where
   pub one-elem : IsTrue (nat_lt 1 n)
   one-elem = lt-ltb 1 n (nat.lt_of_lt_of_le (nat.lt-suc_self 1) two_le)
 
+  -- the residue of a number
+  abbrev pub residue : ℕ → Residue n
+  residue a = (a % n, mod-elem a)
+
+  abbrev pub residue_is_zero : Residue n → Bool
+  residue_is_zero a = nat_eq a.0 0
+
   -- the ring
   abbrev pub integers_mod : CommRingOn (Residue n)
   integers_mod =
       let K : Type 0 = Residue n in
       let same : (a b : K) → a.0 ≡ b.0 → a ≡ b = Residue-path n in
-      let plus : K → K → K = λ a b. ((a.0 + b.0) % n, mod-elem (a.0 + b.0)) in
-      let times : K → K → K = λ a b. ((a.0 * b.0) % n, mod-elem (a.0 * b.0)) in
-      let minus : K → K = λ a. ((n - a.0) % n, mod-elem (n - a.0)) in
+      let plus : K → K → K = λ a b. residue (a.0 + b.0) in
+      let times : K → K → K = λ a b. residue (a.0 * b.0) in
+      let minus : K → K = λ a. residue (n - a.0) in
       let nought : K = (0, zero-elem) in
       let unit : K = (1, one-elem) in
       record {
