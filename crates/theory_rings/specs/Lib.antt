@@ -6,3 +6,4 @@ pub mod IntegersMod
 pub mod Naturals
 pub mod Digits
 pub mod Polynomial
+pub mod FieldByDigits
