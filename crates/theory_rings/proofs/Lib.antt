@@ -4,3 +4,5 @@ pub mod Solver
 pub mod Embedding
 pub mod Lists
 pub mod Series
+pub mod ZeroTests
+pub mod PolynomialRing
