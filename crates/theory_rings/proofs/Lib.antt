@@ -7,3 +7,6 @@ pub mod Digits
 pub mod Embedding
 pub mod Lists
 pub mod Series
+pub mod ZeroTests
+pub mod PolynomialRing
+pub mod Degrees
