@@ -56,6 +56,14 @@ module _ (p : ℕ) where
       ∙ sum_congr nat_monoid d (λ k. digit p a k * p ^ k) (λ k. digit p b k * p ^ k) (λ k l. ap (λ x. x * p ^ k) (h k l))
       ∙ of_digits-digit d b lb
 
+pub lt_pow_self : (p a : ℕ) → 2 ≤ p → a < p ^ a
+lt_pow_self p zero h = let e = pow-zero p in omega arith
+lt_pow_self p (suc a) h =
+    let l = lt_pow_self p a h in
+    let e = pow-succ' p a in
+    let g : 2 * p ^ a ≤ p * p ^ a = mul-le-mul_right (p ^ a) h in
+    omega arith
+
 module _ (p : ℕ) (pos : 0 < p) where
   pub digit_lt : (a k : ℕ) → digit p a k < p
   digit_lt a k = mod-lt (a / p ^ k) pos

@@ -10,3 +10,4 @@ pub mod Series
 pub mod ZeroTests
 pub mod PolynomialRing
 pub mod Degrees
+pub mod DigitPolynomials
