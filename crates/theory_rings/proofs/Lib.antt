@@ -11,3 +11,4 @@ pub mod ZeroTests
 pub mod PolynomialRing
 pub mod Degrees
 pub mod DigitPolynomials
+pub mod FieldByDigits
