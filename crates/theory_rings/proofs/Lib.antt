@@ -7,3 +7,4 @@ pub mod Series
 pub mod ZeroTests
 pub mod PolynomialRing
 pub mod Degrees
+pub mod Division
