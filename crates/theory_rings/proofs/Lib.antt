@@ -12,3 +12,4 @@ pub mod PolynomialRing
 pub mod Degrees
 pub mod DigitPolynomials
 pub mod FieldByDigits
+pub mod Division

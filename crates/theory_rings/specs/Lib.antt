@@ -7,3 +7,4 @@ pub mod Naturals
 pub mod Digits
 pub mod Polynomial
 pub mod FieldByDigits
+pub mod Division
