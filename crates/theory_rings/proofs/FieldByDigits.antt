@@ -4,17 +4,21 @@ use Rattle.std.proofs.Common.{refl, sym, ◌∙◌, ap, ap₂, arith, ⊎_elim, 
 use Rattle.std.proofs.Math.Nat.{mod-mod, mod-eq_of_lt}
 use Rattle.std.proofs.lemmas.Bool.{cases_lt}
 use Rattle.std.proofs.lemmas.List.{get_or_past, get_or_push}
+use Rattle.std.proofs.lemmas.Nat.{mod_below}
 use Rattle.theory_rings.specs.Ring.{CommRingOn}
 use Rattle.theory_rings.specs.IntegersMod.{ZMod, ZMod-path, residue, integers_mod}
 use Rattle.theory_rings.specs.Digits.{digit, of_digits}
 use Rattle.theory_rings.specs.Polynomial.{Poly, coefficient, lead, degree, convolution}
+use Rattle.theory_rings.specs.Division.{IsDivision}
 use Rattle.theory_rings.specs.FieldByDigits.{product_coefficient, modulus_coefficient, size_by_digits, IsSumByDigits, IsProductByDigits}
 use Rattle.theory_rings.proofs.IntegersMod.{residue_eq, residue-zero, residue-one, residue-add}
-use Rattle.theory_rings.proofs.Digits.{digit_lt, digit_past}
+use Rattle.theory_rings.proofs.Digits.{digit_past, digit_injective, digit-of_digits, of_digits_lt}
 use Rattle.theory_rings.proofs.PolynomialRing.{Poly-path, coefficient-add, coefficient-mul}
 use Rattle.theory_rings.proofs.Series.{convolution_congr}
 use Rattle.theory_rings.proofs.IntegersMod.{residue_zero_test}
-use Rattle.theory_rings.proofs.DigitPolynomials.{residues, DigitPoly, digit_polynomials, residues_polynomial, coefficient-residues, polynomial_of, coefficient-polynomial_of, residue-product_coefficient}
+use Rattle.theory_rings.proofs.Degrees.{length_le, lt_length}
+use Rattle.theory_rings.proofs.Division.{divide, division_unique}
+use Rattle.theory_rings.proofs.DigitPolynomials.{length-polynomial_of, number_of, number_of_lt, polynomial_of-number_of, polynomial_of-injective, residues, DigitPoly, digit_polynomials, residues_polynomial, coefficient-residues, polynomial_of, coefficient-polynomial_of, residue-product_coefficient}
 
 module _ (p : ℕ) (two_le : 2 ≤ p) (m : List ℕ) where
   infixl 65 ◌⊕◌
@@ -102,3 +106,75 @@ module _ (p : ℕ) (two_le : 2 ≤ p) (m : List ℕ) where
     quotient = u;
     each = λ k. ap (λ x. x.0) (sym (coefficient-product a b k) ∙ ap (λ f. coefficient R f k) e ∙ coefficient-multiple u c k);
   }
+
+  one-ne-zero : R.one ≢ R.zero
+  one-ne-zero e = let h : R.one.0 ≡ R.zero.0 = ap (λ x. x.0) e in omega arith
+
+  coefficient-modulus_top : coefficient R modulus (length m) ≡ R.one
+  coefficient-modulus_top = coefficient-modulus (length m) ∙ ap (residue p two_le) (get_or_push m 1 0 (length m) refl) ∙ residue-one p two_le
+
+  pub length-modulus : length modulus.0 ≡ suc (length m)
+  length-modulus = omega (arith, high, low)
+    where
+      low : length m < length modulus.0
+      low = lt_length R modulus (length m) (λ e. one-ne-zero (sym coefficient-modulus_top ∙ e))
+
+      high : length modulus.0 ≤ suc (length m)
+      high = length_le R modulus (suc (length m)) (λ k l. coefficient-modulus k ∙ ap (residue p two_le) (past k l) ∙ residue-zero p two_le)
+        where
+          past : (k : ℕ) → suc (length m) ≤ k → modulus_coefficient m k ≡ 0
+          past k l = get_or_past (m ++ 1 ∷ []) k 0 (omega (arith, length-append m (1 ∷ [])))
+
+  -- which is monic
+  pub lead-modulus : lead R modulus ≡ R.one
+  lead-modulus = ap (coefficient R modulus) (degree_of modulus.0 length-modulus) ∙ coefficient-modulus_top
+    where
+      degree_of : (xs : List (ZMod p)) → length xs ≡ suc (length m) → degree xs ≡ length m
+      degree_of [] e = absurd (omega arith)
+      degree_of (x ∷ xs) e = omega arith
+
+  positive : 0 < length modulus.0
+  positive = omega (arith, length-modulus)
+
+  unit : R.◌⊗◌ (lead R modulus) R.one ≡ R.one
+  unit = ap (λ x. R.◌⊗◌ x R.one) lead-modulus ∙ R.mul-one R.one
+
+  pub product_division : (a b c : ℕ) (s : IsProductByDigits p m a b c)
+      → IsDivision R (digit_polynomials p two_le) (polynomial_of p two_le a ⊗ polynomial_of p two_le b) modulus
+      (polynomial_of p two_le s.quotient) (polynomial_of p two_le c)
+  product_division a b c s = record {
+    whole = polynomial_of-product a b c s;
+    smaller = omega (arith, length-modulus, length-polynomial_of p two_le (length m) c s.below);
+  }
+
+  -- two numbers have one product
+  pub product_unique : (a b c c' : ℕ) → IsProductByDigits p m a b c → IsProductByDigits p m a b c' → c ≡ c'
+  product_unique a b c c' s s' = polynomial_of-injective p two_le c c'
+      (division_unique R (residue_zero_test p two_le) modulus R.one unit positive (polynomial_of p two_le a ⊗ polynomial_of p two_le b)
+      (polynomial_of p two_le s.quotient) (polynomial_of p two_le c) (polynomial_of p two_le s'.quotient) (polynomial_of p two_le c')
+      (product_division a b c s) (product_division a b c' s')).1
+
+  pub product_exists : (a b : ℕ) → (c : ℕ) × IsProductByDigits p m a b c
+  product_exists a b =
+      let d = divide R (residue_zero_test p two_le) modulus R.one unit positive (polynomial_of p two_le a ⊗ polynomial_of p two_le b) in
+      let u : ℕ = number_of p two_le d.0 in
+      let c : ℕ = number_of p two_le d.1 in
+      let same : polynomial_of p two_le a ⊗ polynomial_of p two_le b ≡ polynomial_of p two_le u ⊗ modulus ⊕ polynomial_of p two_le c =
+      d.2.whole ∙ sym (ap₂ (λ x y. x ⊗ modulus ⊕ y) (polynomial_of-number_of p two_le d.0) (polynomial_of-number_of p two_le d.1)) in
+      let small : length d.1.0 < length modulus.0 = d.2.smaller in
+      (c, product_from a b c u (number_of_lt p two_le (length m) d.1 (omega (arith, length-modulus))) same)
+
+  -- the sum, made of its digits
+  pub sum_exists : (a b : ℕ) → (c : ℕ) × IsSumByDigits p m a b c
+  sum_exists a b =
+      let f : ℕ → ℕ = λ k. (digit p a k + digit p b k) % p in
+      let small : (k : ℕ) → k < length m → f k < p = λ k l. mod_below (digit p a k + digit p b k) p (omega arith) in (
+        of_digits p (length m) f,
+        record {
+          below = of_digits_lt p (omega arith) (length m) f small;
+          each = digit-of_digits p (omega arith) (length m) f small;
+        },
+      )
+
+  pub sum_unique : (a b c c' : ℕ) → IsSumByDigits p m a b c → IsSumByDigits p m a b c' → c ≡ c'
+  sum_unique a b c c' s s' = digit_injective p (length m) c c' s.below s'.below (λ k l. s.each k l ∙ sym (s'.each k l))
