@@ -2,7 +2,7 @@
 -- degree below d.
 use Rattle.std.specs.Prelude.{◌≡◌, ℕ, zero, suc, ◌+◌, ◌-◌, ◌*◌, ◌%◌, ◌^◌, ◌<◌, ◌≤◌, length}
 use Rattle.std.proofs.Common.{refl, sym, ◌∙◌, ap, ap₂, arith, ⊎_elim}
-use Rattle.std.proofs.Math.Nat.{mod-eq_of_lt, pow-le-pow_right}
+use Rattle.std.proofs.Math.Nat.{mod-eq_of_lt, pow-le-pow_right, div-eq_of_lt, mul-add-div, mul-add-mod_self_left}
 use Rattle.std.proofs.Math.Path.{fun_ext}
 use Rattle.std.proofs.lemmas.Bool.{cases_lt}
 use Rattle.theory_rings.specs.Ring.{CommRingOn, ZeroTest}
@@ -13,9 +13,9 @@ use Rattle.theory_rings.specs.Polynomial.{Poly, coefficient, convolution, consta
 use Rattle.theory_rings.specs.FieldByDigits.{product_coefficient}
 use Rattle.theory_rings.proofs.Sums.{sum_congr}
 use Rattle.theory_rings.proofs.IntegersMod.{residue_eq, residue-value, residue-zero, residue-one, residue-mul, residue-sum, residue_zero_test}
-use Rattle.theory_rings.proofs.Digits.{digit_lt, digit_past, digit_injective, digit-of_digits, of_digits_lt, lt_pow_self}
+use Rattle.theory_rings.proofs.Digits.{digit-zero, digit-suc, zero-digit, digit_lt, digit_past, digit_injective, digit-of_digits, of_digits_lt, lt_pow_self}
 use Rattle.theory_rings.proofs.Degrees.{length_le}
-use Rattle.theory_rings.proofs.PolynomialRing.{Poly-path, coefficient_past, polynomial, coefficient-polynomial, polynomials}
+use Rattle.theory_rings.proofs.PolynomialRing.{Poly-path, coefficient_past, polynomial, coefficient-polynomial, polynomials, coefficient-zero, coefficient-one, constant, coefficient-constant, series_prepend, prepend, coefficient-prepend}
 
 module _ (p : ℕ) (two_le : 2 ≤ p) where
   pos : 0 < p
@@ -109,3 +109,37 @@ module _ (p : ℕ) (two_le : 2 ≤ p) where
 
   pub polynomial_of-injective : (a b : ℕ) → polynomial_of a ≡ polynomial_of b → a ≡ b
   polynomial_of-injective a b e = sym (number_of-polynomial_of a) ∙ ap number_of e ∙ number_of-polynomial_of b
+
+  pub polynomial_of-zero : polynomial_of 0 ≡ digit_polynomials.zero
+  polynomial_of-zero = Poly-path residues (polynomial_of 0) digit_polynomials.zero
+      (λ k. coefficient-polynomial_of 0 k ∙ ap (residue p two_le) (zero-digit p k) ∙ residue-zero p two_le
+      ∙ sym (coefficient-zero residues (residue_zero_test p two_le) k))
+
+  -- a number below p is a constant
+  pub polynomial_of-constant : (a : ℕ) → a < p → polynomial_of a ≡ constant residues (residue_zero_test p two_le) (residue p two_le a)
+  polynomial_of-constant a l = Poly-path residues (polynomial_of a) (constant residues (residue_zero_test p two_le) (residue p two_le a))
+      (λ k. coefficient-polynomial_of a k ∙ each k ∙ sym (coefficient-constant residues (residue_zero_test p two_le) (residue p two_le a) k))
+    where
+      each : (k : ℕ) → residue p two_le (digit p a k) ≡ constant_coefficients residues.zero (residue p two_le a) k
+      each zero = ap (residue p two_le) (digit-zero p a ∙ mod-eq_of_lt l)
+      each (suc k) = ap (residue p two_le) (digit-suc p a k ∙ ap (λ x. digit p x k) (div-eq_of_lt l) ∙ zero-digit p k) ∙ residue-zero p two_le
+
+  pub polynomial_of-one : polynomial_of 1 ≡ digit_polynomials.one
+  polynomial_of-one = Poly-path residues (polynomial_of 1) digit_polynomials.one
+      (λ k. ap (λ f. coefficient residues f k) (polynomial_of-constant 1 (omega arith))
+      ∙ coefficient-constant residues (residue_zero_test p two_le) (residue p two_le 1) k
+      ∙ ap (λ x. constant_coefficients residues.zero x k) (residue-one p two_le)
+      ∙ sym (coefficient-one residues (residue_zero_test p two_le) k))
+
+  -- p · b + c is c + t · b
+  pub polynomial_of-prepend : (b c : ℕ) → c < p → polynomial_of (p * b + c) ≡ prepend residues (residue_zero_test p two_le) (residue p two_le c) (polynomial_of b)
+  polynomial_of-prepend b c l =
+      Poly-path residues (polynomial_of (p * b + c)) (prepend residues (residue_zero_test p two_le) (residue p two_le c) (polynomial_of b))
+      (λ k. coefficient-polynomial_of (p * b + c) k ∙ each k
+      ∙ sym (coefficient-prepend residues (residue_zero_test p two_le) (residue p two_le c) (polynomial_of b) k))
+    where
+      each : (k : ℕ) → residue p two_le (digit p (p * b + c) k) ≡ series_prepend (residue p two_le c) (coefficient residues (polynomial_of b)) k
+      each zero = ap (residue p two_le) (digit-zero p (p * b + c) ∙ mul-add-mod_self_left p b c ∙ mod-eq_of_lt l)
+      each (suc k) =
+          ap (residue p two_le) (digit-suc p (p * b + c) k ∙ ap (λ x. digit p x k) (mul-add-div (omega arith) b c ∙ ap (λ x. b + x) (div-eq_of_lt l) ∙ omega arith))
+          ∙ sym (coefficient-polynomial_of b k)

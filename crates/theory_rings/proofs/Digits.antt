@@ -1,7 +1,7 @@
 -- A number below p ^ d is its d digits, and each d digits are those of one number below p ^ d.
 use Rattle.std.specs.Prelude.{◌≡◌, ℕ, zero, suc, ◌+◌, ◌-◌, ◌*◌, ◌/◌, ◌%◌, ◌^◌, ◌<◌, ◌≤◌}
 use Rattle.std.proofs.Common.{refl, sym, ◌∙◌, ap, ap₂, arith}
-use Rattle.std.proofs.Math.Nat.{mod-lt, mod-one, zero-mod, mod-eq_of_lt, div-add-mod, div-one, zero-div, div-eq_of_lt, div-div-eq-div-mul, mul-add-div, mul-add-mod_self_left, pow-zero, pow-suc, pow-succ', pow-le-pow_right, mul-le-mul_right}
+use Rattle.std.proofs.Math.Nat.{mod-lt, mod-one, zero-mod, mod-eq_of_lt, div-add-mod, div-one, zero-div, div-eq_of_lt, div-div-eq-div-mul, mul-add-div, mul-add-mod_self_left, pow-zero, pow-suc, pow-succ', pow-le-pow_right, one-le-pow, mul-le-mul_right}
 use Rattle.theory_rings.specs.Sum.{sum}
 use Rattle.theory_rings.specs.Naturals.{nat_monoid}
 use Rattle.theory_rings.specs.Digits.{digit, of_digits}
@@ -62,6 +62,14 @@ lt_pow_self p (suc a) h =
     let l = lt_pow_self p a h in
     let e = pow-succ' p a in
     let g : 2 * p ^ a ≤ p * p ^ a = mul-le-mul_right (p ^ a) h in
+    omega arith
+
+pub le_pow_self : (p d : ℕ) → 1 ≤ d → p ≤ p ^ d
+le_pow_self zero d h = omega arith
+le_pow_self (suc p) zero h = absurd (omega arith)
+le_pow_self (suc p) (suc d) h =
+    let e = pow-suc (suc p) d in
+    let l : 1 * suc p ≤ suc p ^ d * suc p = mul-le-mul_right (suc p) (one-le-pow d (suc p) (omega arith)) in
     omega arith
 
 module _ (p : ℕ) (pos : 0 < p) where

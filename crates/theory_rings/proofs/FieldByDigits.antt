@@ -107,6 +107,11 @@ module _ (p : ℕ) (two_le : 2 ≤ p) (m : List ℕ) where
     each = λ k. ap (λ x. x.0) (sym (coefficient-product a b k) ∙ ap (λ f. coefficient R f k) e ∙ coefficient-multiple u c k);
   }
 
+  pub product_from_polynomial : (a b c : ℕ) (f : DigitPoly p two_le) → c < q
+      → polynomial_of p two_le a ⊗ polynomial_of p two_le b ≡ f ⊗ modulus ⊕ polynomial_of p two_le c → IsProductByDigits p m a b c
+  product_from_polynomial a b c f l e =
+      product_from a b c (number_of p two_le f) l (e ∙ ap (λ x. x ⊗ modulus ⊕ polynomial_of p two_le c) (sym (polynomial_of-number_of p two_le f)))
+
   one-ne-zero : R.one ≢ R.zero
   one-ne-zero e = let h : R.one.0 ≡ R.zero.0 = ap (λ x. x.0) e in omega arith
 
@@ -157,12 +162,12 @@ module _ (p : ℕ) (two_le : 2 ≤ p) (m : List ℕ) where
   pub product_exists : (a b : ℕ) → (c : ℕ) × IsProductByDigits p m a b c
   product_exists a b =
       let d = divide R (residue_zero_test p two_le) modulus R.one unit positive (polynomial_of p two_le a ⊗ polynomial_of p two_le b) in
-      let u : ℕ = number_of p two_le d.0 in
       let c : ℕ = number_of p two_le d.1 in
-      let same : polynomial_of p two_le a ⊗ polynomial_of p two_le b ≡ polynomial_of p two_le u ⊗ modulus ⊕ polynomial_of p two_le c =
-      d.2.whole ∙ sym (ap₂ (λ x y. x ⊗ modulus ⊕ y) (polynomial_of-number_of p two_le d.0) (polynomial_of-number_of p two_le d.1)) in
-      let small : length d.1.0 < length modulus.0 = d.2.smaller in
-      (c, product_from a b c u (number_of_lt p two_le (length m) d.1 (omega (arith, length-modulus))) same)
+      let small : length d.1.0 < length modulus.0 = d.2.smaller in (
+        c,
+        product_from_polynomial a b c d.0 (number_of_lt p two_le (length m) d.1 (omega (arith, length-modulus)))
+            (d.2.whole ∙ ap (λ y. d.0 ⊗ modulus ⊕ y) (sym (polynomial_of-number_of p two_le d.1))),
+      )
 
   -- the sum, made of its digits
   pub sum_exists : (a b : ℕ) → (c : ℕ) × IsSumByDigits p m a b c

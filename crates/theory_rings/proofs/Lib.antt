@@ -13,3 +13,4 @@ pub mod Degrees
 pub mod DigitPolynomials
 pub mod FieldByDigits
 pub mod Division
+pub mod ProductSteps
