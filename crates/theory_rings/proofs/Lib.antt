@@ -8,3 +8,6 @@ pub mod ZeroTests
 pub mod PolynomialRing
 pub mod Degrees
 pub mod Division
+pub mod Homomorphisms
+pub mod Residues
+pub mod Remainders

@@ -4,3 +4,5 @@ pub mod Elements
 pub mod Sum
 pub mod Polynomial
 pub mod Division
+pub mod Homomorphism
+pub mod Remainder
