@@ -11,3 +11,6 @@ pub mod Division
 pub mod Homomorphisms
 pub mod Residues
 pub mod Remainders
+pub mod Constants
+pub mod Fields
+pub mod Bezout
