@@ -8,54 +8,13 @@ use Rattle.theory_rings.specs.Division.{IsDivision}
 use Rattle.theory_rings.proofs.RingLaws.{add-zero, add-neg, add_cancel_left, zero-mul, mul-zero, neg_zero, eq_zero_of_mul-unit}
 use Rattle.theory_rings.proofs.ZeroTests.{sub_eq_zero}
 use Rattle.theory_rings.proofs.Solver.{Ex, ◌⊞◌, ◌⊠◌, minus, v0, v1, v2, v3, v4, var, by_sorted, ring5}
-use Rattle.theory_rings.proofs.Series.{tail, constant-convolution, convolution_congr, convolution-zero, convolution-suc}
+use Rattle.theory_rings.proofs.Constants.{coefficient-constant_mul, variable, prepend_eq}
 use Rattle.theory_rings.proofs.PolynomialRing.{series_prepend, IsTrimmed-tail, Poly-path, coefficient_past, polynomials, zero-list, coefficient-zero, coefficient-add, coefficient-neg, coefficient-mul, constant, coefficient-constant, prepend, coefficient-prepend, prepend-tail}
 use Rattle.theory_rings.proofs.Degrees.{length_le, length-degree, length_nonzero, poly_eq_zero_or, length-add_le, length-neg_le, degree-mul, mul-ne-zero, lead-nonzero, ne_zero_of_length, zero-length}
 
 module _ {K : Type 0} (R : CommRingOn K) {is_zero : K → Bool} (Z : ZeroTest R.zero is_zero) where
   abbrev P : CommRingOn (Poly R)
   P = polynomials R Z
-
-  -- a constant times a polynomial
-  pub coefficient-constant_mul : (c : K) (a : Poly R) (k : ℕ) → coefficient R (P.◌⊗◌ (constant R Z c) a) k ≡ R.◌⊗◌ c (coefficient R a k)
-  coefficient-constant_mul c a k =
-      coefficient-mul R Z (constant R Z c) a k
-      ∙ convolution_congr R.ring (coefficient R (constant R Z c)) (coefficient R a) (constant_coefficients R.zero c) (coefficient R a) (coefficient-constant R Z c) (λ i. refl) k
-      ∙ constant-convolution R.ring c (coefficient R a) k
-
-  -- the polynomial t
-  pub variable : Poly R
-  variable = prepend R Z R.zero P.one
-
-  -- t times a polynomial
-  pub prepend-zero : (a : Poly R) → P.◌⊗◌ variable a ≡ prepend R Z R.zero a
-  unfolding variable
-  prepend-zero a = Poly-path R (P.◌⊗◌ variable a) (prepend R Z R.zero a) (λ k.
-      coefficient-mul R Z variable a k ∙ each k ∙ sym (coefficient-prepend R Z R.zero a k))
-    where
-      each : (k : ℕ) → convolution R.ring (coefficient R variable) (coefficient R a) k ≡ series_prepend R.zero (coefficient R a) k
-      each zero =
-          convolution-zero R.ring (coefficient R variable) (coefficient R a)
-          ∙ ap (λ x. R.◌⊗◌ x (coefficient R a 0)) (coefficient-prepend R Z R.zero P.one 0) ∙ zero-mul R.ring (coefficient R a 0)
-      each (suc k) =
-          convolution-suc R.ring (coefficient R variable) (coefficient R a) k
-          ∙ ap₂ R.◌⊕◌
-          (ap (λ x. R.◌⊗◌ x (coefficient R a (suc k))) (coefficient-prepend R Z R.zero P.one 0) ∙ zero-mul R.ring (coefficient R a (suc k)))
-          (convolution_congr R.ring (tail (coefficient R variable)) (coefficient R a) (coefficient R P.one) (coefficient R a)
-          (λ i. coefficient-prepend R Z R.zero P.one (suc i)) (λ i. refl) k
-          ∙ sym (coefficient-mul R Z P.one a k) ∙ ap (λ x. coefficient R x k) (P.one-mul a))
-          ∙ R.zero-add (coefficient R a k)
-
-  pub prepend_eq : (c : K) (a : Poly R) → prepend R Z c a ≡ P.◌⊕◌ (constant R Z c) (P.◌⊗◌ variable a)
-  prepend_eq c a = Poly-path R (prepend R Z c a) (P.◌⊕◌ (constant R Z c) (P.◌⊗◌ variable a)) (λ k.
-      coefficient-prepend R Z c a k ∙ each k
-      ∙ sym (coefficient-add R Z (constant R Z c) (P.◌⊗◌ variable a) k
-      ∙ ap₂ R.◌⊕◌ (coefficient-constant R Z c k) (ap (λ x. coefficient R x k) (prepend-zero a) ∙ coefficient-prepend R Z R.zero a k)))
-    where
-      each : (k : ℕ) → series_prepend c (coefficient R a) k
-          ≡ R.◌⊕◌ (constant_coefficients R.zero c k) (series_prepend R.zero (coefficient R a) k)
-      each zero = sym (add-zero R.monoid c)
-      each (suc k) = sym (R.zero-add (coefficient R a k))
 
   -- one step of the division: from that of a to that of c + t · a
   module _ (b : Poly R) (u : K) (unit : R.◌⊗◌ (lead R b) u ≡ R.one) (positive : 0 < length b.0) where
@@ -80,16 +39,16 @@ module _ {K : Type 0} (R : CommRingOn K) {is_zero : K → Bool} (Z : ZeroTest R.
 
         whole : prepend R Z x a ≡ P.◌⊕◌ (P.◌⊗◌ (prepend R Z c q) b) rest
         whole =
-            ap (prepend R Z x) d.whole ∙ prepend_eq x (P.◌⊕◌ (P.◌⊗◌ q b) r)
-            ∙ by_sorted P (constant R Z x ∷ variable ∷ q ∷ b ∷ r ∷ constant R Z c ∷ [])
+            ap (prepend R Z x) d.whole ∙ prepend_eq R Z x (P.◌⊕◌ (P.◌⊗◌ q b) r)
+            ∙ by_sorted P (constant R Z x ∷ variable R Z ∷ q ∷ b ∷ r ∷ constant R Z c ∷ [])
             (v0 ⊞ v1 ⊠ (v2 ⊠ v3 ⊞ v4)) ((var 5 ⊞ v1 ⊠ v2) ⊠ v3 ⊞ (v0 ⊞ v1 ⊠ v4 ⊞ minus (var 5 ⊠ v3))) refl
-            ∙ sym (ap₂ P.◌⊕◌ (ap (λ y. P.◌⊗◌ y b) (prepend_eq c q))
-            (ap (λ y. P.◌⊕◌ y (P.neg (P.◌⊗◌ (constant R Z c) b))) (prepend_eq x r)))
+            ∙ sym (ap₂ P.◌⊕◌ (ap (λ y. P.◌⊗◌ y b) (prepend_eq R Z c q))
+            (ap (λ y. P.◌⊕◌ y (P.neg (P.◌⊗◌ (constant R Z c) b))) (prepend_eq R Z x r)))
 
         coefficient-rest : (k : ℕ) → coefficient R rest k ≡ R.◌⊕◌ (coefficient R (prepend R Z x r) k) (R.neg (R.◌⊗◌ c (coefficient R b k)))
         coefficient-rest k =
             coefficient-add R Z (prepend R Z x r) (P.neg (P.◌⊗◌ (constant R Z c) b)) k
-            ∙ ap (R.◌⊕◌ (coefficient R (prepend R Z x r) k)) (coefficient-neg R Z (P.◌⊗◌ (constant R Z c) b) k ∙ ap R.neg (coefficient-constant_mul c b k))
+            ∙ ap (R.◌⊕◌ (coefficient R (prepend R Z x r) k)) (coefficient-neg R Z (P.◌⊗◌ (constant R Z c) b) k ∙ ap R.neg (coefficient-constant_mul R Z c b k))
 
         long : length b.0 ≡ suc n
         long = length-degree R b positive

@@ -14,3 +14,9 @@ pub mod DigitPolynomials
 pub mod FieldByDigits
 pub mod Division
 pub mod ProductSteps
+pub mod Homomorphisms
+pub mod Residues
+pub mod Remainders
+pub mod Constants
+pub mod Fields
+pub mod Bezout

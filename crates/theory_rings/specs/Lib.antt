@@ -8,3 +8,5 @@ pub mod Digits
 pub mod Polynomial
 pub mod FieldByDigits
 pub mod Division
+pub mod Homomorphism
+pub mod Remainder

@@ -50,9 +50,10 @@ module _ {K : Type 0} (R : CommRingOn K) where
   abbrev pub lead : Poly → K
   lead a = coefficient a (degree a.0)
 
-  -- the leading coefficient is 1
-  abbrev pub IsMonic : Poly → Type 0
-  IsMonic a = lead a ≡ R.one
+  -- not 0, and its leading coefficient is 1
+  pub record IsMonic (a : Poly) : Type 0 where
+    pub nonzero : 0 < length a.0
+    pub leading : lead a ≡ R.one
 
   -- the operations of P are those of polynomials
   pub record IsPolynomialRing (P : CommRingOn Poly) : Type 0 where
