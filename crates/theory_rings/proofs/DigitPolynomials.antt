@@ -7,7 +7,7 @@ use Rattle.std.proofs.Math.Path.{fun_ext}
 use Rattle.std.proofs.lemmas.Bool.{cases_lt}
 use Rattle.theory_rings.specs.Ring.{CommRingOn, ZeroTest}
 use Rattle.theory_rings.specs.Sum.{sum}
-use Rattle.theory_rings.specs.IntegersMod.{ZMod, ZMod-path, value-lt, residue, residue_is_zero, integers_mod}
+use Rattle.theory_rings.specs.IntegersMod.{Fin, Fin-path, value-lt, residue, residue_is_zero, integers_mod}
 use Rattle.theory_rings.specs.Digits.{digit, of_digits}
 use Rattle.theory_rings.specs.Polynomial.{Poly, coefficient, convolution, constant_coefficients}
 use Rattle.theory_rings.specs.FieldByDigits.{product_coefficient}
@@ -21,7 +21,7 @@ module _ (p : ℕ) (two_le : 2 ≤ p) where
   pos : 0 < p
   pos = omega arith
 
-  abbrev pub residues : CommRingOn (ZMod p)
+  abbrev pub residues : CommRingOn (Fin p)
   residues = integers_mod p two_le
 
   abbrev pub DigitPoly : Type 0

@@ -6,9 +6,9 @@ use Rattle.std.proofs.lemmas.Bool.{cases_lt}
 use Rattle.std.proofs.lemmas.List.{get_or_past, get_or_push}
 use Rattle.std.proofs.lemmas.Nat.{mod_below}
 use Rattle.theory_rings.specs.Ring.{CommRingOn}
-use Rattle.theory_rings.specs.IntegersMod.{ZMod, ZMod-path, residue, integers_mod}
+use Rattle.theory_rings.specs.IntegersMod.{Fin, Fin-path, residue, integers_mod}
 use Rattle.theory_rings.specs.Digits.{digit, of_digits}
-use Rattle.theory_rings.specs.Polynomial.{Poly, coefficient, lead, degree, convolution}
+use Rattle.theory_rings.specs.Polynomial.{Poly, coefficient, lead, degree, convolution, IsMonic}
 use Rattle.theory_rings.specs.Division.{IsDivision}
 use Rattle.theory_rings.specs.FieldByDigits.{product_coefficient, modulus_coefficient, size_by_digits, IsSumByDigits, IsProductByDigits}
 use Rattle.theory_rings.proofs.IntegersMod.{residue_eq, residue-zero, residue-one, residue-add}
@@ -16,8 +16,9 @@ use Rattle.theory_rings.proofs.Digits.{digit_past, digit_injective, digit-of_dig
 use Rattle.theory_rings.proofs.PolynomialRing.{Poly-path, coefficient-add, coefficient-mul}
 use Rattle.theory_rings.proofs.Series.{convolution_congr}
 use Rattle.theory_rings.proofs.IntegersMod.{residue_zero_test}
-use Rattle.theory_rings.proofs.Degrees.{length_le, lt_length}
-use Rattle.theory_rings.proofs.Division.{divide, division_unique}
+use Rattle.theory_rings.proofs.Degrees.{length_le, lt_length, length-degree}
+use Rattle.theory_rings.proofs.Division.{division_unique}
+use Rattle.theory_rings.proofs.Remainders.{quo, rem, rem-division}
 use Rattle.theory_rings.proofs.DigitPolynomials.{length-polynomial_of, number_of, number_of_lt, polynomial_of-number_of, polynomial_of-injective, residues, DigitPoly, digit_polynomials, residues_polynomial, coefficient-residues, polynomial_of, coefficient-polynomial_of, residue-product_coefficient}
 
 module _ (p : ℕ) (two_le : 2 ≤ p) (m : List ℕ) where
@@ -28,7 +29,7 @@ module _ (p : ℕ) (two_le : 2 ≤ p) (m : List ℕ) where
   abbrev q : ℕ
   q = size_by_digits p m
 
-  abbrev R : CommRingOn (ZMod p)
+  abbrev R : CommRingOn (Fin p)
   R = residues p two_le
 
   -- the modulus as a polynomial
@@ -130,19 +131,15 @@ module _ (p : ℕ) (two_le : 2 ≤ p) (m : List ℕ) where
           past : (k : ℕ) → suc (length m) ≤ k → modulus_coefficient m k ≡ 0
           past k l = get_or_past (m ++ 1 ∷ []) k 0 (omega (arith, length-append m (1 ∷ [])))
 
-  -- which is monic
-  pub lead-modulus : lead R modulus ≡ R.one
-  lead-modulus = ap (coefficient R modulus) (degree_of modulus.0 length-modulus) ∙ coefficient-modulus_top
-    where
-      degree_of : (xs : List (ZMod p)) → length xs ≡ suc (length m) → degree xs ≡ length m
-      degree_of [] e = absurd (omega arith)
-      degree_of (x ∷ xs) e = omega arith
+  pub degree-modulus : degree modulus.0 ≡ length m
+  degree-modulus = let h = length-degree R modulus (omega (arith, length-modulus)) in omega (arith, length-modulus)
 
-  positive : 0 < length modulus.0
-  positive = omega (arith, length-modulus)
-
-  unit : R.◌⊗◌ (lead R modulus) R.one ≡ R.one
-  unit = ap (λ x. R.◌⊗◌ x R.one) lead-modulus ∙ R.mul-one R.one
+  -- the modulus is monic, of degree d
+  pub modulus_monic : IsMonic R modulus
+  modulus_monic = record {
+    nonzero = omega (arith, length-modulus);
+    leading = ap (coefficient R modulus) degree-modulus ∙ coefficient-modulus_top;
+  }
 
   pub product_division : (a b c : ℕ) (s : IsProductByDigits p m a b c)
       → IsDivision R (digit_polynomials p two_le) (polynomial_of p two_le a ⊗ polynomial_of p two_le b) modulus
@@ -155,18 +152,22 @@ module _ (p : ℕ) (two_le : 2 ≤ p) (m : List ℕ) where
   -- two numbers have one product
   pub product_unique : (a b c c' : ℕ) → IsProductByDigits p m a b c → IsProductByDigits p m a b c' → c ≡ c'
   product_unique a b c c' s s' = polynomial_of-injective p two_le c c'
-      (division_unique R (residue_zero_test p two_le) modulus R.one unit positive (polynomial_of p two_le a ⊗ polynomial_of p two_le b)
+      (division_unique R (residue_zero_test p two_le) modulus R.one (R.mul-one (lead R modulus) ∙ modulus_monic.leading) modulus_monic.nonzero
+      (polynomial_of p two_le a ⊗ polynomial_of p two_le b)
       (polynomial_of p two_le s.quotient) (polynomial_of p two_le c) (polynomial_of p two_le s'.quotient) (polynomial_of p two_le c')
       (product_division a b c s) (product_division a b c' s')).1
 
   pub product_exists : (a b : ℕ) → (c : ℕ) × IsProductByDigits p m a b c
   product_exists a b =
-      let d = divide R (residue_zero_test p two_le) modulus R.one unit positive (polynomial_of p two_le a ⊗ polynomial_of p two_le b) in
-      let c : ℕ = number_of p two_le d.1 in
-      let small : length d.1.0 < length modulus.0 = d.2.smaller in (
+      let Z = residue_zero_test p two_le in
+      let f : DigitPoly p two_le = polynomial_of p two_le a ⊗ polynomial_of p two_le b in
+      let r : DigitPoly p two_le = rem R Z modulus modulus_monic f in
+      let D = rem-division R Z modulus modulus_monic f in
+      let small : length r.0 < length modulus.0 = D.smaller in
+      let c : ℕ = number_of p two_le r in (
         c,
-        product_from_polynomial a b c d.0 (number_of_lt p two_le (length m) d.1 (omega (arith, length-modulus)))
-            (d.2.whole ∙ ap (λ y. d.0 ⊗ modulus ⊕ y) (sym (polynomial_of-number_of p two_le d.1))),
+        product_from_polynomial a b c (quo R Z modulus modulus_monic f) (number_of_lt p two_le (length m) r (omega (arith, length-modulus)))
+            (D.whole ∙ ap (λ y. quo R Z modulus modulus_monic f ⊗ modulus ⊕ y) (sym (polynomial_of-number_of p two_le r))),
       )
 
   -- the sum, made of its digits

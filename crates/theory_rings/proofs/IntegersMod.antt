@@ -10,7 +10,7 @@ use Rattle.theory_rings.specs.Ops.{FieldLaws}
 use Rattle.theory_rings.specs.Sum.{sum}
 use Rattle.theory_rings.specs.Naturals.{nat_monoid}
 use Rattle.theory_rings.proofs.Sums.{map-sum}
-use Rattle.theory_rings.specs.IntegersMod.{ZMod, ZMod-path, value-lt, residue, residue_is_zero, integers_mod, mod_ops, mod-elem, zero-elem, one-elem, add_assoc_mod, add_comm_mod, zero-add_mod, neg-add_mod, mul_assoc_mod, mul_comm_mod, one-mul_mod, mul-add_mod}
+use Rattle.theory_rings.specs.IntegersMod.{Fin, Fin-path, value-lt, residue, residue_is_zero, integers_mod, mod_ops, mod-elem, zero-elem, one-elem, add_assoc_mod, add_comm_mod, zero-add_mod, neg-add_mod, mul_assoc_mod, mul_comm_mod, one-mul_mod, mul-add_mod}
 
 module _ (n : ℕ) (two_le : 2 ≤ n) where
   infixl 65 ◌⊕◌
@@ -18,10 +18,10 @@ module _ (n : ℕ) (two_le : 2 ≤ n) where
   open integers_mod n two_le use {monoid, zero, one, ◌⊕◌, ◌⊗◌}
 
   pub residue_eq : (a b : ℕ) → a % n ≡ b % n → residue n two_le a ≡ residue n two_le b
-  residue_eq a b e = ZMod-path n (residue n two_le a) (residue n two_le b) e
+  residue_eq a b e = Fin-path n (residue n two_le a) (residue n two_le b) e
 
-  pub residue-value : (a : ZMod n) → residue n two_le a.0 ≡ a
-  residue-value a = ZMod-path n (residue n two_le a.0) a (mod-eq_of_lt (value-lt n a))
+  pub residue-value : (a : Fin n) → residue n two_le a.0 ≡ a
+  residue-value a = Fin-path n (residue n two_le a.0) a (mod-eq_of_lt (value-lt n a))
 
   pub residue-zero : residue n two_le 0 ≡ zero
   residue-zero = residue-value zero
@@ -30,18 +30,18 @@ module _ (n : ℕ) (two_le : 2 ≤ n) where
   residue-one = residue-value one
 
   pub residue-add : (a b : ℕ) → residue n two_le (a + b) ≡ residue n two_le a ⊕ residue n two_le b
-  residue-add a b = ZMod-path n (residue n two_le (a + b)) (residue n two_le a ⊕ residue n two_le b)
+  residue-add a b = Fin-path n (residue n two_le (a + b)) (residue n two_le a ⊕ residue n two_le b)
       (sym (mod-add-mod a n (b % n) ∙ add-mod-mod a b n))
 
   pub residue-mul : (a b : ℕ) → residue n two_le (a * b) ≡ residue n two_le a ⊗ residue n two_le b
-  residue-mul a b = ZMod-path n (residue n two_le (a * b)) (residue n two_le a ⊗ residue n two_le b) (mul-mod a b n)
+  residue-mul a b = Fin-path n (residue n two_le (a * b)) (residue n two_le a ⊗ residue n two_le b) (mul-mod a b n)
 
   pub residue-sum : (k : ℕ) (f : ℕ → ℕ) → residue n two_le (sum nat_monoid k f) ≡ sum monoid k (λ i. residue n two_le (f i))
   residue-sum = map-sum nat_monoid monoid (residue n two_le) residue-zero residue-add
 
   pub residue_zero_test : ZeroTest zero (residue_is_zero n two_le)
   residue_zero_test = record {
-    is_zero-sound = λ a e. ZMod-path n a zero (eqb-true a.0 0 e);
+    is_zero-sound = λ a e. Fin-path n a zero (eqb-true a.0 0 e);
     is_zero-zero = eq-eqb 0 0 refl;
   }
 

@@ -7,7 +7,7 @@ use Rattle.std.proofs.Math.Nat.{mod-mod, mod-eq_of_lt, one-le-pow, lt_of_lt_of_l
 use Rattle.std.proofs.lemmas.Nat.{mod_below}
 use Rattle.std.proofs.lemmas.Bool.{cases_lt}
 use Rattle.theory_rings.specs.Ring.{CommRingOn, ZeroTest}
-use Rattle.theory_rings.specs.IntegersMod.{ZMod, residue, residue_is_zero}
+use Rattle.theory_rings.specs.IntegersMod.{Fin, residue, residue_is_zero}
 use Rattle.theory_rings.specs.Digits.{digit, of_digits}
 use Rattle.theory_rings.specs.Polynomial.{Poly, coefficient, constant_coefficients}
 use Rattle.theory_rings.specs.FieldByDigits.{modulus_coefficient, size_by_digits, IsSumByDigits, IsProductByDigits}
@@ -16,7 +16,7 @@ use Rattle.theory_rings.proofs.RingLaws.{zero-mul, mul-zero, add-zero}
 use Rattle.theory_rings.proofs.IntegersMod.{residue_eq, residue-zero, residue-one, residue-add, residue-mul, residue_zero_test}
 use Rattle.theory_rings.proofs.Digits.{digit-suc, digit_past, le_pow_self}
 use Rattle.theory_rings.proofs.PolynomialRing.{Poly-path, coefficient-add, coefficient-mul, constant, coefficient-constant, prepend, coefficient-prepend, series_prepend}
-use Rattle.theory_rings.proofs.Division.{variable, prepend-zero, coefficient-constant_mul}
+use Rattle.theory_rings.proofs.Constants.{variable, prepend-zero, coefficient-constant_mul}
 use Rattle.theory_rings.proofs.DigitPolynomials.{residues, DigitPoly, digit_polynomials, polynomial_of, coefficient-polynomial_of, polynomial_of-zero, polynomial_of-one, polynomial_of-constant, polynomial_of-prepend}
 use Rattle.theory_rings.proofs.FieldByDigits.{modulus, coefficient-modulus, polynomial_of-sum, polynomial_of-product, product_from_polynomial}
 
@@ -25,7 +25,7 @@ module _ (p : ℕ) (two_le : 2 ≤ p) (m : List ℕ) where
   infixl 70 ◌⊗◌
   open digit_polynomials p two_le use {◌⊕◌, ◌⊗◌}
 
-  abbrev R : CommRingOn (ZMod p)
+  abbrev R : CommRingOn (Fin p)
   R = residues p two_le
 
   abbrev P : CommRingOn (DigitPoly p two_le)

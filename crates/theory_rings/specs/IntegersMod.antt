@@ -10,8 +10,8 @@ use Rattle.theory_rings.specs.Ring.{CommRingOn}
 use Rattle.theory_rings.specs.Ops.{Ops}
 
 -- a number below n
-abbrev pub ZMod : ℕ → Type 0
-ZMod n = (a : ℕ) × IsTrue (nat_lt a n)
+abbrev pub Fin : ℕ → Type 0
+Fin n = (a : ℕ) × IsTrue (nat_lt a n)
 
 -- the operations as a program has them, where the inverses are in a table
 abbrev pub mod_ops : ℕ → List ℕ → Ops ℕ
@@ -28,10 +28,10 @@ mod_ops n inverses = record {
 
 -- the laws of the sum and the product modulo n
 module _ (n : ℕ) where
-  pub ZMod-path : (a b : ZMod n) → a.0 ≡ b.0 → a ≡ b
-  ZMod-path a b e = Σ_prop_path (λ x. Bool-set (nat_lt x n) true) {u = a} {v = b} e
+  pub Fin-path : (a b : Fin n) → a.0 ≡ b.0 → a ≡ b
+  Fin-path a b e = Σ_prop_path (λ x. Bool-set (nat_lt x n) true) {u = a} {v = b} e
 
-  pub value-lt : (a : ZMod n) → a.0 < n
+  pub value-lt : (a : Fin n) → a.0 < n
   value-lt a = ltb-true a.0 n a.1
 
   pub add_assoc_mod : (a b c : ℕ) → ((a + b) % n + c) % n ≡ (a + (b + c) % n) % n
@@ -77,17 +77,17 @@ module _ (n : ℕ) (two_le : 2 ≤ n) where
   one-elem = lt-ltb 1 n (nat.lt_of_lt_of_le (nat.lt-suc_self 1) two_le)
 
   -- the residue of a number
-  abbrev pub residue : ℕ → ZMod n
+  abbrev pub residue : ℕ → Fin n
   residue a = (a % n, mod-elem a)
 
-  abbrev pub residue_is_zero : ZMod n → Bool
+  abbrev pub residue_is_zero : Fin n → Bool
   residue_is_zero a = nat_eq a.0 0
 
   -- the ring
-  abbrev pub integers_mod : CommRingOn (ZMod n)
+  abbrev pub integers_mod : CommRingOn (Fin n)
   integers_mod =
-      let K : Type 0 = ZMod n in
-      let same : (a b : K) → a.0 ≡ b.0 → a ≡ b = ZMod-path n in
+      let K : Type 0 = Fin n in
+      let same : (a b : K) → a.0 ≡ b.0 → a ≡ b = Fin-path n in
       let plus : K → K → K = λ a b. residue (a.0 + b.0) in
       let times : K → K → K = λ a b. residue (a.0 * b.0) in
       let minus : K → K = λ a. residue (n - a.0) in
