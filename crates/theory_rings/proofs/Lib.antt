@@ -20,3 +20,4 @@ pub mod Remainders
 pub mod Constants
 pub mod Fields
 pub mod Bezout
+pub mod RingByDigits

@@ -1,8 +1,13 @@
 -- The numbers below p ^ d, read as d digits in base p, lowest first, with a modulus given by d numbers m_0, .., m_(d − 1).
 -- A number stands for the polynomial in t whose coefficients are its digits, over the integers modulo p, and the modulus
 -- is t ^ d + m_(d − 1) t ^ (d − 1) + .. + m_0.
-use Rattle.std.specs.Prelude.{◌≡◌, ◌≢◌, ℕ, suc, ◌+◌, ◌-◌, ◌*◌, ◌%◌, ◌^◌, ◌<◌, List, [], ◌∷◌, ◌++◌, length, get_or, nat_lt, nat_eq}
+use Rattle.std.specs.Prelude.{◌≡◌, ◌≢◌, ℕ, suc, ◌+◌, ◌-◌, ◌*◌, ◌%◌, ◌^◌, ◌<◌, ◌≤◌, List, [], ◌∷◌, ◌++◌, length, get_or, nat_lt, nat_eq}
+use Rattle.theory_rings.specs.Ring.{CommRingOn}
 use Rattle.theory_rings.specs.Ops.{Ops}
+use Rattle.theory_rings.specs.Homomorphism.{IsRingHom}
+use Rattle.theory_rings.specs.IntegersMod.{Fin, integers_mod, residue}
+use Rattle.theory_rings.specs.Polynomial.{Poly, coefficient, IsPolynomialRing}
+use Rattle.theory_rings.specs.Remainder.{Remainder, IsRemainderRing}
 use Rattle.theory_rings.specs.Sum.{sum}
 use Rattle.theory_rings.specs.Naturals.{nat_monoid}
 use Rattle.theory_rings.specs.Digits.{digit}
@@ -34,6 +39,13 @@ module _ (p : ℕ) (m : List ℕ) where
         → product_coefficient (digit p a) (digit p b) k % p
         ≡ (product_coefficient (digit p quotient) (modulus_coefficient m) k + digit p c k) % p
 
+  -- the operations of F are these
+  pub record IsRingByDigits (F : CommRingOn (Fin size_by_digits)) : Type 0 where
+    pub zero : F.zero.0 ≡ 0
+    pub one : F.one.0 ≡ 1
+    pub add : (a b : Fin size_by_digits) → IsSumByDigits a.0 b.0 (F.◌⊕◌ a b).0
+    pub mul : (a b : Fin size_by_digits) → IsProductByDigits a.0 b.0 (F.◌⊗◌ a b).0
+
   -- the operations of o are these, and each element but 0 has its inverse
   pub record IsFieldByDigits (o : Ops ℕ) : Type 0 where
     pub is_elem : (a : ℕ) → o.is_elem a ≡ nat_lt a size_by_digits
@@ -46,3 +58,22 @@ module _ (p : ℕ) (m : List ℕ) where
     pub mul : (a b : ℕ) → a < size_by_digits → b < size_by_digits → IsProductByDigits a b (o.mul a b)
     pub inv : (a : ℕ) → a < size_by_digits → o.inv a < size_by_digits
     pub mul-inv : (a : ℕ) → a < size_by_digits → a ≢ 0 → IsProductByDigits a (o.inv a) 1
+
+-- The numbers below p ^ d with these operations are a ring F, and one copy of the ring Q of the remainders by the modulus M
+-- among the polynomials over the integers modulo p: each number goes to the polynomial of its digits
+pub record DigitsAreRemainders (p : ℕ) (two_le : 2 ≤ p) (m : List ℕ) : Type 0 where
+  pub F : CommRingOn (Fin (size_by_digits p m))
+  pub by_digits : IsRingByDigits p m F
+  pub P : CommRingOn (Poly (integers_mod p two_le))
+  pub polynomials : IsPolynomialRing (integers_mod p two_le) P
+  pub M : Poly (integers_mod p two_le)
+  pub coefficient-M : (k : ℕ) → coefficient (integers_mod p two_le) M k ≡ residue p two_le (modulus_coefficient m k)
+  pub Q : CommRingOn (Remainder (integers_mod p two_le) M)
+  pub remainders : IsRemainderRing (integers_mod p two_le) M P Q
+  pub map : Fin (size_by_digits p m) → Remainder (integers_mod p two_le) M
+  pub coefficient-map : (a : Fin (size_by_digits p m)) (k : ℕ)
+      → coefficient (integers_mod p two_le) (map a).0 k ≡ residue p two_le (digit p a.0 k)
+  pub homomorphism : IsRingHom F.ring Q.ring map
+  pub back : Remainder (integers_mod p two_le) M → Fin (size_by_digits p m)
+  pub back-map : (a : Fin (size_by_digits p m)) → back (map a) ≡ a
+  pub map-back : (f : Remainder (integers_mod p two_le) M) → map (back f) ≡ f
