@@ -4,7 +4,7 @@ use Rattle.std.proofs.Common.{refl, sym, ◌∙◌, ap, ap₂, arith}
 use Rattle.std.proofs.Math.Nat.{mod-lt, mod-one, zero-mod, mod-eq_of_lt, div-add-mod, div-one, zero-div, div-eq_of_lt, div-div-eq-div-mul, mul-add-div, mul-add-mod_self_left, pow-zero, pow-suc, pow-succ', pow-le-pow_right, one-le-pow, mul-le-mul_right}
 use Rattle.theory_rings.specs.Sum.{sum}
 use Rattle.theory_rings.specs.Naturals.{nat_monoid}
-use Rattle.theory_rings.specs.Digits.{digit, of_digits}
+use Rattle.theory_rings.specs.Digits.{digit, of_digits, DigitsLaw}
 use Rattle.theory_rings.proofs.Sums.{sum_congr, sum_first}
 use Rattle.theory_rings.proofs.NaturalSums.{mul-sum_nat}
 
@@ -113,3 +113,6 @@ module _ (p : ℕ) (pos : 0 < p) where
       front =
           ap (λ x. x / p) (of_digits_suc p d f ∙ omega arith) ∙ mul-add-div pos (of_digits p d (λ i. f (suc i))) (f 0)
           ∙ ap (λ x. of_digits p d (λ i. f (suc i)) + x) (div-eq_of_lt (h 0 (omega arith))) ∙ omega arith
+
+pub digits_law : DigitsLaw
+digits_law p d two_le = (of_digits-digit p d, digit_lt p (omega arith), of_digits_lt p (omega arith) d, digit-of_digits p (omega arith) d)

@@ -14,7 +14,7 @@ use Rattle.theory_rings.specs.Digits.{digit}
 use Rattle.theory_rings.specs.Polynomial.{Poly, coefficient}
 use Rattle.theory_rings.specs.Division.{Congruent}
 use Rattle.theory_rings.specs.Remainder.{Remainder}
-use Rattle.theory_rings.specs.FieldByDigits.{size_by_digits, IsSumByDigits, IsProductByDigits, IsRingByDigits, IsFieldByDigits, DigitsAreRemainders}
+use Rattle.theory_rings.specs.FieldByDigits.{size_by_digits, IsSumByDigits, IsProductByDigits, IsRingByDigits, IsFieldByDigits, DigitsAreRemainders, DigitsAreRemaindersLaw, FieldByDigitsLaw}
 use Rattle.theory_rings.proofs.RingLaws.{neg_unique}
 use Rattle.theory_rings.proofs.IntegersMod.{residue_zero_test}
 use Rattle.theory_rings.proofs.Digits.{lt_pow_self, le_pow_self}
@@ -23,7 +23,7 @@ use Rattle.theory_rings.proofs.PolynomialRing.{is_polynomial_ring}
 use Rattle.theory_rings.proofs.Remainders.{remainders, remainder, remainder_eq, remainder_of_small, Remainder-path, remainders-zero_poly, remainders-one_poly, remainders-add_poly, remainders-mul, is_remainder_ring}
 use Rattle.theory_rings.proofs.Residues.{congruent_of_eq}
 use Rattle.theory_rings.proofs.DigitPolynomials.{DigitPoly, residues, digit_polynomials, polynomial_of, coefficient-polynomial_of, number_of, number_of_lt, polynomial_of-number_of, polynomial_of-injective, length-polynomial_of, polynomial_of-zero, polynomial_of-one}
-use Rattle.theory_rings.proofs.FieldByDigits.{modulus, coefficient-modulus, length-modulus, degree-modulus, modulus_monic, polynomial_of-sum, polynomial_of-product, sum_exists, product_exists}
+use Rattle.theory_rings.proofs.FieldByDigits.{modulus, coefficient-modulus, length-modulus, degree-modulus, modulus_monic, polynomial_of-sum, polynomial_of-product, sum_exists, sum_unique, product_exists, product_unique}
 
 module _ (p : ℕ) (two_le : 2 ≤ p) (m : List ℕ) where
   abbrev R : CommRingOn (Fin p)
@@ -174,7 +174,9 @@ module _ (p : ℕ) (two_le : 2 ≤ p) (m : List ℕ) where
       zero = refl;
       one = refl;
       add = λ a b. (sum_exists p two_le m a.0 b.0).1;
+      add_only = λ a b c s. sum_unique p two_le m a.0 b.0 c (sum_of a b).0 s (sum_exists p two_le m a.0 b.0).1;
       mul = λ a b. (product_exists p two_le m a.0 b.0).1;
+      mul_only = λ a b c s. product_unique p two_le m a.0 b.0 c (product_of a b).0 s (product_exists p two_le m a.0 b.0).1;
     }
 
     to_remainder_hom : IsRingHom ring_by_digits.ring Q.ring to_remainder
@@ -271,3 +273,9 @@ module _ (p : ℕ) (two_le : 2 ≤ p) (m : List ℕ) where
 
       pub field_by_digits_laws : FieldLaws o
       field_by_digits_laws = embedded_field o Q field_embedding
+
+pub digits_are_remainders_law : DigitsAreRemaindersLaw
+digits_are_remainders_law = digits_are_remainders
+
+pub field_by_digits_law : FieldByDigitsLaw
+field_by_digits_law = field_by_digits_laws

@@ -3,7 +3,7 @@
 -- is t ^ d + m_(d − 1) t ^ (d − 1) + .. + m_0.
 use Rattle.std.specs.Prelude.{◌≡◌, ◌≢◌, ℕ, suc, ◌+◌, ◌-◌, ◌*◌, ◌%◌, ◌^◌, ◌<◌, ◌≤◌, List, [], ◌∷◌, ◌++◌, length, get_or, nat_lt, nat_eq}
 use Rattle.theory_rings.specs.Ring.{CommRingOn}
-use Rattle.theory_rings.specs.Ops.{Ops}
+use Rattle.theory_rings.specs.Ops.{Ops, FieldLaws}
 use Rattle.theory_rings.specs.Homomorphism.{IsRingHom}
 use Rattle.theory_rings.specs.IntegersMod.{Fin, integers_mod, residue}
 use Rattle.theory_rings.specs.Polynomial.{Poly, coefficient, IsPolynomialRing}
@@ -39,12 +39,14 @@ module _ (p : ℕ) (m : List ℕ) where
         → product_coefficient (digit p a) (digit p b) k % p
         ≡ (product_coefficient (digit p quotient) (modulus_coefficient m) k + digit p c k) % p
 
-  -- the operations of F are these
+  -- the operations of F are these: each two numbers have this sum and this product, and no others
   pub record IsRingByDigits (F : CommRingOn (Fin size_by_digits)) : Type 0 where
     pub zero : F.zero.0 ≡ 0
     pub one : F.one.0 ≡ 1
     pub add : (a b : Fin size_by_digits) → IsSumByDigits a.0 b.0 (F.◌⊕◌ a b).0
+    pub add_only : (a b : Fin size_by_digits) (c : ℕ) → IsSumByDigits a.0 b.0 c → c ≡ (F.◌⊕◌ a b).0
     pub mul : (a b : Fin size_by_digits) → IsProductByDigits a.0 b.0 (F.◌⊗◌ a b).0
+    pub mul_only : (a b : Fin size_by_digits) (c : ℕ) → IsProductByDigits a.0 b.0 c → c ≡ (F.◌⊗◌ a b).0
 
   -- the operations of o are these, and each element but 0 has its inverse
   pub record IsFieldByDigits (o : Ops ℕ) : Type 0 where
@@ -77,3 +79,11 @@ pub record DigitsAreRemainders (p : ℕ) (two_le : 2 ≤ p) (m : List ℕ) : Typ
   pub back : Remainder (integers_mod p two_le) M → Fin (size_by_digits p m)
   pub back-map : (a : Fin (size_by_digits p m)) → back (map a) ≡ a
   pub map-back : (f : Remainder (integers_mod p two_le) M) → map (back f) ≡ f
+
+-- so it is for every p from 2 on, prime or not, and every modulus of degree 1 or more, irreducible or not
+abbrev pub DigitsAreRemaindersLaw : Type 0
+DigitsAreRemaindersLaw = (p : ℕ) (two_le : 2 ≤ p) (m : List ℕ) → 1 ≤ length m → DigitsAreRemainders p two_le m
+
+-- a program's operations that are these, with inverses, are a field
+abbrev pub FieldByDigitsLaw : Type 0
+FieldByDigitsLaw = (p : ℕ) → 2 ≤ p → (m : List ℕ) → 1 ≤ length m → (o : Ops ℕ) → IsFieldByDigits p m o → FieldLaws o

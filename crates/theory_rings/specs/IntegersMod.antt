@@ -7,7 +7,7 @@ use Rattle.std.proofs.lemmas.Bool.{ltb-true, lt-ltb}
 use Rattle.std.proofs.lemmas.Nat.{mod_below, mul-mod_first, mul-mod_second}
 use mathlib.Core.HLevel.{Σ_prop_path}
 use Rattle.theory_rings.specs.Ring.{CommRingOn}
-use Rattle.theory_rings.specs.Ops.{Ops}
+use Rattle.theory_rings.specs.Ops.{Ops, FieldLaws}
 
 -- a number below n
 abbrev pub Fin : ℕ → Type 0
@@ -116,3 +116,23 @@ module _ (n : ℕ) (two_le : 2 ≤ n) where
         };
         mul_comm = λ a b. same (times a b) (times b a) (mul_comm_mod n a.0 b.0);
       }
+
+-- the operations of R are the sum and the product modulo n
+pub record IsIntegersMod (n : ℕ) (R : CommRingOn (Fin n)) : Type 0 where
+  pub zero : R.zero.0 ≡ 0
+  pub one : R.one.0 ≡ 1
+  pub add : (a b : Fin n) → (R.◌⊕◌ a b).0 ≡ (a.0 + b.0) % n
+  pub mul : (a b : Fin n) → (R.◌⊗◌ a b).0 ≡ (a.0 * b.0) % n
+
+-- the integers modulo n are a commutative ring
+abbrev pub IntegersModLaw : Type 0
+IntegersModLaw = (n : ℕ) → 2 ≤ n → (R : CommRingOn (Fin n)) × IsIntegersMod n R
+
+-- entry a of the table is an inverse of a modulo n
+pub record IsInverseTable (n : ℕ) (inverses : List ℕ) : Type 0 where
+  pub below : (a : ℕ) → a < n → slice_index inverses a < n
+  pub inverse : (a : ℕ) → 0 < a → a < n → (a * slice_index inverses a) % n ≡ 1
+
+-- with such a table the integers modulo n are a field
+abbrev pub FieldModLaw : Type 0
+FieldModLaw = (n : ℕ) (inverses : List ℕ) → 2 ≤ n → IsInverseTable n inverses → FieldLaws (mod_ops n inverses)
