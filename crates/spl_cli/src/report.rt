@@ -2,7 +2,7 @@
 ghost use Rattle.std.specs.Prelude.{◌≡◌, ℕ, ◌+◌, ◌<◌, ◌≤◌, ◌^◌, ◌==◌, ◌++◌, length, count_by, codes, decimal, IfOk};
 ghost use Rattle.spl_cli.specs.Report.{kind_word, refusal_text, triple_text, line_of_end};
 
-use arrayvec::ArrayVec;
+use arrayvec::ArrayString;
 use itoa::Buffer;
 use spl_field::field::NoMemory;
 use spl_table::refusal::{Kind, Refusal};
@@ -20,26 +20,26 @@ pub(crate) fn end_line(input: &[u8]) -> usize
 }
 
 /// The word for a kind of refusal.
-fn word_of(kind: Kind) -> &'static [u8]
+fn word_of(kind: Kind) -> &'static str
     ensures { result.now ≡ kind_word kind }
 {
     match kind {
-        Kind::TooLong => b"TooLong",
-        Kind::NotBuilt => b"NotBuilt",
+        Kind::TooLong => "TooLong",
+        Kind::NotBuilt => "NotBuilt",
     }
 }
 
 /// The report of a refusal. It takes no memory.
-pub(crate) fn refusal_line(refusal: Refusal) -> ArrayVec<u8, 64>
-    ensures { result.items ≡ refusal_text refusal }
+pub(crate) fn refusal_line(refusal: Refusal) -> ArrayString<64>
+    ensures { result.bytes ≡ refusal_text refusal }
 {
     let mut buffer = Buffer::new();
-    let mut line = ArrayVec::new();
-    append(&mut line, b"refused ");
-    append(&mut line, buffer.format(refusal.line).as_bytes());
-    append(&mut line, b" ");
-    append(&mut line, word_of(refusal.kind));
-    append(&mut line, b"\n");
+    let mut line = ArrayString::new();
+    line.push_str("refused ");
+    line.push_str(buffer.format(refusal.line));
+    line.push_str(" ");
+    line.push_str(word_of(refusal.kind));
+    line.push_str("\n");
     line
 }
 

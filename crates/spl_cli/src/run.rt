@@ -38,7 +38,7 @@ fn decide<K: Sink>(alloc: Global, input: &[u8], sink: &mut K) -> Status
 {
     match read_table(alloc, input) {
         Err(TableFault::Memory) => Status::Memory,
-        Err(TableFault::Refused { refusal }) => finish(sink, refusal_line(refusal).as_slice(), Status::Refused),
+        Err(TableFault::Refused { refusal }) => finish(sink, refusal_line(refusal).as_str().as_bytes(), Status::Refused),
         Ok(table) => match first_failed_triple(alloc, &table) {
             Err(_) => Status::Memory,
             Ok(None) => {
@@ -46,7 +46,7 @@ fn decide<K: Sink>(alloc: Global, input: &[u8], sink: &mut K) -> Status
                     line: end_line(input) as u32,
                     kind: Kind::NotBuilt,
                 };
-                finish(sink, refusal_line(refusal).as_slice(), Status::Refused)
+                finish(sink, refusal_line(refusal).as_str().as_bytes(), Status::Refused)
             }
             Ok(Some(triple)) => match triple_evidence(alloc, triple) {
                 Err(_) => Status::Memory,

@@ -1,8 +1,9 @@
 -- What follows from the laws of a field: an element is 0 or not, a product is 0 only by a factor, cancellation.
-use Rattle.std.specs.Prelude.{◌≡◌, Bool, true, false, ◌⊎◌}
+use Rattle.std.specs.Prelude.{◌≡◌, ◌≢◌, Bool, true, false, ◌⊎◌}
 use Rattle.std.proofs.Common.{refl, sym, ◌∙◌, ap, inl, inr, ⊎_elim}
 use Rattle.theory_rings.specs.Ring.{FieldOn}
-use Rattle.theory_rings.proofs.RingLaws.{mul-zero}
+use Rattle.theory_rings.proofs.RingLaws.{mul-zero, eq_zero_of_mul-unit}
+use Rattle.theory_rings.proofs.ZeroTests.{group_set}
 
 module _ {K : Type 0} (F : FieldOn K) where
   infixl 70 ◌⊗◌
@@ -31,3 +32,12 @@ module _ {K : Type 0} (F : FieldOn K) where
       (λ (z : a ≡ F.zero). inl z)
       (λ (n : a ≡ F.zero → ⊥). inr (mul_left_cancel a b F.zero n (e ∙ sym (mul-zero ring a))))
       (zero_or_not a)
+
+  pub field_mul-ne-zero : (a b : K) → a ≢ F.zero → b ≢ F.zero → a ⊗ b ≢ F.zero
+  field_mul-ne-zero a b ha hb e = ha (eq_zero_of_mul-unit ring a b (F.inv b) (mul-inv b hb) e)
+
+  pub inv-ne-zero : (a : K) → a ≢ F.zero → F.inv a ≢ F.zero
+  inv-ne-zero a h e = F.one-nonzero (sym (mul-inv a h) ∙ ap (λ x. a ⊗ x) e ∙ mul-zero ring a)
+
+  pub field_set : IsSet K
+  field_set = group_set F.additive F.zero_test

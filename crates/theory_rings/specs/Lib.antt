@@ -6,3 +6,10 @@ pub mod IntegersMod
 pub mod Power
 pub mod Prime
 pub mod Binomial
+pub mod Naturals
+pub mod Digits
+pub mod Polynomial
+pub mod FieldByDigits
+pub mod Division
+pub mod Homomorphism
+pub mod Remainder
