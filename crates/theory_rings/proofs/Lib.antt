@@ -14,3 +14,4 @@ pub mod Remainders
 pub mod Constants
 pub mod Fields
 pub mod Bezout
+pub mod Irreducible
