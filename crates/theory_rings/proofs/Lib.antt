@@ -15,3 +15,4 @@ pub mod Constants
 pub mod Fields
 pub mod Bezout
 pub mod Irreducible
+pub mod Fractions

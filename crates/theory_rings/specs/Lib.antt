@@ -6,3 +6,4 @@ pub mod Polynomial
 pub mod Division
 pub mod Homomorphism
 pub mod Remainder
+pub mod Fraction
