@@ -16,3 +16,4 @@ pub mod Fields
 pub mod Bezout
 pub mod Irreducible
 pub mod Fractions
+pub mod Lowest
