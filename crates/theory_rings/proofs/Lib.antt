@@ -17,3 +17,4 @@ pub mod Bezout
 pub mod Irreducible
 pub mod Fractions
 pub mod Lowest
+pub mod Evaluation

@@ -7,3 +7,4 @@ pub mod Division
 pub mod Homomorphism
 pub mod Remainder
 pub mod Fraction
+pub mod Evaluation
