@@ -18,3 +18,4 @@ pub mod Irreducible
 pub mod Fractions
 pub mod Lowest
 pub mod Evaluation
+pub mod RingPaths
