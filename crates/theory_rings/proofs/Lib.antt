@@ -33,3 +33,8 @@ pub mod Remainders
 pub mod Constants
 pub mod Bezout
 pub mod RingByDigits
+pub mod Irreducible
+pub mod Fractions
+pub mod Lowest
+pub mod Evaluation
+pub mod RingPaths

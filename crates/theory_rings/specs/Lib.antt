@@ -13,3 +13,5 @@ pub mod FieldByDigits
 pub mod Division
 pub mod Homomorphism
 pub mod Remainder
+pub mod Fraction
+pub mod Evaluation
