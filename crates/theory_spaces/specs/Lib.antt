@@ -1,3 +1,5 @@
 pub mod Module
 pub mod Linear
 pub mod Functions
+pub mod Matrix
+pub mod Algebra
