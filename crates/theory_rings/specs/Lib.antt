@@ -2,3 +2,4 @@ pub mod Ring
 pub mod Ops
 pub mod Elements
 pub mod Sum
+pub mod Polynomial
