@@ -5,3 +5,6 @@ pub mod Dimension
 pub mod Spaces
 pub mod Matrices
 pub mod Traces
+pub mod Tables
+pub mod Tuples
+pub mod TupleProducts

@@ -176,3 +176,20 @@ module _ {K V W : Type 0} {R : RingOn K} (M : ModuleOn R V) (N : ModuleOn R W) (
   pub map-comb : (n : ℕ) (c : ℕ → K) (v : ℕ → V) → f (comb M n c v) ≡ comb N n c (λ i. f (v i))
   map-comb n c v = map-sum M.monoid N.monoid f map-zero h.map-add n (λ i. M.◌•◌ (c i) (v i))
       ∙ sum_congr N.monoid n (λ i. f (M.◌•◌ (c i) (v i))) (λ i. N.◌•◌ (c i) (f (v i))) (λ i _. h.map-scale (c i) (v i))
+
+-- linear maps that agree on vectors agree on their span
+pub linear_ext : {K V W : Type 0} {R : RingOn K} (M : ModuleOn R V) (N : ModuleOn R W) (f g : V → W) → IsLinear M N f → IsLinear M N g
+    → (n : ℕ) (v : ℕ → V) → ((i : ℕ) → i < n → f (v i) ≡ g (v i)) → (x : V) → InSpan M n v x → f x ≡ g x
+linear_ext M N f g hf hg n v h x s =
+    ap f s.combines ∙ map-comb M N f hf n s.weights v ∙ comb_congr_right N n s.weights (λ i. f (v i)) (λ i. g (v i)) h
+    ∙ sym (map-comb M N g hg n s.weights v) ∙ ap g (sym s.combines)
+
+pub linear_comp : {K U V W : Type 0} {R : RingOn K} (L : ModuleOn R U) (M : ModuleOn R V) (N : ModuleOn R W) (f : V → W) (g : U → V)
+    → IsLinear M N f → IsLinear L M g → IsLinear L N (λ x. f (g x))
+linear_comp L M N f g hf hg = record {
+  map-add = λ x y. ap f (hg.map-add x y) ∙ hf.map-add (g x) (g y);
+  map-scale = λ a x. ap f (hg.map-scale a x) ∙ hf.map-scale a (g x);
+}
+
+pub linear_id : {K V : Type 0} {R : RingOn K} (M : ModuleOn R V) → IsLinear M M (λ x. x)
+linear_id M = record { map-add = λ x y. refl; map-scale = λ a x. refl }

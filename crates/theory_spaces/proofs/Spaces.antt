@@ -32,18 +32,16 @@ module _ {K V : Type 0} {R : RingOn K} (M : ModuleOn R V) where
 
   -- independent vectors that span everything are a basis
   module _ (n : ℕ) (v : ℕ → V) (ind : Independent M n v) (span : (x : V) → InSpan M n v x) where
-    unfoldable pub coord_in : V → ℕ → K
+    abbrev pub coord_in : V → ℕ → K
     coord_in x = push n R.zero (span x).weights
 
     pub coord_in-expand : (x : V) → x ≡ comb M n (coord_in x) v
-    unfolding coord_in
     coord_in-expand x = (span x).combines ∙ sym (comb_congr M n (coord_in x) (span x).weights v (push-below n R.zero (span x).weights))
 
     pub coord_in-of : (x : V) (c : ℕ → K) → x ≡ comb M n c v → (i : ℕ) → i < n → coord_in x i ≡ c i
     coord_in-of x c e i l = comb_injective M n v ind (coord_in x) c (sym (coord_in-expand x) ∙ e) i l
 
     pub coord_in-above : (x : V) (i : ℕ) → n ≤ i → coord_in x i ≡ R.zero
-    unfolding coord_in
     coord_in-above x i l = push-above n R.zero (span x).weights i l
 
     abbrev pub basis_of : Basis M n

@@ -3,3 +3,5 @@ pub mod Linear
 pub mod Functions
 pub mod Matrix
 pub mod Algebra
+pub mod Tuples
+pub mod Space
