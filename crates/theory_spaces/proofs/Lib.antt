@@ -8,3 +8,7 @@ pub mod Traces
 pub mod Tables
 pub mod Tuples
 pub mod TupleProducts
+pub mod Simple
+pub mod Quotients
+pub mod Lattices
+pub mod Corners
