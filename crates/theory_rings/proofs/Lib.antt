@@ -6,3 +6,4 @@ pub mod Lists
 pub mod Series
 pub mod ZeroTests
 pub mod PolynomialRing
+pub mod IntegersMod

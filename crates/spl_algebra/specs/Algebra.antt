@@ -1,0 +1,39 @@
+-- An algebra over a field by its structure constants, and the law of associativity on its basis.
+-- (Reiner, Maximal Orders, section 1a.)
+use Rattle.std.specs.Prelude.{◌≡◌, ◌≢◌, ℕ, ◌*◌, ◌+◌, ◌<◌, List, length}
+use Rattle.theory_rings.specs.Ops.{Ops}
+use Rattle.theory_spaces.specs.Tuples.{IsTuple, product, basis}
+
+-- a dimension m and m³ constants: the one for the basis elements i, j and k, counted from 0, stands at (i·m + j)·m + k
+pub record Structure (E : Type 0) : Type 0 where
+  pub dim : ℕ
+  pub constants : List E
+
+module _ {E : Type 0} (o : Ops E) (A : Structure E) where
+  -- the constants are m³ elements of the field
+  abbrev pub IsOver : Type 0
+  IsOver = IsTuple o (A.dim * A.dim * A.dim) A.constants
+
+  -- m elements of the field, which stand for an element of the algebra
+  abbrev pub IsElement : List E → Type 0
+  IsElement a = IsTuple o A.dim a
+
+  -- at k the sum over i and j of a_i·b_j·γ_ijk
+  abbrev pub product_of : List E → List E → List E
+  product_of a b = product o A.dim A.constants a b
+
+  -- the basis element i
+  abbrev pub basis_of : ℕ → List E
+  basis_of i = basis o A.dim i
+
+  -- (b_i·b_j)·b_k and b_i·(b_j·b_k) are the same
+  abbrev pub AssociatesAt : ℕ → ℕ → ℕ → Type 0
+  AssociatesAt i j k = product_of (product_of (basis_of i) (basis_of j)) (basis_of k) ≡ product_of (basis_of i) (product_of (basis_of j) (basis_of k))
+
+  -- at all triples of basis elements
+  abbrev pub IsAssociative : Type 0
+  IsAssociative = (i j k : ℕ) → i < A.dim → j < A.dim → k < A.dim → AssociatesAt i j k
+
+  -- every three elements associate
+  abbrev pub AllAssociate : Type 0
+  AllAssociate = (a b c : List E) → IsElement a → IsElement b → IsElement c → product_of (product_of a b) c ≡ product_of a (product_of b c)

@@ -1,0 +1,67 @@
+// Algebras by their structure constants.
+ghost use Rattle.std.specs.Prelude.{◌≡◌, ℕ, ◌*◌, ◌+◌, ◌^◌, ◌<◌, ◌≤◌, List, length, IfOk};
+ghost use Rattle.theory_rings.specs.Ops.{Ops, IsElem};
+ghost use Rattle.spl_algebra.specs.Algebra.{Structure, IsOver, IsElement, IsAssociative, AllAssociate, product_of};
+
+use crate::products::product_of_slices;
+use spl_field::field::{Field, NoMemory};
+use spl_field::vector::Vector;
+use std::alloc::Global;
+use std::marker::Model;
+
+/// The structure constants of an algebra of dimension m, m³ elements of a field: the one for the basis elements i, j
+/// and k, counted from 0, stands at (i·m + j)·m + k.
+pub type Constants<F> = Vector<F>;
+
+/// An algebra over a field, by its dimension m, at least 1, and its m³ structure constants: the product of the basis
+/// elements i and j is the sum over k of the constant at (i, j, k) times the basis element k. An element is a list of m
+/// elements of the field. It need not be associative or have an identity.
+#[derive(Drop)]
+pub struct Algebra<F: Field> {
+    dim: usize,
+    constants: Constants<F>,
+}
+
+impl<F: Field> Model for Algebra<F> {
+    ghost use Rattle.std.specs.Prelude.{◌≡◌, ◌*◌, ◌^◌, ◌<◌, ◌≤◌, length};
+    ghost use Rattle.spl_algebra.specs.Algebra.{Structure};
+
+    ghost Value = { Structure F.Elem };
+
+    ghost view = { λ a. record { dim = a.dim; constants = a.constants } };
+
+    ghost invariant = { λ a. (1 ≤ a.dim) × (length a.constants ≡ a.dim * a.dim * a.dim) × (a.dim * a.dim * a.dim < 2 ^ 64) };
+}
+
+impl<F: Field> Algebra<F> {
+    /// The algebra of dimension m with these constants.
+    pub fn new(_alloc: Global, f: &F, m: usize, constants: Constants<F>) -> Result<Algebra<F>, NoMemory>
+        requires positive { 1 ≤ m }
+        requires over { IsOver (F.ops f.now) (record { dim = m; constants = constants }) }
+        ensures dim { IfOk result (λ a. a.dim ≡ m) }
+        ensures constants { IfOk result (λ a. a.constants ≡ constants) }
+    {
+        let _ = f;
+        let _ = constants.len();
+        Ok(Algebra { dim: m, constants })
+    }
+
+    /// The dimension.
+    pub fn dim(&self) -> usize
+        ensures dim { result ≡ self.now.dim }
+        ensures positive { 1 ≤ result }
+    {
+        self.dim
+    }
+
+    /// The product of a and b.
+    pub fn mul(&self, alloc: Global, f: &F, a: &Vector<F>, b: &Vector<F>) -> Result<Vector<F>, NoMemory>
+        requires over { IsOver (F.ops f.now) self.now }
+        requires left { IsElement (F.ops f.now) self.now a.now }
+        requires right { IsElement (F.ops f.now) self.now b.now }
+        ensures elem { IfOk result (IsElement (F.ops f.now) self.now) }
+        ensures value { IfOk result (λ r. r ≡ product_of (F.ops f.now) self.now a.now b.now) }
+    {
+        product_of_slices(alloc, f, self.dim, self.constants.as_slice(), a.as_slice(), b.as_slice())
+    }
+}

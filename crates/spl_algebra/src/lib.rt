@@ -1,0 +1,7 @@
+// Algebras of finite dimension over any field, by their structure constants.
+//
+// It stands on spl_field, and on theory_spaces for the definition of the product. Read the type `Algebra` first.
+#![tactic(auto)]
+
+pub mod algebra;
+mod products;

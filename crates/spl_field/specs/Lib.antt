@@ -1,0 +1,3 @@
+pub mod FieldByDigits
+pub mod Tables
+pub mod SmallField

@@ -1,0 +1,209 @@
+// The fields of 2 to 256 elements.
+ghost use Rattle.std.specs.Prelude.{◌≡◌, ◌≢◌, ℕ, ◌*◌, ◌+◌, ◌-◌, ◌%◌, ◌^◌, ◌<◌, ◌≤◌, ◌↔◌, List, length, IsTrue, MatchOption, IfOk, OnOk, IsErrOf, slice_index};
+ghost use Rattle.theory_rings.specs.IntegersMod.{mod_ops};
+ghost use Rattle.theory_rings.proofs.IntegersMod.{mod_laws};
+ghost use Rattle.spl_field.specs.FieldByDigits.{FitsField, IsAdmitted, IsFirstWithoutInverse, IsInverse, digit_sum, digit_negative, digit_product};
+
+use crate::admission::{FieldFault, admits_numbers, inverse_of};
+use crate::field::{Field, NoMemory};
+use std::alloc::{AllocError, Global};
+
+/// A field of q = p^d elements, 2 to 256 of them, which are the numbers below q: each is read as d digits to the base
+/// p, lowest first, the coefficients of a polynomial in t; sums go digit by digit, and products are remainders by the
+/// modulus. The modulus has one number for now, so q is p.
+///
+/// All answers are read from tables that are built once.
+#[derive(Drop)]
+pub struct SmallField {
+    p: u16,
+    modulus: Vec<u8>,
+    sums: Vec<u8>,
+    products: Vec<u8>,
+    negatives: Vec<u8>,
+    inverses: Vec<u8>,
+    ghost least: { 2 ≤ p },
+    ghost most: { p ≤ 256 },
+    ghost one_number: { length modulus.items ≡ 1 },
+    ghost modulus_below: { slice_index modulus.items 0 < p },
+    ghost sums_full: { length sums.items ≡ p * p },
+    ghost sums_are: { (a b : ℕ) → a < p → b < p → slice_index sums.items (a * p + b) ≡ digit_sum p a b },
+    ghost products_full: { length products.items ≡ p * p },
+    ghost products_are: { (a b : ℕ) → a < p → b < p → slice_index products.items (a * p + b) ≡ digit_product p a b },
+    ghost negatives_full: { length negatives.items ≡ p },
+    ghost negatives_are: { (a : ℕ) → a < p → slice_index negatives.items a ≡ digit_negative p a },
+    ghost inverses_full: { length inverses.items ≡ p },
+    ghost inverses_below: { (a : ℕ) → a < p → (slice_index inverses.items a < p) },
+    ghost inverses_are: { (a : ℕ) → 0 < a → a < p → (a * slice_index inverses.items a) % p ≡ 1 },
+}
+
+impl Field for SmallField {
+    type Elem = u8;
+
+    ghost ops = { λ f. mod_ops f.p f.inverses.items };
+
+    ghost laws = { λ f. mod_laws f.p f.least f.inverses.items f.inverses_below f.inverses_are };
+
+    fn zero(&self, _alloc: Global) -> Result<u8, NoMemory> {
+        Ok(0)
+    }
+
+    fn one(&self, _alloc: Global) -> Result<u8, NoMemory> {
+        Ok(1)
+    }
+
+    fn add(&self, _alloc: Global, a: &u8, b: &u8) -> Result<u8, NoMemory> {
+        Ok(self.sum(*a, *b))
+    }
+
+    fn neg(&self, _alloc: Global, a: &u8) -> Result<u8, NoMemory> {
+        Ok(self.negative(*a))
+    }
+
+    fn mul(&self, _alloc: Global, a: &u8, b: &u8) -> Result<u8, NoMemory> {
+        Ok(self.product(*a, *b))
+    }
+
+    fn inv(&self, _alloc: Global, a: &u8) -> Result<Option<u8>, NoMemory> {
+        Ok(self.inverse(*a))
+    }
+
+    fn copy(&self, _alloc: Global, a: &u8) -> Result<u8, NoMemory> {
+        Ok(*a)
+    }
+
+    fn eq(&self, a: &u8, b: &u8) -> bool {
+        *a == *b
+    }
+}
+
+impl SmallField {
+    ghost use Rattle.theory_rings.specs.Power.{power_of};
+    ghost use Rattle.spl_field.specs.SmallField.{characteristic, size_of, modulus_of, small_ops};
+
+    /// Whether p and the modulus give a field: p to the number of digits is 2 to 256, the numbers of the modulus are
+    /// below p, and each nonzero element has an inverse. A fault of size comes before one of the inverses, which
+    /// carries the first element without one. It takes no memory. The modulus has one number for now.
+    pub fn admits(p: u16, modulus: &[u8]) -> Result<(), FieldFault>
+        requires { length modulus.now ≡ 1 }
+        ensures ok { OnOk result (IsAdmitted p modulus.now) }
+        ensures size { IsErrOf result FieldFault.Size → FitsField p modulus.now → ⊥ }
+        ensures no_inverse { (element : ℕ) → IsErrOf result (FieldFault.NoInverse element)
+            → IsFirstWithoutInverse p modulus.now element }
+        ensures no_memory_needed { result ≢ Err FieldFault.Memory }
+    {
+        admits_numbers(p, modulus)
+    }
+
+    /// The field, with its tables. The faults are those of `admits`, and want of memory.
+    pub fn new(alloc: Global, p: u16, modulus: &[u8]) -> Result<SmallField, FieldFault>
+        requires { length modulus.now ≡ 1 }
+        ensures p { IfOk result (λ f. characteristic f ≡ p) }
+        ensures modulus { IfOk result (λ f. modulus_of f ≡ modulus.now) }
+        ensures admitted { OnOk result (IsAdmitted p modulus.now) }
+        ensures size { IsErrOf result FieldFault.Size → FitsField p modulus.now → ⊥ }
+        ensures no_inverse { (element : ℕ) → IsErrOf result (FieldFault.NoInverse element)
+            → IsFirstWithoutInverse p modulus.now element }
+    {
+        admits_numbers(p, modulus)?;
+        Ok(built(alloc, p, modulus)?)
+    }
+
+    /// The characteristic.
+    pub fn p(&self) -> u16
+        ensures p { result ≡ characteristic self.now }
+        ensures least { 2 ≤ result }
+    {
+        self.p
+    }
+
+    /// The number of elements, which are the numbers below it.
+    pub fn size(&self) -> u16
+        ensures size { result ≡ size_of self.now }
+        ensures least { 2 ≤ result }
+        ensures most { result ≤ 256 }
+    {
+        self.p
+    }
+
+    /// The numbers of the modulus, lowest first, without the lead 1.
+    pub fn modulus(&self) -> &[u8]
+        ensures { result.now ≡ modulus_of self.now }
+    {
+        &self.modulus
+    }
+
+    /// The sum.
+    pub fn sum(&self, a: u8, b: u8) -> u8
+        requires left { a < size_of self.now }
+        requires right { b < size_of self.now }
+        ensures elem { result < size_of self.now }
+        ensures value { result ≡ digit_sum (characteristic self.now) a b }
+    {
+        self.sums[a as usize * self.p as usize + b as usize]
+    }
+
+    /// The negative.
+    pub fn negative(&self, a: u8) -> u8
+        requires { a < size_of self.now }
+        ensures elem { result < size_of self.now }
+        ensures value { result ≡ digit_negative (characteristic self.now) a }
+    {
+        self.negatives[a as usize]
+    }
+
+    /// The product.
+    pub fn product(&self, a: u8, b: u8) -> u8
+        requires left { a < size_of self.now }
+        requires right { b < size_of self.now }
+        ensures elem { result < size_of self.now }
+        ensures value { result ≡ digit_product (characteristic self.now) a b }
+    {
+        self.products[a as usize * self.p as usize + b as usize]
+    }
+
+    /// The inverse; None exactly where a is 0.
+    pub fn inverse(&self, a: u8) -> Option<u8>
+        requires { a < size_of self.now }
+        ensures value { MatchOption result (a ≡ 0) (λ b. (a ≢ 0) × IsInverse (characteristic self.now) a b) }
+        ensures same { MatchOption result (a ≡ 0) (λ b. (a ≢ 0) × (b ≡ (small_ops self.now).inv a)) }
+    {
+        if a == 0 {
+            None
+        } else {
+            Some(self.inverses[a as usize])
+        }
+    }
+
+    /// The element whose p-th power is a.
+    pub fn frobenius_root(&self, a: u8) -> u8
+        requires { a < size_of self.now }
+        ensures elem { result < size_of self.now }
+        ensures value { power_of (small_ops self.now) result (characteristic self.now) ≡ a }
+    {
+        a
+    }
+
+    /// An equal field.
+    pub fn duplicate(&self, alloc: Global) -> Result<SmallField, NoMemory>
+        ensures p { IfOk result (λ f. characteristic f ≡ characteristic self.now) }
+        ensures modulus { IfOk result (λ f. modulus_of f ≡ modulus_of self.now) }
+        ensures ops { IfOk result (λ f. small_ops f ≡ small_ops self.now) }
+    {
+        Ok(SmallField {
+            p: self.p,
+            modulus: self.modulus.clone()?,
+            sums: self.sums.clone()?,
+            products: self.products.clone()?,
+            negatives: self.negatives.clone()?,
+            inverses: self.inverses.clone()?,
+        })
+    }
+}
+
+/// The field of an admitted p and modulus, with its tables.
+fn built(alloc: Global, p: u16, modulus: &[u8]) -> Result<SmallField, NoMemory>
+    requires { IsAdmitted p modulus.now }
+    requires one_number { length modulus.now ≡ 1 }
+{
+    todo
+}
