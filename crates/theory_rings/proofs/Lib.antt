@@ -10,7 +10,7 @@ pub mod Primes
 pub mod Pigeonhole
 pub mod Semirings
 pub mod Binomial
-pub mod Frobenius
+pub mod FrobeniusMap
 pub mod Fermat
 pub mod ElementPowers
 pub mod FrobeniusRoots
