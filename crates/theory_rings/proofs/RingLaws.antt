@@ -60,6 +60,11 @@ module _ {K : Type 0} (R : RingOn K) where
   pub neg-mul : (a b : K) → neg a ⊗ b ≡ neg (a ⊗ b)
   neg-mul a b = neg_unique additive (a ⊗ b) (neg a ⊗ b) (sym (R.add-mul a (neg a) b) ∙ ap (λ x. x ⊗ b) (add-neg additive a) ∙ zero-mul b)
 
+  -- what a factor with an inverse makes 0 is 0
+  pub eq_zero_of_mul-unit : (a b u : K) → b ⊗ u ≡ one → a ⊗ b ≡ zero → a ≡ zero
+  eq_zero_of_mul-unit a b u i e =
+      sym (R.mul-one a) ∙ ap (λ x. a ⊗ x) (sym i) ∙ sym (R.mul_assoc a b u) ∙ ap (λ x. x ⊗ u) e ∙ zero-mul u
+
 module _ {K : Type 0} (C : CommRingOn K) where
   infixl 65 ◌⊕◌
   infixl 70 ◌⊗◌

@@ -2,6 +2,12 @@ pub mod Ring
 pub mod Ops
 pub mod Elements
 pub mod Sum
+pub mod Polynomial
+pub mod Division
+pub mod Homomorphism
+pub mod Remainder
+pub mod Fraction
+pub mod Evaluation
 pub mod Power
 pub mod Prime
 pub mod Binomial
