@@ -7,7 +7,7 @@ use Rattle.theory_rings.specs.Prime.{IsPrime}
 use Rattle.theory_rings.specs.Power.{power_by_ops}
 use Rattle.theory_rings.proofs.Primes.{IsPrime-not_dvd, IsPrime-mul_mod_cancel}
 use Rattle.theory_rings.proofs.Semirings.{naturals, power_in-one, power-naturals, times-naturals}
-use Rattle.theory_rings.proofs.Frobenius.{add-power_prime}
+use Rattle.theory_rings.proofs.FrobeniusMap.{add-power_prime}
 
 -- a power by the product modulo n is the power modulo n
 pub power-mod : (n : ℕ) → 2 ≤ n → (a k : ℕ) → power_by_ops 1 (λ x y. (x * y) % n) a k ≡ a ^ k % n

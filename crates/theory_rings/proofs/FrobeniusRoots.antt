@@ -7,7 +7,7 @@ use Rattle.theory_rings.specs.Elements.{Elem, Elem-path, elements}
 use Rattle.theory_rings.specs.Prime.{IsPrime}
 use Rattle.theory_rings.specs.Power.{power, power_of, times, times_of}
 use Rattle.theory_rings.proofs.ElementPowers.{value-power, value-times, power_of-elem}
-use Rattle.theory_rings.proofs.Frobenius.{frobenius_injective}
+use Rattle.theory_rings.proofs.FrobeniusMap.{frobenius_injective}
 use Rattle.theory_rings.proofs.Pigeonhole.{surjective_of_injective}
 
 -- the map on a program's field is one to one

@@ -38,3 +38,5 @@ pub mod Fractions
 pub mod Lowest
 pub mod Evaluation
 pub mod RingPaths
+pub mod FieldProducts
+pub mod FrobeniusMap
