@@ -11,7 +11,6 @@ pub mod Primes
 pub mod Pigeonhole
 pub mod Semirings
 pub mod Binomial
-pub mod Frobenius
 pub mod Fermat
 pub mod ElementPowers
 pub mod FrobeniusRoots
