@@ -44,7 +44,7 @@ impl Field for SmallField {
 
     ghost ops = { λ f. mod_ops f.p f.inverses.items };
 
-    ghost laws = { λ f. mod_laws f.p f.least f.inverses.items f.inverses_below f.inverses_are };
+    ghost laws = { λ f. mod_laws f.p f.least f.inverses.items (record { below = f.inverses_below; inverse = f.inverses_are }) };
 
     fn zero(&self, _alloc: Global) -> Result<u8, NoMemory> {
         Ok(0)
