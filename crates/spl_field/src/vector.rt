@@ -31,6 +31,13 @@ impl<F: Field> Vector<F> {
         }
     }
 
+    /// The list of these items.
+    pub fn from_vec(items: Vec<F::Elem>) -> Self
+        ensures { result ≡ items.items }
+    {
+        Vector { items }
+    }
+
     /// Appends the item.
     pub fn push(&mut self, item: F::Elem) -> Result<(), NoMemory>
         ensures ok { OnOk result (self.new ≡ self.old ++ item ∷ []) }

@@ -1,3 +1,4 @@
 pub mod Module
 pub mod Linear
 pub mod Functions
+pub mod Tuples
