@@ -3,3 +3,4 @@ pub mod Ops
 pub mod Elements
 pub mod Sum
 pub mod IntegersMod
+pub mod Polynomial

@@ -3,3 +3,5 @@ pub mod Modules
 pub mod Decide
 pub mod Dimension
 pub mod Spaces
+pub mod Matrices
+pub mod Traces

@@ -7,7 +7,7 @@ use Rattle.theory_rings.specs.Sum.{sum}
 use Rattle.theory_rings.proofs.RingLaws.{add-zero, add-neg, add_cancel_left, neg_unique, neg-mul}
 use Rattle.theory_rings.proofs.Sums.{sum_congr, sum_eq_zero, sum-add, map-sum, sum_comm, sum-split, sum_eq_single}
 use Rattle.theory_spaces.specs.Module.{ModuleOn}
-use Rattle.theory_spaces.specs.Linear.{comb, InSpan, Independent, Coords, Basis, IsLinear}
+use Rattle.theory_spaces.specs.Linear.{comb, InSpan, Independent, IsLinear}
 use Rattle.theory_spaces.proofs.Families.{push, push-below, push-above, push-at, join, join-below, join-above, put_at, put_at-here, put_at-else, choose}
 
 module _ {K V : Type 0} {R : RingOn K} (M : ModuleOn R V) where
@@ -164,3 +164,15 @@ module _ {K V : Type 0} {R : RingOn K} (M : ModuleOn R V) where
       let turned : R.◌⊗◌ m (d i) ≡ R.neg (d i) = neg-mul R R.one (d i) ∙ ap R.neg (R.one-mul (d i)) in
       add_cancel_left R.additive (R.neg (d i)) (c i) (d i)
       (R.add_comm (R.neg (d i)) (c i) ∙ ap (R.◌⊕◌ (c i)) (sym turned) ∙ z ∙ sym (R.neg-add (d i)))
+
+-- linear maps
+module _ {K V W : Type 0} {R : RingOn K} (M : ModuleOn R V) (N : ModuleOn R W) (f : V → W) (h : IsLinear M N f) where
+  pub map-zero : f M.zero ≡ N.zero
+  map-zero = ap f (sym (zero-scale M M.zero)) ∙ h.map-scale R.zero M.zero ∙ zero-scale N (f M.zero)
+
+  pub map-neg : (x : V) → f (M.neg x) ≡ N.neg (f x)
+  map-neg x = ap f (sym (neg_one-scale M x)) ∙ h.map-scale (R.neg R.one) x ∙ neg_one-scale N (f x)
+
+  pub map-comb : (n : ℕ) (c : ℕ → K) (v : ℕ → V) → f (comb M n c v) ≡ comb N n c (λ i. f (v i))
+  map-comb n c v = map-sum M.monoid N.monoid f map-zero h.map-add n (λ i. M.◌•◌ (c i) (v i))
+      ∙ sum_congr N.monoid n (λ i. f (M.◌•◌ (c i) (v i))) (λ i. N.◌•◌ (c i) (f (v i))) (λ i _. h.map-scale (c i) (v i))
