@@ -1,15 +1,15 @@
 -- Rank and nullity: a basis of a subspace is turned, vector by vector, into vectors that a linear map sends to 0 and
 -- vectors that it sends to independent ones.
-use Rattle.std.specs.Prelude.{◌≡◌, ℕ, zero, suc, ◌+◌, ◌<◌, ◌≤◌, cond, ltb, true, false, Bool, ◌⊎◌}
+use Rattle.std.specs.Prelude.{◌≡◌, ℕ, zero, suc, ◌+◌, ◌<◌, cond, ltb, true, false, Bool}
 use Rattle.std.proofs.Common.{refl, sym, ◌∙◌, ap, ap₂, subst, arith, ⊎_elim}
 use Rattle.theory_rings.specs.Ring.{FieldOn}
 use Rattle.theory_rings.proofs.RingLaws.{add-zero, add-neg}
 use Rattle.theory_rings.proofs.Sums.{sum_eq_zero}
 use Rattle.theory_spaces.specs.Module.{ModuleOn}
 use Rattle.theory_spaces.specs.Linear.{comb, InSpan, Independent, Coords, IsSubmodule, BasisOf, IsLinear}
-use Rattle.theory_spaces.specs.Subspaces.{Kernel, Image, RankNullity}
+use Rattle.theory_spaces.specs.Subspaces.{RankNullity}
 use Rattle.theory_spaces.proofs.Families.{push, push-below, push-at, join, join-below, each_join, below_suc}
-use Rattle.theory_spaces.proofs.Modules.{scale-zero, comb_zero, comb_congr_right, comb-join, InSpan-add, InSpan-neg, InSpan-comb, InSpan-member, InSpan-push, InSpan-push_at, InSpan-join_left, InSpan-join_right, InSpan-join, InSpan_trans, span_in, independent_none, Independent-front, Independent_congr, map-neg, map-comb}
+use Rattle.theory_spaces.proofs.Modules.{scale-zero, comb_zero, comb_congr_right, comb-join, InSpan-add, InSpan-neg, InSpan-comb, InSpan-member, InSpan-join_left, InSpan-join_right, InSpan-join, InSpan_trans, span_in, independent_none, Independent-front, Independent_congr, map-neg, map-comb}
 use Rattle.theory_spaces.proofs.Dimension.{independent_of_span}
 use Rattle.theory_spaces.proofs.Spaces.{extend_or_span}
 

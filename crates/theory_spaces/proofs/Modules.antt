@@ -1,10 +1,9 @@
 -- Combinations of vectors, spans, independent vectors and linear maps.
-use Rattle.std.specs.Prelude.{◌≡◌, ℕ, zero, suc, ◌+◌, ◌-◌, ◌<◌, ◌≤◌, ◌⊎◌}
-use Rattle.std.proofs.Common.{refl, sym, ◌∙◌, ap, ap₂, subst, arith, inl, inr, ⊎_elim}
-use Rattle.std.proofs.lemmas.Bool.{cases_lt}
-use Rattle.theory_rings.specs.Ring.{RingOn, FieldOn}
+use Rattle.std.specs.Prelude.{◌≡◌, ℕ, zero, suc, ◌+◌, ◌-◌, ◌<◌, ◌≤◌}
+use Rattle.std.proofs.Common.{refl, sym, ◌∙◌, ap, ap₂, subst, arith}
+use Rattle.theory_rings.specs.Ring.{RingOn}
 use Rattle.theory_rings.specs.Sum.{sum}
-use Rattle.theory_rings.proofs.RingLaws.{add-zero, add-neg, add_cancel_left, neg_unique, neg-mul}
+use Rattle.theory_rings.proofs.RingLaws.{add-zero, add-neg, add_cancel_left, neg-mul}
 use Rattle.theory_rings.proofs.Sums.{sum_congr, sum_eq_zero, sum-add, map-sum, sum_comm, sum-split, sum_eq_single}
 use Rattle.theory_spaces.specs.Module.{ModuleOn}
 pub use Rattle.theory_spaces.specs.ModuleLaws.{scale-zero, zero-scale, scale-neg, neg-scale, neg_one-scale}

@@ -6,10 +6,11 @@ use Rattle.theory_rings.specs.Ring.{RingOn, FieldOn}
 use Rattle.theory_rings.proofs.RingLaws.{add-zero, add-neg, add_add_add_comm, neg_unique, neg_neg}
 use Rattle.theory_rings.proofs.Sums.{sum_eq_zero}
 use Rattle.theory_spaces.specs.Module.{ModuleOn}
-use Rattle.theory_spaces.specs.Linear.{comb, InSpan, Independent, Coords, IsSubmodule, BasisOf, IsLinear}
-use Rattle.theory_spaces.specs.Subspaces.{Kernel, Image, RankNullity, Sum, Meet, SumAndMeet, pairs}
+use Rattle.theory_spaces.specs.Linear.{comb, Coords, IsSubmodule, Basis, BasisOf, IsLinear}
+use Rattle.theory_spaces.specs.Subspaces.{Whole, Kernel, Image, Sum, Meet, SumAndMeet, pairs}
 use Rattle.theory_spaces.proofs.Families.{join, join-below, join-above, each_join}
 use Rattle.theory_spaces.proofs.Modules.{neg_one-scale, scale-zero, comb_congr, comb-join, map-comb}
+use Rattle.theory_spaces.proofs.Spaces.{BasisOf-size}
 use Rattle.theory_spaces.proofs.Kernels.{rank_nullity}
 
 module _ {K V : Type 0} {R : RingOn K} (M : ModuleOn R V) where
@@ -20,6 +21,17 @@ module _ {K V : Type 0} {R : RingOn K} (M : ModuleOn R V) where
     independent = B.independent;
     inside = λ j l. to (B.vec j) (B.inside j l);
     spans = λ x t. B.spans x (from x t);
+  }
+
+  pub whole_submodule : IsSubmodule M Whole
+  whole_submodule = record { zero-in = tt; add-in = λ x y g h. tt; scale-in = λ a x g. tt }
+
+  pub whole_basis : (n : ℕ) → Basis M n → BasisOf M n Whole
+  whole_basis n B = record {
+    vec = B.vec;
+    independent = B.independent;
+    inside = λ j l. tt;
+    spans = λ x h. record { weights = B.coord x; combines = B.expand x };
   }
 
   pub neg_in : (S : V → Type 0) → IsSubmodule M S → (x : V) → S x → S (M.neg x)
@@ -153,3 +165,22 @@ module _ {K V : Type 0} (F : FieldOn K) (M : ModuleOn F.ring V) (m : ℕ) (C : C
               (λ y g. (g.0.0, g.0.1, g.1.0, g.1.1, sym g.2)) (λ y g. ((g.0, g.1), (g.2, g.3), sym g.4)) h.image;
           meet = meet_basis h.nullity h.kernel;
         }
+
+    -- whatever the bases are
+    pub sum_add_meet : (k l s t : ℕ) → BasisOf M k U → BasisOf M l W → BasisOf M s (Sum M U W) → BasisOf M t (Meet M U W) → s + t ≡ k + l
+    sum_add_meet k l s t B D P Q =
+        let h = sum_and_meet k l B D in
+        let total = h.total in
+        let e : s ≡ h.sum_size = BasisOf-size F M s h.sum_size (Sum M U W) P h.sum in
+        let d : t ≡ h.meet_size = BasisOf-size F M t h.meet_size (Meet M U W) Q h.meet in
+        omega arith
+
+module _ {K V W : Type 0} (F : FieldOn K) (M : ModuleOn F.ring V) (N : ModuleOn F.ring W) (m : ℕ) (C : Coords N m) (f : V → W) (lf : IsLinear M N f) where
+  -- whatever the bases of kernel and image are
+  pub nullity_add_rank : (S : V → Type 0) → IsSubmodule M S → (n k r : ℕ) → BasisOf M n S → BasisOf M k (Kernel M N f S) → BasisOf N r (Image M N f S) → k + r ≡ n
+  nullity_add_rank S h n k r B P Q =
+      let g = rank_nullity F M N m C f lf S h n B in
+      let total = g.total in
+      let e : k ≡ g.nullity = BasisOf-size F M k g.nullity (Kernel M N f S) P g.kernel in
+      let d : r ≡ g.rank = BasisOf-size F N r g.rank (Image M N f S) Q g.image in
+      omega arith

@@ -1,6 +1,6 @@
 -- Kernel, image, sum and meet of subspaces with their dimensions.
 use Rattle.std.specs.Prelude.{◌≡◌, ℕ, ◌+◌, ◌<◌}
-use Rattle.theory_rings.specs.Ring.{AddCommGroupOn, RingOn}
+use Rattle.theory_rings.specs.Ring.{RingOn}
 use Rattle.theory_spaces.specs.Module.{ModuleOn}
 use Rattle.theory_spaces.specs.Linear.{Basis, BasisOf}
 use Rattle.theory_spaces.specs.Quotient.{SubmoduleOn, quotient_module}

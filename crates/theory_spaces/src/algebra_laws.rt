@@ -1,8 +1,9 @@
 // Theorems on algebras with a basis.
 ghost use Rattle.std.specs.Prelude.{◌≡◌, ℕ};
-ghost use Rattle.theory_rings.specs.Ring.{FieldOn};
+ghost use Rattle.theory_rings.specs.Ring.{CommRingOn, FieldOn};
 ghost use Rattle.theory_spaces.specs.Module.{AlgebraOn, module_of};
 ghost use Rattle.theory_spaces.specs.Linear.{Basis};
+ghost use Rattle.theory_spaces.specs.Matrix.{Matrix, mat_mul, mat_trace};
 ghost use Rattle.theory_spaces.specs.Algebra.{trace, IsNilpotent, Nondegenerate, Central, CentralSimple};
 
 /// An algebra over a field, with a basis.
@@ -34,4 +35,16 @@ pub fn trace_of_nilpotent<A: BasedAlgebra>()
 /// An algebra whose trace form is nondegenerate and whose centre is the multiples of one is central simple.
 pub fn central_simple<A: BasedAlgebra>()
     ensures { Nondegenerate A.algebra A.dimension A.basis → Central A.algebra → CentralSimple A.algebra }
+{}
+
+/// A commutative ring.
+pub trait Scalars {
+    ghost Elem: { Type 0 };
+
+    ghost ring: { CommRingOn Elem };
+}
+
+/// The trace of a product of an n by m and an m by n matrix is the same for both orders.
+pub fn trace_of_matrix_product<S: Scalars>()
+    ensures { (n m : ℕ) (A B : Matrix S.Elem) → mat_trace S.ring.ring n (mat_mul S.ring.ring m A B) ≡ mat_trace S.ring.ring m (mat_mul S.ring.ring n B A) }
 {}
