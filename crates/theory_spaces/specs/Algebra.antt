@@ -40,6 +40,10 @@ module _ {K V : Type 0} {R : RingOn K} (A : AlgebraOn R V) where
     pub central : Central
     pub simple : (n : ℕ) (g : ℕ → V) → IdealSpan n g → ((i : ℕ) → i < n → g i ≡ A.zero) ⊎ ((x : V) → InSpan (module_of A) n g x)
 
+  -- x is in the corner of the idempotent e: x = ex = xe
+  abbrev pub InCorner : V → V → Type 0
+  InCorner e x = (A.◌⊗◌ e x ≡ x) × (A.◌⊗◌ x e ≡ x)
+
   module _ (n : ℕ) (B : Basis (module_of A) n) where
     -- the trace of the multiplication by x from the left
     abbrev pub trace : V → K
