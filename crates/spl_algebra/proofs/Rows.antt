@@ -8,7 +8,8 @@ use Rattle.theory_rings.specs.Sum.{at, sum_of, table}
 use Rattle.theory_rings.proofs.Lists.{length-table, get_or-table}
 use Rattle.theory_spaces.specs.Tuples.{IsTuple, product}
 use Rattle.spl_algebra.specs.Products.{AddsEach, scaled_rows, sum_of_rows}
-use Rattle.spl_algebra.proofs.Terms.{add-zero, mul-zero, zero-mul, at-elem, sum_of-elem, sum_of-next, sum_of-congr, sum_of_eq_zero}
+use Rattle.spl_algebra.proofs.Terms.{add-zero, mul-zero, zero-mul, sum_of-next, sum_of_eq_zero}
+use Rattle.theory_spaces.proofs.Tuples.{at-elem, sum_of-elem, sum_of_congr}
 use Rattle.spl_algebra.proofs.Steps.{AddsEach-zero, AddsEach-then, AddsEach-congr, AddsEach-zeros, table-at, scaled_rows-elem}
 
 -- row i of n rows of m items ends within them
@@ -26,8 +27,8 @@ module _ {E : Type 0} (o : Ops E) (L : FieldLaws o) where
   pub scaled_rows-one : (m : ℕ) (one : E) (b rows : List E) (stride k : ℕ) → one ≡ o.one → All (IsElem o) b
       → scaled_rows o m one b rows stride k ≡ sum_of_rows o m b rows stride k
   scaled_rows-one m one b rows stride k e hb =
-      sum_of-congr o m (λ l. o.mul (o.mul one (at o b l)) (at o rows (l * stride + k))) (λ l. o.mul (at o b l) (at o rows (l * stride + k)))
-      (λ l _. ap (λ y. o.mul y (at o rows (l * stride + k))) (ap (λ y. o.mul y (at o b l)) e ∙ L.one-mul (at o b l) (at-elem o L b l hb)))
+      sum_of_congr o L m (λ l. o.mul (o.mul one (at o b l)) (at o rows (l * stride + k))) (λ l. o.mul (at o b l) (at o rows (l * stride + k)))
+      (λ l _. ap (λ y. o.mul y (at o rows (l * stride + k))) (ap (λ y. o.mul y (at o b l)) e ∙ L.one-mul (at o b l) (at-elem o L b hb l)))
 
   -- a list of zeros after the rows are added
   pub sum_of_rows-table : (m : ℕ) (old new : List E) (one : E) (b rows : List E) (stride : ℕ) → old ≡ table m (λ _. o.zero) → one ≡ o.one
@@ -44,7 +45,7 @@ module _ {E : Type 0} (o : Ops E) (L : FieldLaws o) where
       sum_of_rows-elem : (m : ℕ) (b rows : List E) (stride k : ℕ) → All (IsElem o) b → All (IsElem o) rows → IsElem o (sum_of_rows o m b rows stride k)
       sum_of_rows-elem m b rows stride k hb hr =
           sum_of-elem o L m (λ l. o.mul (at o b l) (at o rows (l * stride + k)))
-          (λ l _. L.mul-elem (at o b l) (at o rows (l * stride + k)) (at-elem o L b l hb) (at-elem o L rows (l * stride + k) hr))
+          (λ l _. L.mul-elem (at o b l) (at o rows (l * stride + k)) (at-elem o L b hb l) (at-elem o L rows hr (l * stride + k)))
 
 -- at k the part of a product that item i of the first factor gives, and the first n of these parts
 abbrev pub part_of_product : {E : Type 0} → Ops E → ℕ → List E → List E → List E → ℕ → ℕ → E
@@ -59,7 +60,7 @@ module _ {E : Type 0} (o : Ops E) (L : FieldLaws o) where
   part_of_product-elem m c a b i k hc ha hb =
       sum_of-elem o L m (λ j. o.mul (o.mul (at o a i) (at o b j)) (at o c ((i * m + j) * m + k)))
       (λ j _. L.mul-elem (o.mul (at o a i) (at o b j)) (at o c ((i * m + j) * m + k))
-        (L.mul-elem (at o a i) (at o b j) (at-elem o L a i ha) (at-elem o L b j hb)) (at-elem o L c ((i * m + j) * m + k) hc))
+      (L.mul-elem (at o a i) (at o b j) (at-elem o L a ha i) (at-elem o L b hb j)) (at-elem o L c hc ((i * m + j) * m + k)))
 
   parts_of_product-elem : (m : ℕ) (c a b : List E) (n k : ℕ) → All (IsElem o) c → All (IsElem o) a → All (IsElem o) b
       → IsElem o (parts_of_product o m c a b n k)
@@ -68,10 +69,10 @@ module _ {E : Type 0} (o : Ops E) (L : FieldLaws o) where
   -- the rows from row i·m on
   scaled_rows-part : (m : ℕ) (c a b : List E) (i k : ℕ) → scaled_rows o m (at o a i) b (drop (i * m * m) c) m k ≡ part_of_product o m c a b i k
   scaled_rows-part m c a b i k =
-      sum_of-congr o m (λ j. o.mul (o.mul (at o a i) (at o b j)) (at o (drop (i * m * m) c) (j * m + k)))
+      sum_of_congr o L m (λ j. o.mul (o.mul (at o a i) (at o b j)) (at o (drop (i * m * m) c) (j * m + k)))
       (λ j. o.mul (o.mul (at o a i) (at o b j)) (at o c ((i * m + j) * m + k)))
       (λ j _. ap (o.mul (o.mul (at o a i) (at o b j))) (get_or-drop (i * m * m) c (j * m + k) o.zero
-        ∙ ap (at o c) (let e : i * m * m + (j * m + k) ≡ (i * m + j) * m + k = omega (arith, nat.add-mul (i * m) j m) in e)))
+      ∙ ap (at o c) (let e : i * m * m + (j * m + k) ≡ (i * m + j) * m + k = omega (arith, nat.add-mul (i * m) j m) in e)))
 
   pub parts-none : (m : ℕ) (old : List E) (c a b : List E) → All (IsElem o) old → AddsEach o old old (parts_of_product o m c a b 0)
   parts-none m old c a b h = AddsEach-zero o L old (parts_of_product o m c a b 0) h (λ k. refl)
@@ -85,9 +86,9 @@ module _ {E : Type 0} (o : Ops E) (L : FieldLaws o) where
   parts-more m old mid new c a b i x rows long h hc ha hb ex er p q =
       AddsEach-then o L old mid new (parts_of_product o m c a b i) (part_of_product o m c a b i) (parts_of_product o m c a b (i + 1)) h p
       (AddsEach-congr o L mid new (scaled_rows o (length mid) x b rows m) (part_of_product o m c a b i) (λ k _.
-        ap (λ n. scaled_rows o n x b rows m k) (p.long ∙ long)
-        ∙ ap₂ (λ y r. scaled_rows o m y b r m k) ex er
-        ∙ scaled_rows-part m c a b i k) q)
+      ap (λ n. scaled_rows o n x b rows m k) (p.same_length ∙ long)
+      ∙ ap₂ (λ y r. scaled_rows o m y b r m k) ex er
+      ∙ scaled_rows-part m c a b i k) q)
       (λ k _. parts_of_product-elem m c a b i k hc ha hb) (λ k _. part_of_product-elem m c a b i k hc ha hb)
       (λ k _. sum_of-next o i (λ i. part_of_product o m c a b i k))
 
@@ -96,12 +97,12 @@ module _ {E : Type 0} (o : Ops E) (L : FieldLaws o) where
       → AddsEach o old new (parts_of_product o m c a b i) → AddsEach o old new (parts_of_product o m c a b (i + 1))
   parts-skip m old new c a b i hc ha hb z p =
       AddsEach-congr o L old new (parts_of_product o m c a b i) (parts_of_product o m c a b (i + 1)) (λ k _.
-        sym (sum_of-next o i (λ i. part_of_product o m c a b i k)
-        ∙ ap (o.add (parts_of_product o m c a b i k)) (sum_of_eq_zero o L m (λ j. o.mul (o.mul (at o a i) (at o b j)) (at o c ((i * m + j) * m + k)))
-          (λ j _. ap (λ x. o.mul (o.mul x (at o b j)) (at o c ((i * m + j) * m + k))) z
-            ∙ ap (λ x. o.mul x (at o c ((i * m + j) * m + k))) (zero-mul o L (at o b j) (at-elem o L b j hb))
-            ∙ zero-mul o L (at o c ((i * m + j) * m + k)) (at-elem o L c ((i * m + j) * m + k) hc)))
-        ∙ add-zero o L (parts_of_product o m c a b i k) (parts_of_product-elem m c a b i k hc ha hb))) p
+      sym (sum_of-next o i (λ i. part_of_product o m c a b i k)
+      ∙ ap (o.add (parts_of_product o m c a b i k)) (sum_of_eq_zero o L m (λ j. o.mul (o.mul (at o a i) (at o b j)) (at o c ((i * m + j) * m + k)))
+      (λ j _. ap (λ x. o.mul (o.mul x (at o b j)) (at o c ((i * m + j) * m + k))) z
+      ∙ ap (λ x. o.mul x (at o c ((i * m + j) * m + k))) (zero-mul o L (at o b j) (at-elem o L b hb j))
+      ∙ zero-mul o L (at o c ((i * m + j) * m + k)) (at-elem o L c hc ((i * m + j) * m + k))))
+      ∙ add-zero o L (parts_of_product o m c a b i k) (parts_of_product-elem m c a b i k hc ha hb))) p
 
   pub parts-all : (m : ℕ) (old new : List E) (c a b : List E) → old ≡ table m (λ _. o.zero) → All (IsElem o) c → All (IsElem o) a → All (IsElem o) b
       → AddsEach o old new (parts_of_product o m c a b m) → new ≡ product o m c a b

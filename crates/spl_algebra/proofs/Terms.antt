@@ -10,10 +10,6 @@ use Rattle.theory_rings.specs.Sum.{at, sum_of}
 use Rattle.theory_rings.proofs.RingLaws as ring
 
 module _ {E : Type 0} (o : Ops E) where
-  pub sum_of-congr : (n : ℕ) (f g : ℕ → E) → ((i : ℕ) → i < n → f i ≡ g i) → sum_of o n f ≡ sum_of o n g
-  sum_of-congr zero f g h = refl
-  sum_of-congr (suc n) f g h = ap₂ o.add (sum_of-congr n f g (λ i l. h i (omega arith))) (h n (omega arith))
-
   -- one more term
   pub sum_of-next : (n : ℕ) (f : ℕ → E) → sum_of o (n + 1) f ≡ o.add (sum_of o n f) (f n)
   sum_of-next n f = rw add-one refl
@@ -35,15 +31,6 @@ module _ {E : Type 0} (o : Ops E) (L : FieldLaws o) where
   pub add-mul_zero : (a x y : E) → IsElem o a → IsElem o x → y ≡ o.zero → o.add a (o.mul x y) ≡ a
   add-mul_zero a x y h k e = ap (o.add a) (ap (o.mul x) e ∙ mul-zero x k) ∙ add-zero a h
 
-  -- each item of a list of elements, and the zero past its end
-  pub at-elem : (xs : List E) (k : ℕ) → All (IsElem o) xs → IsElem o (at o xs k)
-  at-elem xs k h =
-      ⊎_elim (λ l. All-get_or (IsElem o) xs k o.zero l h) (λ l. rw (get_or_past xs k o.zero l) L.zero-elem) (cases_lt k (length xs))
-
-  pub sum_of-elem : (n : ℕ) (f : ℕ → E) → ((i : ℕ) → i < n → IsElem o (f i)) → IsElem o (sum_of o n f)
-  sum_of-elem zero f h = L.zero-elem
-  sum_of-elem (suc n) f h = L.add-elem (sum_of o n f) (f n) (sum_of-elem n f (λ i l. h i (omega arith))) (h n (omega arith))
-
   pub sum_of_eq_zero : (n : ℕ) (f : ℕ → E) → ((i : ℕ) → i < n → f i ≡ o.zero) → sum_of o n f ≡ o.zero
   sum_of_eq_zero zero f h = refl
   sum_of_eq_zero (suc n) f h =
@@ -55,8 +42,8 @@ module _ {E : Type 0} (o : Ops E) (L : FieldLaws o) where
   sum_of_eq_single (suc n) k f l h z = ⊎_elim
       (λ g. ap₂ o.add (sum_of_eq_single n k f g h (λ i m. z i (omega arith))) (z n (omega arith) (λ e. omega arith)) ∙ add-zero (f k) h)
       (λ g.
-        let e : n ≡ k = omega arith in
-        ap₂ (λ x i. o.add x (f i)) (sum_of_eq_zero n f (λ i m. z i (omega arith) (λ e. omega arith))) e ∙ L.zero-add (f k) h)
+      let e : n ≡ k = omega arith in
+      ap₂ (λ x i. o.add x (f i)) (sum_of_eq_zero n f (λ i m. z i (omega arith) (λ e. omega arith))) e ∙ L.zero-add (f k) h)
       (cases_lt k n)
 
 -- an item that was read, whatever stands past the end

@@ -5,8 +5,8 @@ use Rattle.theory_rings.specs.Sum.{at, sum_of}
 
 -- new is as long as old, and each of its items is an element: the one of old plus f of its place
 pub record AddsEach {E : Type 0} (o : Ops E) (old new : List E) (f : ℕ → E) : Type 0 where
-  pub long : length new ≡ length old
-  pub elems : All (IsElem o) new
+  pub same_length : length new ≡ length old
+  pub of_elements : All (IsElem o) new
   pub item : (k : ℕ) → k < length old → at o new k ≡ o.add (at o old k) (f k)
 
 -- at k the sum over l of x·b_l times item k of row l, where a row begins each stride items

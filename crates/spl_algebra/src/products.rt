@@ -98,7 +98,16 @@ pub(crate) fn product_of_slices<F: Field>(
     let mut sums = zeros(alloc, f, m)?;
     for i in 0..m {
         if !f.eq(&a[i], &zero) {
-            add_rows(alloc, f, &zero, &mut sums, &a[i], b, &constants[i * m * m..], m)?;
+            add_rows(
+                alloc,
+                f,
+                &zero,
+                &mut sums,
+                &a[i],
+                b,
+                &constants[i * m * m..],
+                m,
+            )?;
         }
     }
     Ok(Vector::from_vec(sums))

@@ -2,7 +2,6 @@ pub mod Module
 pub mod ModuleLaws
 pub mod Linear
 pub mod Functions
-pub mod Tuples
 pub mod Matrix
 pub mod Algebra
 pub mod Tuples
