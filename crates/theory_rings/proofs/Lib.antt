@@ -7,3 +7,16 @@ pub mod Lists
 pub mod Series
 pub mod ZeroTests
 pub mod PolynomialRing
+pub mod Fields
+pub mod Powers
+pub mod Times
+pub mod Divisibility
+pub mod ClosedSets
+pub mod Primes
+pub mod Pigeonhole
+pub mod Semirings
+pub mod Binomial
+pub mod Frobenius
+pub mod Fermat
+pub mod ElementPowers
+pub mod FrobeniusRoots

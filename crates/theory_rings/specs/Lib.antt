@@ -4,3 +4,6 @@ pub mod Elements
 pub mod Sum
 pub mod IntegersMod
 pub mod Polynomial
+pub mod Power
+pub mod Prime
+pub mod Binomial
