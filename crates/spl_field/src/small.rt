@@ -1,5 +1,5 @@
 // The fields of 2 to 256 elements.
-ghost use Rattle.std.specs.Prelude.{◌≡◌, ◌≢◌, ℕ, ◌*◌, ◌+◌, ◌%◌, ◌<◌, ◌≤◌, length, MatchOption, IfOk, OnOk, IsErrOf, slice_index};
+ghost use Rattle.std.specs.Prelude.{◌≡◌, ◌≢◌, ℕ, ◌*◌, ◌+◌, ◌%◌, ◌^◌, ◌<◌, ◌≤◌, length, MatchOption, IfOk, OnOk, IsErrOf, slice_index};
 ghost use Rattle.theory_rings.specs.IntegersMod.{mod_ops};
 ghost use Rattle.theory_rings.proofs.IntegersMod.{mod_laws};
 ghost use Rattle.spl_field.specs.FieldByDigits.{FitsField, IsAdmitted, IsFirstWithoutInverse, IsInverse, digit_sum, digit_negative, digit_product};
@@ -80,6 +80,7 @@ impl Field for SmallField {
 }
 
 impl SmallField {
+    ghost use Rattle.theory_rings.specs.Power.{power_of};
     ghost use Rattle.spl_field.specs.SmallField.{characteristic, size_of, modulus_of, small_ops};
 
     /// Whether p and the modulus give a field: p to the number of digits is 2 to 256, the numbers of the modulus are
@@ -138,6 +139,7 @@ impl SmallField {
     /// The number of elements, which are the numbers below it.
     pub fn size(&self) -> u16
         ensures size { result ≡ size_of self.now }
+        ensures power { result ≡ characteristic self.now ^ length (modulus_of self.now) }
         ensures least { 2 ≤ result }
         ensures most { result ≤ 256 }
     {
@@ -192,6 +194,15 @@ impl SmallField {
         } else {
             Some(self.inverses[usize::from(a)])
         }
+    }
+
+    /// The element whose p-th power is a. Where q is p this is a, by Fermat's little theorem.
+    pub fn frobenius_root(&self, a: u8) -> u8
+        requires { a < size_of self.now }
+        ensures elem { result < size_of self.now }
+        ensures value { power_of (small_ops self.now) result (characteristic self.now) ≡ a }
+    {
+        a
     }
 
     /// An equal field.

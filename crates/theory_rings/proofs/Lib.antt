@@ -2,6 +2,11 @@ pub mod RingLaws
 pub mod Sums
 pub mod Solver
 pub mod IntegersMod
+pub mod Embedding
+pub mod Lists
+pub mod Series
+pub mod ZeroTests
+pub mod PolynomialRing
 pub mod Fields
 pub mod Powers
 pub mod Times
@@ -16,11 +21,6 @@ pub mod ElementPowers
 pub mod FrobeniusRoots
 pub mod NaturalSums
 pub mod Digits
-pub mod Embedding
-pub mod Lists
-pub mod Series
-pub mod ZeroTests
-pub mod PolynomialRing
 pub mod Degrees
 pub mod DigitPolynomials
 pub mod FieldByDigits

@@ -8,7 +8,7 @@ use Rattle.theory_rings.proofs.RingLaws.{add-zero, neg_unique, mul-zero}
 use Rattle.theory_rings.proofs.Sums.{sum_congr, map-sum}
 use Rattle.theory_rings.proofs.ZeroTests.{eq_zero_or}
 use Rattle.theory_spaces.specs.Module.{ModuleOn}
-use Rattle.theory_spaces.specs.Linear.{comb, InSpan, Independent, Coords, Basis, BasisOf}
+use Rattle.theory_spaces.specs.Linear.{comb, InSpan, Independent, Coords, Basis, BasisOf, Extension}
 use Rattle.theory_spaces.proofs.Families.{push, push-below, push-above, push-at, below_suc}
 use Rattle.theory_spaces.proofs.Modules.{zero-scale, scale-neg, neg-scale, comb_zero, comb_congr, comb-add, comb-scale, comb-push, comb_injective, InSpan_trans, InSpan-member, InSpan-push, InSpan-push_at, independent_none}
 use Rattle.theory_spaces.proofs.Decide.{decide, Related, Free}
@@ -187,16 +187,11 @@ module _ {K V : Type 0} (F : FieldOn K) (M : ModuleOn F.ring V) where
       let g : m ≤ n = exchange F M m n C.vec B.vec C.independent (λ i g. B.spans (C.vec i) (C.inside i g)) in
       omega arith
 
-  -- a basis that begins with the k vectors u
-  pub record Extension (k : ℕ) (u : ℕ → V) (n : ℕ) : Type 0 where
-    pub basis : Basis M n
-    pub starts : (i : ℕ) → i < k → basis.vec i ≡ u i
-
   -- independent vectors are the first of a basis
-  pub extend_basis : (n : ℕ) → Basis M n → (k : ℕ) (u : ℕ → V) → Independent M k u → Extension k u n
+  pub extend_basis : (n : ℕ) → Basis M n → (k : ℕ) (u : ℕ → V) → Independent M k u → Extension M k u n
   extend_basis n B k u h =
       let g = grow F M n (coords_of M n B) k u h n B.vec in
       let spans : (x : V) → InSpan M g.size g.vec x = λ x.
       InSpan_trans M n g.size B.vec g.vec x g.spans (record { weights = B.coord x; combines = B.expand x }) in
       let C : Basis M g.size = basis_of M g.size g.vec g.independent spans in
-      subst (Extension k u) (dimension_unique F M g.size n C B) (record { basis = C; starts = g.starts })
+      subst (Extension M k u) (dimension_unique F M g.size n C B) (record { basis = C; starts = g.starts })
