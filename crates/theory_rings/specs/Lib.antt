@@ -9,7 +9,6 @@ pub mod Prime
 pub mod Binomial
 pub mod Naturals
 pub mod Digits
-pub mod Polynomial
 pub mod FieldByDigits
 pub mod Division
 pub mod Homomorphism
