@@ -1,2 +1,4 @@
 mod Words
 mod Places
+mod Lines
+mod Filling

@@ -1,7 +1,7 @@
 -- Where the constants of triples stand: each below the number of constants, apart, and in the order of the triples.
-use Rattle.std.proofs.Common.{◌≡◌, ℕ, ◌+◌, ◌-◌, ◌*◌, ◌<◌, ◌≤◌, Bool, true, ◌&&◌, leb, ltb, IsTrue, refl, sym, ap, ◌∙◌, arith}
+use Rattle.std.proofs.Common.{◌≡◌, ℕ, ◌+◌, ◌-◌, ◌*◌, ◌/◌, ◌%◌, ◌<◌, ◌≤◌, Bool, true, ◌&&◌, leb, ltb, IsTrue, refl, sym, ap, ◌∙◌, arith}
 use Rattle.std.proofs.lemmas.Bool.{and_parts, and_from, leb-true, ltb-true, le-leb, lt-ltb}
-use Rattle.std.proofs.lemmas.Nat.{mul-add-lt}
+use Rattle.std.proofs.lemmas.Nat.{mul-add-lt, div-mul-add, mod-mul-add}
 use Rattle.std.proofs.Math.Nat.{mul_comm}
 use Rattle.spl_table.specs.TableText.{Entry}
 use Rattle.spl_table.specs.Reading.{entry_fits, place_of}
@@ -51,3 +51,12 @@ pub place_of-lt : (m p : ℕ) (e : Entry) → entry_fits m p e ≡ true → plac
 place_of-lt m p e test =
     let fits = Fits-from_test m p e test in
     place-lt m (e.i - 1) (e.j - 1) (e.k - 1) (omega (arith, fits)) (omega arith) (omega arith)
+
+-- triples at one place are one
+pub place_injective : (m i j k i' j' k' : ℕ) → j < m → k < m → j' < m → k' < m → place m i j k ≡ place m i' j' k' → (i ≡ i') × (j ≡ j') × (k ≡ k')
+place_injective m i j k i' j' k' j_below k_below j'_below k'_below e =
+    let rows : i * m + j ≡ i' * m + j' = sym (div-mul-add (i * m + j) m k k_below) ∙ ap (λ x. x / m) e ∙ div-mul-add (i' * m + j') m k' k'_below in
+    let last : k ≡ k' = sym (mod-mul-add (i * m + j) m k k_below) ∙ ap (λ x. x % m) e ∙ mod-mul-add (i' * m + j') m k' k'_below in
+    let first : i ≡ i' = sym (div-mul-add i m j j_below) ∙ ap (λ x. x / m) rows ∙ div-mul-add i' m j' j'_below in
+    let middle : j ≡ j' = sym (mod-mul-add i m j j_below) ∙ ap (λ x. x % m) rows ∙ mod-mul-add i' m j' j'_below in
+    (first, middle, last)

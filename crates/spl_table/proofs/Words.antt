@@ -53,6 +53,10 @@ split_once_takes separator bytes front rest e =
     let parts = some_pair_parts (take at.0 bytes) front (drop (at.0 + 1) bytes) rest at.2 in
     rw is at whole ∙ cc (found.1, parts.0, parts.1)
 
+-- what stands after the separator is shorter than all
+pub split_once-shorter : (separator : ℕ) (bytes front rest : List ℕ) → split_once separator bytes ≡ Some (front, rest) → length rest < length bytes
+split_once-shorter separator bytes front rest e = rw (split_once_takes separator bytes front rest e) (omega (arith, length-append front (separator ∷ rest)))
+
 pub split_once_again : (separator : ℕ) (front rest : List ℕ) → Lacks separator front → split_once separator (front ++ separator ∷ rest) ≡ Some (front, rest)
 split_once_again separator front rest lacks =
     let bytes = front ++ separator ∷ rest in

@@ -1,5 +1,6 @@
 // Reading the text of a table.
 
+mod constants;
 mod entries;
 mod head;
 mod words;

@@ -42,7 +42,7 @@ impl EntryLine {
     }
 
     /// Where the constant of the triple stands among the m³.
-    fn place(&self, m: u32, p: u32) -> usize
+    pub fn place(&self, m: u32, p: u32) -> usize
         requires small { m ≤ 25 }
         requires fits { IsTrue (entry_fits m p (entry self.now)) }
         ensures place { result ≡ place_of m (entry self.now) }
@@ -54,7 +54,7 @@ impl EntryLine {
 
     /// The entry of the line, where it fits and stands at the place `next` or a later one.
     #[tactic(auto, unfolding(crate::specs::Reading::entry_from))]
-    fn from_line(line: &[u8], m: u32, p: u32, next: usize) -> Option<EntryLine>
+    pub fn from_line(line: &[u8], m: u32, p: u32, next: usize) -> Option<EntryLine>
         requires small { m ≤ 25 }
         ensures entry { Gives entry result (entry_from m p next line.now) }
         ensures fits { IfSome result (λ e. IsTrue (entry_fits m p (entry e))) }
