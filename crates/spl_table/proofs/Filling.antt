@@ -6,21 +6,22 @@ use Rattle.std.specs.List.{AllByRecursion}
 use Rattle.std.specs.Cmp.Lexicographic.{pointwise}
 use Rattle.std.proofs.lemmas.Bool.{eqb-true, eq-eqb, ne_eqb, and_parts, leb-true, cases_eq, cases_Bool, false_from_ne_true}
 use Rattle.std.proofs.lemmas.List.{length-set, get_or-set_same, get_or-set_other, get_or-replicate, length-replicate, append-nil}
+use Rattle.std.proofs.lemmas.Option.{option_and_then_some}
 use Rattle.spl_table.specs.TableText.{Entry, constant_at}
 use Rattle.spl_table.specs.Words.{◌>>=◌, split_once}
 use Rattle.spl_table.specs.Reading.{entry_of, entry_from, entry_fits, place_of, entries_of, is_over, lines_of, Holds}
 use Rattle.spl_table.proofs.Lines.{lines_of-split, lines_of_last, is_over-lines_of}
-use Rattle.spl_table.proofs.Words.{bind_some, then_some_some}
+use Rattle.spl_table.proofs.Words.{then_some_some}
 use Rattle.spl_table.proofs.Places.{Fits, Fits-from_test, place, place-lt, place_of-lt, place_injective}
 
 -- an entry that was read fits, and stands where none stood before
 pub entry_from_fits : (m p next : ℕ) (line : List ℕ) (e : Entry) → entry_from m p next line ≡ Some e → (entry_fits m p e ≡ true) × (next ≤ place_of m e)
 unfolding entry_from
 entry_from_fits m p next line e read =
-    let found = bind_some (entry_of line) (λ f. then_some (entry_fits m p f && leb next (place_of m f)) f) e read in
-    let passed = then_some_some (entry_fits m p found.0 && leb next (place_of m found.0)) found.0 e found.2 in
-    let parts = and_parts (entry_fits m p found.0) (leb next (place_of m found.0)) passed.0 in
-    subst (λ (f : Entry). (entry_fits m p f ≡ true) × (next ≤ place_of m f)) passed.1 (parts.0, leb-true _ _ parts.1)
+    option_and_then_some _ (entry_of line) e read (λ f spelled then.
+    let passed = then_some_some (entry_fits m p f && leb next (place_of m f)) f e then in
+    let parts = and_parts (entry_fits m p f) (leb next (place_of m f)) passed.0 in
+    subst (λ (g : Entry). (entry_fits m p g ≡ true) × (next ≤ place_of m g)) passed.1 (parts.0, leb-true _ _ parts.1))
 
 -- the entry has this triple
 abbrev names : Entry → ℕ → ℕ → ℕ → Bool

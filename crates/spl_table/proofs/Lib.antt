@@ -2,3 +2,4 @@ mod Words
 mod Places
 mod Lines
 mod Filling
+mod Fields

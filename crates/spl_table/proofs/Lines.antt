@@ -5,10 +5,9 @@ use Rattle.std.specs.List.{slice_split, onto_first, position_or_len}
 use Rattle.std.proofs.lemmas.Bool.{ltb-true, lt-ltb, ne_eqb, cases_lt}
 use Rattle.std.proofs.lemmas.List.Splits.{slice_split_first, slice_split_none}
 use Rattle.std.proofs.lemmas.List.Sums.{fails_before_first}
-use Rattle.std.proofs.lemmas.Option.{cond_some, some_pair_parts}
+use Rattle.std.proofs.lemmas.Option.{cond_some, some_pair_parts, option_and_then_some}
 use Rattle.spl_table.specs.Words.{split_once}
 use Rattle.spl_table.specs.Reading.{lines_of, is_over}
-use Rattle.spl_table.proofs.Words.{bind_some}
 
 abbrev is_newline : ℕ → Bool
 is_newline b = eqb b 10
@@ -17,10 +16,10 @@ is_newline b = eqb b 10
 pub lines_of-split : (bytes front rest : List ℕ) → split_once 10 bytes ≡ Some (front, rest) → lines_of bytes ≡ front ∷ lines_of rest
 unfolding split_once
 lines_of-split bytes front rest e =
-    let at = bind_some (position is_newline bytes) (λ place. Some (take place bytes, drop (place + 1) bytes)) (front, rest) e in
-    let found = cond_some (ltb (position_or_len is_newline bytes) (length bytes)) (position_or_len is_newline bytes) at.0 at.1 in
-    let parts = some_pair_parts (take at.0 bytes) front (drop (at.0 + 1) bytes) rest at.2 in
-    slice_split_first is_newline bytes 0 (ltb-true _ _ found.0) ∙ cc (found.1, parts.0, parts.1)
+    option_and_then_some _ (position is_newline bytes) (front, rest) e (λ place at parts.
+    let found = cond_some (ltb (position_or_len is_newline bytes) (length bytes)) (position_or_len is_newline bytes) place at in
+    let same = some_pair_parts (take place bytes) front (drop (place + 1) bytes) rest parts in
+    slice_split_first is_newline bytes 0 (ltb-true _ _ found.0) ∙ cc (found.1, same.0, same.1))
 
 -- where no line is split off, none ends
 pub lines_of_last : (bytes : List ℕ) → split_once 10 bytes ≡ None → lines_of bytes ≡ bytes ∷ []

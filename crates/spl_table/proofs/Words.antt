@@ -1,26 +1,21 @@
 -- What is read is spelled so, and what is spelled so is read: words, prefixes and numbers.
-use Rattle.std.proofs.Common.{◌≡◌, ◌≢◌, ℕ, zero, suc, ◌+◌, ◌^◌, ◌<◌, ◌≤◌, ◌==◌, ◌&&◌, ◌||◌, Bool, true, false, not, cond, eqb, ltb, leb, nat_eq, List, [], ◌∷◌, ◌++◌, length, take, drop, get_or, Option, Some, None, refl, sym, ap, subst, ◌∙◌, inl, inr, arith, lit<}
+use Rattle.std.proofs.Common.{◌≡◌, ◌≢◌, ℕ, zero, suc, ◌+◌, ◌-◌, ◌^◌, ◌<◌, ◌≤◌, ◌==◌, ◌&&◌, ◌||◌, Bool, true, false, not, cond, eqb, ltb, leb, nat_eq, List, [], ◌∷◌, ◌++◌, length, take, drop, get_or, Option, Some, None, refl, sym, ap, subst, ◌∙◌, inl, inr, arith, lit<}
 use Rattle.std.specs.Prelude.{position, decimal, option_and_then}
 use Rattle.std.specs.Bool.{then_some}
 use Rattle.std.specs.Int.{IsInRange}
-use Rattle.std.specs.List.{position_or_len}
+use Rattle.std.specs.List.{position_or_len, list_all}
 use Rattle.std.specs.Str.{all_ascii_digits}
 use Rattle.std.specs.Str.Parse.{digits_value}
 use Rattle.std.specs.Cmp.Lexicographic.{pointwise, same_text}
 use Rattle.std.proofs.Math.Nat.{pow-le-pow_right}
-use Rattle.std.proofs.lemmas.Bool.{ltb-true, leb-true, eqb-true, eq-eqb, ne_eqb, lt-ltb, le-leb, and_parts, and_from, or_cases, or_left, or_right, not-true, not_from_false, cond-true}
+use Rattle.std.proofs.lemmas.Bool.{ltb-true, leb-true, eqb-true, eq-eqb, ne_eqb, lt-ltb, le-leb, and_parts, and_from, or_cases, or_left, or_right, not-true, both_ways, not_from_false, cond-true, cases_lt}
 use Rattle.std.proofs.lemmas.Cmp.{nat_list_eq_equiv}
 use Rattle.std.proofs.lemmas.Fmt.{decimal-digits_value, digits_decimal, digits_value-decimal, decimal_nonempty, length-decimal-le, first_decimal, decimal_digit}
-use Rattle.std.proofs.lemmas.List.{take_at, drop_at, drop-drop, take-append-drop, get_or_at, get_or_append_left, length-append, append_assoc}
+use Rattle.std.proofs.lemmas.List.{take_at, drop_at, drop-drop, take-append-drop, get_or_at, get_or_append_left, get_or-append_right, length-append, append_assoc}
 use Rattle.std.proofs.lemmas.List.Sums.{split_at_first, passes_at_first, position_or_len_is}
-use Rattle.std.proofs.lemmas.Option.{cond_some, same_Some, some_pair_parts}
+use Rattle.std.proofs.lemmas.Option.{cond_some, same_Some, some_pair_parts, option_and_then_some}
 use Rattle.std.proofs.lemmas.Str.Parse.{IsNumeralModel, numerals_by_value, tells_all_ascii_digits, digits_value_short, not_in_digits}
-use Rattle.spl_table.specs.Words.{◌>>=◌, split_once, strip_prefix, is_number, number_of, number_before}
-
--- the value of a step that gave one
-pub bind_some : {A B : Type 0} (r : Option A) (f : A → Option B) (y : B) → (r >>= f) ≡ Some y → (x : A) × (r ≡ Some x) × (f x ≡ Some y)
-bind_some (Some x) f y e = (x, refl, e)
-bind_some None f y e = absurd cc
+use Rattle.spl_table.specs.Words.{split_once, strip_prefix, is_number, number_of, number_before}
 
 -- a test that passed
 pub then_some_some : {A : Type 0} (test : Bool) (x y : A) → then_some test x ≡ Some y → (test ≡ true) × (x ≡ y)
@@ -41,17 +36,35 @@ split_once_none separator bytes none = rw none refl
 abbrev pub Lacks : ℕ → List ℕ → Type 0
 Lacks separator bytes = (i : ℕ) → i < length bytes → get_or bytes i 0 ≢ separator
 
+-- a literal word, by computation
+pub Lacks-from_test : (separator : ℕ) (bytes : List ℕ) → list_all (λ b. not (eqb b separator)) bytes ≡ true → Lacks separator bytes
+Lacks-from_test separator [] test i below e = omega arith
+Lacks-from_test separator (b ∷ bytes) test zero below e =
+    let parts = and_parts (not (eqb b separator)) (list_all (λ x. not (eqb x separator)) bytes) test in
+    both_ways (eqb b separator) (not-true _ parts.0) (eq-eqb b separator e)
+Lacks-from_test separator (b ∷ bytes) test (suc i) below e =
+    let parts = and_parts (not (eqb b separator)) (list_all (λ x. not (eqb x separator)) bytes) test in
+    Lacks-from_test separator bytes parts.1 i (omega arith) e
+
+pub Lacks-append : (separator : ℕ) (xs ys : List ℕ) → Lacks separator xs → Lacks separator ys → Lacks separator (xs ++ ys)
+Lacks-append separator xs ys left right i below =
+    elim (cases_lt i (length xs)) [
+      | inl within ↦ rw (get_or_append_left xs ys 0 i within) (left i within)
+      | inr past ↦ rw (get_or-append_right xs ys (length xs) i 0 refl past) (right (i - length xs) (omega (arith, length-append xs ys)))
+    ]
+
 pub split_once_takes : (separator : ℕ) (bytes front rest : List ℕ) → split_once separator bytes ≡ Some (front, rest) → bytes ≡ front ++ separator ∷ rest
 unfolding split_once
 split_once_takes separator bytes front rest e =
-    let passes : ℕ → Bool = λ b. eqb b separator in
-    let at = bind_some (position passes bytes) (λ place. Some (take place bytes, drop (place + 1) bytes)) (front, rest) e in
-    let found = cond_some (ltb (position_or_len passes bytes) (length bytes)) (position_or_len passes bytes) at.0 at.1 in
+    option_and_then_some _ (position passes bytes) (front, rest) e (λ place at parts.
+    let found = cond_some (ltb (position_or_len passes bytes) (length bytes)) (position_or_len passes bytes) place at in
     let within : position_or_len passes bytes < length bytes = ltb-true _ _ found.0 in
     let is : get_or bytes (position_or_len passes bytes) 0 ≡ separator = eqb-true _ _ (passes_at_first passes bytes 0 within) in
-    let whole = split_at_first passes bytes 0 within in
-    let parts = some_pair_parts (take at.0 bytes) front (drop (at.0 + 1) bytes) rest at.2 in
-    rw is at whole ∙ cc (found.1, parts.0, parts.1)
+    let same = some_pair_parts (take place bytes) front (drop (place + 1) bytes) rest parts in
+    rw is at (split_at_first passes bytes 0 within) ∙ cc (found.1, same.0, same.1))
+  where
+    passes : ℕ → Bool
+    passes b = eqb b separator
 
 -- what stands after the separator is shorter than all
 pub split_once-shorter : (separator : ℕ) (bytes front rest : List ℕ) → split_once separator bytes ≡ Some (front, rest) → length rest < length bytes
@@ -127,7 +140,7 @@ number_again n below =
         let above : 48 < first = first_decimal (suc m) (omega arith) small in
         or_left (not (eqb first 48)) _ (not_from_false _ (ne_eqb first 48 (λ e. omega arith)))
 
-Lacks-decimal : (separator n : ℕ) → separator < 48 → n < 10 ^ 9 → Lacks separator (decimal n)
+pub Lacks-decimal : (separator n : ℕ) → separator < 48 → n < 10 ^ 9 → Lacks separator (decimal n)
 Lacks-decimal separator n low below =
     let small : n < 2 ^ 64 = omega arith in
     not_in_digits digits_model (decimal n) separator (digits_decimal digits_model n small) (λ within. omega arith)
@@ -135,12 +148,11 @@ Lacks-decimal separator n low below =
 pub number_before_takes : (separator : ℕ) (bytes : List ℕ) (x : ℕ × List ℕ) → number_before separator bytes ≡ Some x → (bytes ≡ decimal x.0 ++ separator ∷ x.1) × (x.0 < 10 ^ 9)
 unfolding number_before
 number_before_takes separator bytes x e =
-    let word = bind_some (split_once separator bytes) (λ w. number_of w.0 >>= λ n. Some (n, w.1)) x e in
-    let number = bind_some (number_of word.0.0) (λ n. Some (n, word.0.1)) x word.2 in
-    let spelled = number_takes word.0.0 number.0 number.1 in
-    let made : ℕ × List ℕ = (number.0, word.0.1) in
-    subst (λ (y : ℕ × List ℕ). (bytes ≡ decimal y.0 ++ separator ∷ y.1) × (y.0 < 10 ^ 9)) (same_Some made x number.2)
-    (rw (← spelled.0) (split_once_takes separator bytes word.0.0 word.0.1 word.1), spelled.1)
+    option_and_then_some _ (split_once separator bytes) x e (λ word at then.
+    option_and_then_some _ (number_of word.0) x then (λ n number made.
+    let spelled = number_takes word.0 n number in
+    let whole : bytes ≡ decimal n ++ separator ∷ word.1 = rw (← spelled.0) (split_once_takes separator bytes word.0 word.1 at) in
+    subst (λ (y : ℕ × List ℕ). (bytes ≡ decimal y.0 ++ separator ∷ y.1) × (y.0 < 10 ^ 9)) (same_Some (n, word.1) x made) (whole, spelled.1)))
 
 pub number_before_again : (separator n : ℕ) (rest : List ℕ) → separator < 48 → n < 10 ^ 9 → number_before separator (decimal n ++ separator ∷ rest) ≡ Some (n, rest)
 unfolding number_before
