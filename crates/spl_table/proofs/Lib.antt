@@ -3,3 +3,5 @@ mod Places
 mod Lines
 mod Filling
 mod Fields
+mod Entries
+mod Text

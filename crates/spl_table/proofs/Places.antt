@@ -1,9 +1,9 @@
 -- Where the constants of triples stand: each below the number of constants, apart, and in the order of the triples.
-use Rattle.std.proofs.Common.{◌≡◌, ℕ, ◌+◌, ◌-◌, ◌*◌, ◌/◌, ◌%◌, ◌<◌, ◌≤◌, Bool, true, ◌&&◌, leb, ltb, IsTrue, refl, sym, ap, ◌∙◌, arith}
-use Rattle.std.proofs.lemmas.Bool.{and_parts, and_from, leb-true, ltb-true, le-leb, lt-ltb}
+use Rattle.std.proofs.Common.{◌≡◌, ℕ, ◌+◌, ◌-◌, ◌*◌, ◌/◌, ◌%◌, ◌<◌, ◌≤◌, Bool, true, ◌&&◌, leb, ltb, IsTrue, refl, sym, ap, ◌∙◌, inl, inr, arith}
+use Rattle.std.proofs.lemmas.Bool.{and_parts, and_from, leb-true, ltb-true, le-leb, lt-ltb, cases_order}
 use Rattle.std.proofs.lemmas.Nat.{mul-add-lt, div-mul-add, mod-mul-add}
 use Rattle.std.proofs.Math.Nat.{mul_comm}
-use Rattle.spl_table.specs.TableText.{Entry}
+use Rattle.spl_table.specs.TableText.{Entry, ComesBefore}
 use Rattle.spl_table.specs.Reading.{entry_fits, place_of}
 
 -- the triple is within the m basis elements, and the value is below p
@@ -60,3 +60,56 @@ place_injective m i j k i' j' k' j_below k_below j'_below k'_below e =
     let first : i ≡ i' = sym (div-mul-add i m j j_below) ∙ ap (λ x. x / m) rows ∙ div-mul-add i' m j' j'_below in
     let middle : j ≡ j' = sym (mod-mul-add i m j j_below) ∙ ap (λ x. x % m) rows ∙ mod-mul-add i' m j' j'_below in
     (first, middle, last)
+
+row-lt : (m a b a' b' : ℕ) → b < m → a < a' → a * m + b < a' * m + b'
+row-lt m a b a' b' b_below lower =
+    let above = mul-add-lt a m b a' lower b_below in
+    omega (arith, above, mul_comm m a')
+
+-- a triple that comes before another stands before it
+pub place-lt-place : (m i j k i' j' k' : ℕ) → j < m → k < m → ComesBefore i j k i' j' k' → place m i j k < place m i' j' k'
+place-lt-place m i j k i' j' k' j_below k_below (inl lower) = row-lt m (i * m + j) k (i' * m + j') k' k_below (row-lt m i j i' j' j_below lower)
+place-lt-place m i j k i' j' k' j_below k_below (inr (same, inl lower)) =
+    row-lt m (i * m + j) k (i' * m + j') k' k_below (omega (arith, ap (λ x. x * m) same))
+place-lt-place m i j k i' j' k' j_below k_below (inr (same, inr (same_too, lower))) =
+    let row : i * m + j ≡ i' * m + j' = rw (same, same_too) refl in
+    omega (arith, ap (λ x. x * m) row)
+
+-- and one that stands before another comes before it
+pub ComesBefore-from_place : (m i j k i' j' k' : ℕ) → j' < m → k' < m → place m i j k < place m i' j' k' → ComesBefore i j k i' j' k'
+ComesBefore-from_place m i j k i' j' k' j'_below k'_below below =
+    let not_after : ComesBefore i' j' k' i j k → ⊥ = λ after. omega (arith, place-lt-place m i' j' k' i j k j'_below k'_below after) in
+    elim (cases_order i i') [
+      | inr (inl lower) ↦ inl lower
+      | inr (inr higher) ↦ absurd (not_after (inl higher))
+      | inl same ↦ elim (cases_order j j') [
+        | inr (inl lower) ↦ inr (same, inl lower)
+        | inr (inr higher) ↦ absurd (not_after (inr (sym same, inl higher)))
+        | inl same_too ↦ elim (cases_order k k') [
+          | inr (inl lower) ↦ inr (same, inr (same_too, lower))
+          | inr (inr higher) ↦ absurd (not_after (inr (sym same, inr (sym same_too, higher))))
+          | inl all_same ↦ absurd (apart (rw (same, same_too, all_same) refl))
+        ]
+      ]
+    ]
+  where
+    apart : place m i j k ≡ place m i' j' k' → ⊥
+    apart e = omega arith
+
+pub place_of-lt-place_of : (m p : ℕ) (e f : Entry) → Fits m p e → Fits m p f → ComesBefore e.i e.j e.k f.i f.j f.k → place_of m e < place_of m f
+place_of-lt-place_of m p e f e_fits f_fits before =
+    place-lt-place m (e.i - 1) (e.j - 1) (e.k - 1) (f.i - 1) (f.j - 1) (f.k - 1) (omega arith) (omega arith) (counted_from_0 before)
+  where
+    counted_from_0 : ComesBefore e.i e.j e.k f.i f.j f.k → ComesBefore (e.i - 1) (e.j - 1) (e.k - 1) (f.i - 1) (f.j - 1) (f.k - 1)
+    counted_from_0 (inl lower) = inl (omega arith)
+    counted_from_0 (inr (same, inl lower)) = inr (omega arith, inl (omega arith))
+    counted_from_0 (inr (same, inr (same_too, lower))) = inr (omega arith, inr (omega arith, omega arith))
+
+pub ComesBefore-from_place_of : (m p : ℕ) (e f : Entry) → Fits m p e → Fits m p f → place_of m e < place_of m f → ComesBefore e.i e.j e.k f.i f.j f.k
+ComesBefore-from_place_of m p e f e_fits f_fits below =
+    counted_from_1 (ComesBefore-from_place m (e.i - 1) (e.j - 1) (e.k - 1) (f.i - 1) (f.j - 1) (f.k - 1) (omega arith) (omega arith) below)
+  where
+    counted_from_1 : ComesBefore (e.i - 1) (e.j - 1) (e.k - 1) (f.i - 1) (f.j - 1) (f.k - 1) → ComesBefore e.i e.j e.k f.i f.j f.k
+    counted_from_1 (inl lower) = inl (omega arith)
+    counted_from_1 (inr (same, inl lower)) = inr (omega arith, inl (omega arith))
+    counted_from_1 (inr (same, inr (same_too, lower))) = inr (omega arith, inr (omega arith, omega arith))
