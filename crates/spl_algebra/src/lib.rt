@@ -4,4 +4,6 @@
 #![tactic(auto)]
 
 pub mod algebra;
+mod basis;
+pub mod laws;
 mod products;

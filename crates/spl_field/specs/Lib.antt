@@ -1,3 +1,2 @@
 pub mod FieldByDigits
-pub mod Tables
 pub mod SmallField

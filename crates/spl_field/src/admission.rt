@@ -1,17 +1,23 @@
 // Which numbers give a field.
-ghost use Rattle.std.specs.Prelude.{◌≡◌, ◌≢◌, ℕ, ◌*◌, ◌%◌, ◌<◌, ◌≤◌, ◌↔◌, length, IsTrue, MatchOption, OnOk, IsErrOf, slice_index};
-ghost use Rattle.spl_field.specs.FieldByDigits.{FitsField, IsAdmitted, IsFirstWithoutInverse, IsInverse, HasInverse, digit_product};
+ghost use Rattle.std.specs.Prelude.{◌≡◌, ◌≢◌, ℕ, ◌*◌, ◌%◌, ◌<◌, ◌≤◌, ◌↔◌, length, IsTrue, MatchOption, OnOk, IsErrOf};
+ghost use Rattle.spl_field.specs.FieldByDigits.{FitsField, IsAdmitted, IsFirstWithoutInverse, IsInverse, HasInverse};
 
 use crate::field::NoMemory;
 use thiserror::Error;
 
 /// Why there is no such field.
-#[derive(Debug, Drop, Error)]
+#[derive(Debug, Drop, Error, PartialEq, Eq)]
 pub enum FieldFault {
+    /// The characteristic is below 2, the modulus is empty, p to the number of digits is above 256, or a number of the
+    /// modulus is not below p.
     #[error("there are not 2 to 256 elements, or a number of the modulus is not below the characteristic")]
     Size,
+
+    /// The element is the first but 0 that has no inverse.
     #[error("{element} has no inverse")]
     NoInverse { element: u8 },
+
+    /// There was not enough memory.
     #[error("out of memory")]
     Memory,
 }
@@ -31,17 +37,18 @@ fn fits(p: u16, modulus: &[u8]) -> bool
     requires { length modulus.now ≡ 1 }
     ensures { IsTrue result ↔ FitsField p modulus.now }
 {
-    2 <= p && p <= 256 && (modulus[0] as u16) < p
+    if p < 2 || 256 < p {
+        return false;
+    }
+    u16::from(modulus[0]) < p
 }
 
-/// The inverse of a.
-pub(crate) fn inverse_of(p: u16, a: u16) -> Option<u16>
+/// The inverse of a, by trial.
+pub(crate) fn inverse_of(p: u16, modulus: &[u8], a: u16) -> Option<u16>
     requires least { 2 ≤ p }
-    requires most { p ≤ 256 }
-    requires below { a < p }
-    ensures { MatchOption result (HasInverse p a → ⊥) (IsInverse p a) }
+    ensures { MatchOption result (HasInverse p modulus.now a → ⊥) (IsInverse p modulus.now a) }
 {
-    (0..p).find(|b| (a as u32 * *b as u32) % p as u32 == 1)
+    (0..p).find(|b| u32::from(a) * u32::from(*b) % u32::from(p) == 1)
 }
 
 /// Whether the numbers give a field: p to the number of digits, of which there is one, is 2 to 256, the numbers of the
@@ -51,14 +58,15 @@ pub(crate) fn admits_numbers(p: u16, modulus: &[u8]) -> Result<(), FieldFault>
     requires { length modulus.now ≡ 1 }
     ensures ok { OnOk result (IsAdmitted p modulus.now) }
     ensures size { IsErrOf result FieldFault.Size → FitsField p modulus.now → ⊥ }
-    ensures no_inverse { (element : ℕ) → IsErrOf result (FieldFault.NoInverse element) → IsFirstWithoutInverse p modulus.now element }
+    ensures no_inverse { (element : ℕ) → IsErrOf result (FieldFault.NoInverse element)
+        → IsFirstWithoutInverse p modulus.now element }
     ensures no_memory_needed { result ≢ Err FieldFault.Memory }
 {
     if !fits(p, modulus) {
         return Err(FieldFault::Size);
     }
     for a in 1..p {
-        if inverse_of(p, a).is_none() {
+        if inverse_of(p, modulus, a).is_none() {
             return Err(FieldFault::NoInverse { element: a as u8 });
         }
     }

@@ -6,4 +6,7 @@
 pub mod admission;
 pub mod field;
 pub mod small;
+mod tables;
+#[cfg(test)]
+mod tests;
 pub mod vector;

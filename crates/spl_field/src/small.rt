@@ -1,12 +1,13 @@
 // The fields of 2 to 256 elements.
-ghost use Rattle.std.specs.Prelude.{◌≡◌, ◌≢◌, ℕ, ◌*◌, ◌+◌, ◌-◌, ◌%◌, ◌^◌, ◌<◌, ◌≤◌, ◌↔◌, List, length, IsTrue, MatchOption, IfOk, OnOk, IsErrOf, slice_index};
+ghost use Rattle.std.specs.Prelude.{◌≡◌, ◌≢◌, ℕ, ◌*◌, ◌+◌, ◌%◌, ◌^◌, ◌<◌, ◌≤◌, length, MatchOption, IfOk, OnOk, IsErrOf, slice_index};
 ghost use Rattle.theory_rings.specs.IntegersMod.{mod_ops};
 ghost use Rattle.theory_rings.proofs.IntegersMod.{mod_laws};
 ghost use Rattle.spl_field.specs.FieldByDigits.{FitsField, IsAdmitted, IsFirstWithoutInverse, IsInverse, digit_sum, digit_negative, digit_product};
 
-use crate::admission::{FieldFault, admits_numbers, inverse_of};
+use crate::admission::{FieldFault, admits_numbers};
 use crate::field::{Field, NoMemory};
-use std::alloc::{AllocError, Global};
+use crate::tables::{inverse_table, negative_table, product_table, sum_table};
+use std::alloc::Global;
 
 /// A field of q = p^d elements, 2 to 256 of them, which are the numbers below q: each is read as d digits to the base
 /// p, lowest first, the coefficients of a polynomial in t; sums go digit by digit, and products are remainders by the
@@ -26,9 +27,11 @@ pub struct SmallField {
     ghost one_number: { length modulus.items ≡ 1 },
     ghost modulus_below: { slice_index modulus.items 0 < p },
     ghost sums_full: { length sums.items ≡ p * p },
-    ghost sums_are: { (a b : ℕ) → a < p → b < p → slice_index sums.items (a * p + b) ≡ digit_sum p a b },
+    ghost sums_are: { (a b : ℕ) → a < p → b < p
+        → slice_index sums.items (a * p + b) ≡ digit_sum p a b },
     ghost products_full: { length products.items ≡ p * p },
-    ghost products_are: { (a b : ℕ) → a < p → b < p → slice_index products.items (a * p + b) ≡ digit_product p a b },
+    ghost products_are: { (a b : ℕ) → a < p → b < p
+        → slice_index products.items (a * p + b) ≡ digit_product p modulus.items a b },
     ghost negatives_full: { length negatives.items ≡ p },
     ghost negatives_are: { (a : ℕ) → a < p → slice_index negatives.items a ≡ digit_negative p a },
     ghost inverses_full: { length inverses.items ≡ p },
@@ -105,7 +108,24 @@ impl SmallField {
             → IsFirstWithoutInverse p modulus.now element }
     {
         admits_numbers(p, modulus)?;
-        Ok(built(alloc, p, modulus)?)
+        Ok(SmallField::from_admitted(alloc, p, modulus)?)
+    }
+
+    /// The field of numbers that are admitted, with its tables.
+    fn from_admitted(alloc: Global, p: u16, modulus: &[u8]) -> Result<SmallField, NoMemory>
+        requires one_number { length modulus.now ≡ 1 }
+        requires admitted { IsAdmitted p modulus.now }
+        ensures p { IfOk result (λ f. characteristic f ≡ p) }
+        ensures modulus { IfOk result (λ f. modulus_of f ≡ modulus.now) }
+    {
+        Ok(SmallField {
+            p,
+            modulus: Vec::from_slice(alloc, modulus)?,
+            sums: sum_table(alloc, p)?,
+            products: product_table(alloc, p)?,
+            negatives: negative_table(alloc, p)?,
+            inverses: inverse_table(alloc, p, modulus)?,
+        })
     }
 
     /// The characteristic.
@@ -119,6 +139,7 @@ impl SmallField {
     /// The number of elements, which are the numbers below it.
     pub fn size(&self) -> u16
         ensures size { result ≡ size_of self.now }
+        ensures power { result ≡ characteristic self.now ^ length (modulus_of self.now) }
         ensures least { 2 ≤ result }
         ensures most { result ≤ 256 }
     {
@@ -139,7 +160,7 @@ impl SmallField {
         ensures elem { result < size_of self.now }
         ensures value { result ≡ digit_sum (characteristic self.now) a b }
     {
-        self.sums[a as usize * self.p as usize + b as usize]
+        self.sums[usize::from(a) * usize::from(self.p) + usize::from(b)]
     }
 
     /// The negative.
@@ -148,7 +169,7 @@ impl SmallField {
         ensures elem { result < size_of self.now }
         ensures value { result ≡ digit_negative (characteristic self.now) a }
     {
-        self.negatives[a as usize]
+        self.negatives[usize::from(a)]
     }
 
     /// The product.
@@ -156,25 +177,26 @@ impl SmallField {
         requires left { a < size_of self.now }
         requires right { b < size_of self.now }
         ensures elem { result < size_of self.now }
-        ensures value { result ≡ digit_product (characteristic self.now) a b }
+        ensures value { result ≡ digit_product (characteristic self.now) (modulus_of self.now) a b }
     {
-        self.products[a as usize * self.p as usize + b as usize]
+        self.products[usize::from(a) * usize::from(self.p) + usize::from(b)]
     }
 
     /// The inverse; None exactly where a is 0.
     pub fn inverse(&self, a: u8) -> Option<u8>
         requires { a < size_of self.now }
-        ensures value { MatchOption result (a ≡ 0) (λ b. (a ≢ 0) × IsInverse (characteristic self.now) a b) }
+        ensures value { MatchOption result (a ≡ 0)
+            (λ b. (a ≢ 0) × IsInverse (characteristic self.now) (modulus_of self.now) a b) }
         ensures same { MatchOption result (a ≡ 0) (λ b. (a ≢ 0) × (b ≡ (small_ops self.now).inv a)) }
     {
         if a == 0 {
             None
         } else {
-            Some(self.inverses[a as usize])
+            Some(self.inverses[usize::from(a)])
         }
     }
 
-    /// The element whose p-th power is a.
+    /// The element whose p-th power is a. Where q is p this is a, by Fermat's little theorem.
     pub fn frobenius_root(&self, a: u8) -> u8
         requires { a < size_of self.now }
         ensures elem { result < size_of self.now }
@@ -191,19 +213,11 @@ impl SmallField {
     {
         Ok(SmallField {
             p: self.p,
-            modulus: self.modulus.clone()?,
-            sums: self.sums.clone()?,
-            products: self.products.clone()?,
-            negatives: self.negatives.clone()?,
-            inverses: self.inverses.clone()?,
+            modulus: Vec::from_slice(alloc, &self.modulus)?,
+            sums: Vec::from_slice(alloc, &self.sums)?,
+            products: Vec::from_slice(alloc, &self.products)?,
+            negatives: Vec::from_slice(alloc, &self.negatives)?,
+            inverses: Vec::from_slice(alloc, &self.inverses)?,
         })
     }
-}
-
-/// The field of an admitted p and modulus, with its tables.
-fn built(alloc: Global, p: u16, modulus: &[u8]) -> Result<SmallField, NoMemory>
-    requires { IsAdmitted p modulus.now }
-    requires one_number { length modulus.now ≡ 1 }
-{
-    todo
 }

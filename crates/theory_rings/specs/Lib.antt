@@ -3,3 +3,7 @@ pub mod Ops
 pub mod Elements
 pub mod Sum
 pub mod IntegersMod
+pub mod Polynomial
+pub mod Power
+pub mod Prime
+pub mod Binomial

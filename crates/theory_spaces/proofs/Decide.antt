@@ -1,11 +1,12 @@
 -- Rows of a matrix are related, or free: decided by elimination, one column at a time.
-use Rattle.std.specs.Prelude.{◌≡◌, ℕ, zero, suc, ◌<◌, ◌≤◌, true, false, Bool, [], ◌∷◌, ◌⊎◌}
+use Rattle.std.specs.Prelude.{◌≡◌, ℕ, zero, suc, ◌<◌, [], ◌∷◌, ◌⊎◌}
 use Rattle.std.proofs.Common.{refl, sym, ◌∙◌, ap, ap₂, arith, inl, inr, ⊎_elim}
 use Rattle.theory_rings.specs.Ring.{FieldOn}
 use Rattle.theory_rings.specs.Sum.{sum}
 use Rattle.theory_rings.proofs.RingLaws.{add-neg, mul-zero, zero-mul, neg_zero, neg_unique}
 use Rattle.theory_rings.proofs.Sums.{sum_congr, sum_eq_zero, sum_take_out, sum-mul, bump, bump-lt}
 use Rattle.theory_rings.proofs.Solver.{var, nil, ◌⊞◌, ◌⊠◌, minus, by_sorted, ring1}
+use Rattle.theory_rings.proofs.ZeroTests.{eq_zero_or}
 use Rattle.theory_spaces.proofs.Families.{push, push-below, push-at, put_at, put_at-here, put_at-bump, unbump, eq_or_not, below_suc}
 
 module _ {K : Type 0} (F : FieldOn K) where
@@ -19,13 +20,6 @@ module _ {K : Type 0} (F : FieldOn K) where
     pub within : place < n
     pub nonzero : c place ≡ F.zero → ⊥
 
-  pub zero_or_not : (a : K) → (a ≡ F.zero) ⊎ (a ≡ F.zero → ⊥)
-  zero_or_not a = go (F.is_zero a) refl
-    where
-      go : (b : Bool) → F.is_zero a ≡ b → (a ≡ F.zero) ⊎ (a ≡ F.zero → ⊥)
-      go true e = inl (F.is_zero-sound a e)
-      go false e = inr (λ z. let q = ap F.is_zero z in let r = F.is_zero-zero in cc)
-
   -- one of them is not 0, or all are
   pub pivot : (n : ℕ) (f : ℕ → K) → NotAllZero n f ⊎ ((i : ℕ) → i < n → f i ≡ F.zero)
   pivot zero f = inr (λ i l. absurd (omega arith))
@@ -34,7 +28,7 @@ module _ {K : Type 0} (F : FieldOn K) where
       (λ h. ⊎_elim
       (λ z. inr (below_suc n (λ i. f i ≡ F.zero) h z))
       (λ z. inl (record { place = n; within = omega arith; nonzero = z }))
-      (zero_or_not (f n)))
+      (eq_zero_or F.zero_test (f n)))
       (pivot n f)
 
   -- one step of elimination, on sums

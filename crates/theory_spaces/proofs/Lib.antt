@@ -3,3 +3,14 @@ pub mod Modules
 pub mod Decide
 pub mod Dimension
 pub mod Spaces
+pub mod Matrices
+pub mod Traces
+pub mod Tables
+pub mod Tuples
+pub mod TupleProducts
+pub mod Simple
+pub mod Quotients
+pub mod Lattices
+pub mod Corners
+pub mod Kernels
+pub mod Subspaces

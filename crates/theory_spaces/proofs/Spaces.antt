@@ -6,11 +6,12 @@ use Rattle.theory_rings.specs.Ring.{RingOn, FieldOn}
 use Rattle.theory_rings.specs.Sum.{sum}
 use Rattle.theory_rings.proofs.RingLaws.{add-zero, neg_unique, mul-zero}
 use Rattle.theory_rings.proofs.Sums.{sum_congr, map-sum}
+use Rattle.theory_rings.proofs.ZeroTests.{eq_zero_or}
 use Rattle.theory_spaces.specs.Module.{ModuleOn}
-use Rattle.theory_spaces.specs.Linear.{comb, InSpan, Independent, Coords, Basis, BasisOf}
+use Rattle.theory_spaces.specs.Linear.{comb, InSpan, Independent, Coords, Basis, BasisOf, Extension}
 use Rattle.theory_spaces.proofs.Families.{push, push-below, push-above, push-at, below_suc}
 use Rattle.theory_spaces.proofs.Modules.{zero-scale, scale-neg, neg-scale, comb_zero, comb_congr, comb-add, comb-scale, comb-push, comb_injective, InSpan_trans, InSpan-member, InSpan-push, InSpan-push_at, independent_none}
-use Rattle.theory_spaces.proofs.Decide.{zero_or_not, decide, Related, Free}
+use Rattle.theory_spaces.proofs.Decide.{decide, Related, Free}
 use Rattle.theory_spaces.proofs.Dimension.{exchange, dimension_unique}
 
 module _ {K V : Type 0} {R : RingOn K} (M : ModuleOn R V) where
@@ -32,18 +33,16 @@ module _ {K V : Type 0} {R : RingOn K} (M : ModuleOn R V) where
 
   -- independent vectors that span everything are a basis
   module _ (n : ℕ) (v : ℕ → V) (ind : Independent M n v) (span : (x : V) → InSpan M n v x) where
-    unfoldable pub coord_in : V → ℕ → K
+    abbrev pub coord_in : V → ℕ → K
     coord_in x = push n R.zero (span x).weights
 
     pub coord_in-expand : (x : V) → x ≡ comb M n (coord_in x) v
-    unfolding coord_in
     coord_in-expand x = (span x).combines ∙ sym (comb_congr M n (coord_in x) (span x).weights v (push-below n R.zero (span x).weights))
 
     pub coord_in-of : (x : V) (c : ℕ → K) → x ≡ comb M n c v → (i : ℕ) → i < n → coord_in x i ≡ c i
     coord_in-of x c e i l = comb_injective M n v ind (coord_in x) c (sym (coord_in-expand x) ∙ e) i l
 
     pub coord_in-above : (x : V) (i : ℕ) → n ≤ i → coord_in x i ≡ R.zero
-    unfolding coord_in
     coord_in-above x i l = push-above n R.zero (span x).weights i l
 
     abbrev pub basis_of : Basis M n
@@ -103,7 +102,7 @@ module _ {K V : Type 0} (F : FieldOn K) (M : ModuleOn F.ring V) (m : ℕ) (C : C
       absurd (p.nonzero (⊎_elim (λ (l : p.place < n). all p.place l)
       (λ (l : n ≤ p.place). let w = p.within in let q : p.place ≡ n = omega arith in ap r.weights q ∙ z) (cases_lt p.place n))))
       (λ (d : r.weights n ≡ F.zero → ⊥). solved n r.weights v x d e1)
-      (zero_or_not F (r.weights n))))
+      (eq_zero_or F.zero_test (r.weights n))))
       (λ (f : Free F (suc n) m (λ i j. C.coord (push n x v i) j)). inr (record {
         only_zero = λ c e. f.only_zero c (λ j l. sym (coord-comb M m C (suc n) c (push n x v) j) ∙ ap (λ y. C.coord y j) e ∙ C.coord-zero j);
       }))
@@ -188,16 +187,11 @@ module _ {K V : Type 0} (F : FieldOn K) (M : ModuleOn F.ring V) where
       let g : m ≤ n = exchange F M m n C.vec B.vec C.independent (λ i g. B.spans (C.vec i) (C.inside i g)) in
       omega arith
 
-  -- a basis that begins with the k vectors u
-  pub record Extension (k : ℕ) (u : ℕ → V) (n : ℕ) : Type 0 where
-    pub basis : Basis M n
-    pub starts : (i : ℕ) → i < k → basis.vec i ≡ u i
-
   -- independent vectors are the first of a basis
-  pub extend_basis : (n : ℕ) → Basis M n → (k : ℕ) (u : ℕ → V) → Independent M k u → Extension k u n
+  pub extend_basis : (n : ℕ) → Basis M n → (k : ℕ) (u : ℕ → V) → Independent M k u → Extension M k u n
   extend_basis n B k u h =
       let g = grow F M n (coords_of M n B) k u h n B.vec in
       let spans : (x : V) → InSpan M g.size g.vec x = λ x.
       InSpan_trans M n g.size B.vec g.vec x g.spans (record { weights = B.coord x; combines = B.expand x }) in
       let C : Basis M g.size = basis_of M g.size g.vec g.independent spans in
-      subst (Extension k u) (dimension_unique F M g.size n C B) (record { basis = C; starts = g.starts })
+      subst (Extension M k u) (dimension_unique F M g.size n C B) (record { basis = C; starts = g.starts })

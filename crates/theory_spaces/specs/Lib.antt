@@ -1,3 +1,11 @@
 pub mod Module
+pub mod ModuleLaws
 pub mod Linear
 pub mod Functions
+pub mod Matrix
+pub mod Algebra
+pub mod Tuples
+pub mod Space
+pub mod Quotient
+pub mod Valuation
+pub mod Subspaces

@@ -1,0 +1,77 @@
+-- What a run of the program may do to its source and its sink, and what it may answer.
+use Rattle.std.specs.Prelude.{◌≡◌, ◌⊎◌, ℕ, ◌+◌, ◌<◌, ◌≤◌, Bool, List, length, take, drop, Option, is_some, IfSome}
+use Rattle.std.specs.Option.{option_map}
+use Rattle.std.specs.Io.KnownBytes.{Keeps, Appends, IsAtEnd}
+use Rattle.spl_outside.specs.Faults.{Rose}
+use Rattle.spl_outside.specs.Prefix.{AppendsPart}
+use Rattle.spl_table.specs.Refusal.{table_limit}
+use Rattle.spl_cli.specs.declared.status.Status.{Status}
+use Rattle.spl_cli.specs.declared.status.Status.TheVariants.{Done, No, Usage, Refused, ReadFault, WriteFault, Memory}
+use Rattle.spl_cli.specs.Forms.{IsForm}
+use Rattle.spl_cli.specs.Report.{Report}
+
+-- what a source means at one moment
+pub record SourceState : Type 0 where
+  pub left : Option (List ℕ)
+  pub faults : ℕ
+  pub steady : Bool
+
+-- what a sink means at one moment
+pub record SinkState : Type 0 where
+  pub written : Option (List ℕ)
+  pub faults : ℕ
+  pub steady : Option ℕ
+
+-- a status with which a report was written whole
+abbrev pub IsAnswer : Status → Type 0
+IsAnswer status = (status ≡ Done) ⊎ (status ≡ No) ⊎ (status ≡ Usage) ⊎ (status ≡ Refused)
+
+-- the input is the one that the source told, where it told one
+abbrev pub IsTold : SourceState → List ℕ → Type 0
+IsTold source input = IfSome source.left (λ bytes. bytes ≡ input)
+
+-- a form that reads takes all the input, but no more than one byte past its limit
+abbrev pub read_limit : ℕ
+read_limit = table_limit
+
+-- the whole of a report on the input was written
+pub record WritesReport (words : List (List ℕ)) (source : SourceState) (sink sink' : SinkState) (status : Status) : Type 0 where
+  pub input : List ℕ
+  pub told : IsTold source input
+  pub bytes : List ℕ
+  pub report : Report words input status bytes
+  pub written : Appends sink.written sink'.written bytes
+
+-- a proper prefix of a report on the input was written
+pub record WritesPart (words : List (List ℕ)) (source : SourceState) (sink sink' : SinkState) : Type 0 where
+  pub input : List ℕ
+  pub told : IsTold source input
+  pub status : Status
+  pub bytes : List ℕ
+  pub report : Report words input status bytes
+  pub written : AppendsPart sink.written sink'.written bytes
+
+-- A run of the program: from its words, its source and its sink to what is left of them, with this status.
+pub record IsRun (words : List (List ℕ)) (source source' : SourceState) (sink sink' : SinkState) (status : Status) : Type 0 where
+  -- what each status means: the report is written, or a proper prefix of it, or nothing
+  pub report : IsAnswer status → WritesReport words source sink sink' status
+  pub part : status ≡ WriteFault → WritesPart words source sink sink'
+  pub nothing : (status ≡ ReadFault) ⊎ (status ≡ Memory) → Keeps sink.written sink'.written
+
+  -- when each comes: a fault only where its count rose in the call, and want of memory at any time but for words of no form
+  pub no_form : (IsForm words → ⊥) → (status ≡ Usage) ⊎ (status ≡ WriteFault)
+  pub read_fault : status ≡ ReadFault → Rose source.faults source'.faults
+  pub write_fault : status ≡ WriteFault → Rose sink.faults sink'.faults
+
+  -- what is read: nothing for words of no form, and else all the input up to one byte past the limit
+  pub untouched : (IsForm words → ⊥) → source' ≡ source
+  pub taken : IsForm words → IsAnswer status ⊎ (status ≡ WriteFault) → source'.left ≡ option_map (drop (read_limit + 1)) source.left
+  pub to_the_end : (status ≡ Done) ⊎ (status ≡ No) → IsAtEnd source'.left
+
+  -- what stands whatever happens
+  pub source_faults : source.faults ≤ source'.faults
+  pub source_told : is_some source'.left ≡ is_some source.left
+  pub source_steady : source'.steady ≡ source.steady
+  pub sink_faults : sink.faults ≤ sink'.faults
+  pub sink_told : is_some sink'.written ≡ is_some sink.written
+  pub sink_steady : sink'.steady ≡ sink.steady

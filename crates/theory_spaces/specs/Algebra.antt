@@ -1,0 +1,54 @@
+-- Associative algebras with a basis: ideals, central simple algebras, traces of linear maps and of elements, nilpotent
+-- elements.
+use Rattle.std.specs.Prelude.{◌≡◌, ℕ, zero, suc, ◌<◌, ◌⊎◌}
+use Rattle.theory_rings.specs.Ring.{RingOn}
+use Rattle.theory_rings.specs.Sum.{sum}
+use Rattle.theory_spaces.specs.Module.{ModuleOn, AlgebraOn, module_of}
+use Rattle.theory_spaces.specs.Linear.{InSpan, Basis}
+
+-- f done n times
+abbrev pub iterate : {V : Type 0} → (V → V) → ℕ → V → V
+iterate f zero x = x
+iterate f (suc n) x = iterate f n (f x)
+
+-- x to the power n
+abbrev pub power : {K : Type 0} → RingOn K → K → ℕ → K
+power R x zero = R.one
+power R x (suc n) = R.◌⊗◌ (power R x n) x
+
+-- some power of x is 0
+pub record IsNilpotent {K : Type 0} (R : RingOn K) (x : K) : Type 0 where
+  pub exponent : ℕ
+  pub vanishes : power R x exponent ≡ R.zero
+
+-- the trace of a map by a basis: the sum of the diagonal of its matrix
+abbrev pub map_trace : {K V : Type 0} {R : RingOn K} (M : ModuleOn R V) (n : ℕ) → Basis M n → (V → V) → K
+map_trace {R} M n B f = sum R.monoid n (λ j. B.coord (f (B.vec j)) j)
+
+module _ {K V : Type 0} {R : RingOn K} (A : AlgebraOn R V) where
+  -- the span of g 0, .., g (n − 1) is closed under products from both sides
+  pub record IdealSpan (n : ℕ) (g : ℕ → V) : Type 0 where
+    pub left : (i : ℕ) → i < n → (x : V) → InSpan (module_of A) n g (A.◌⊗◌ x (g i))
+    pub right : (i : ℕ) → i < n → (x : V) → InSpan (module_of A) n g (A.◌⊗◌ (g i) x)
+
+  -- each element that commutes with all is a multiple of one
+  pub record Central : Type 0 where
+    pub multiple : (x : V) → ((y : V) → A.◌⊗◌ x y ≡ A.◌⊗◌ y x) → (a : K) × (x ≡ A.◌•◌ a A.one)
+
+  -- its centre is the multiples of one, and each finite span that is an ideal is 0 or everything
+  pub record CentralSimple : Type 0 where
+    pub central : Central
+    pub simple : (n : ℕ) (g : ℕ → V) → IdealSpan n g → ((i : ℕ) → i < n → g i ≡ A.zero) ⊎ ((x : V) → InSpan (module_of A) n g x)
+
+  -- x is in the corner of the idempotent e: x = ex = xe
+  abbrev pub InCorner : V → V → Type 0
+  InCorner e x = (A.◌⊗◌ e x ≡ x) × (A.◌⊗◌ x e ≡ x)
+
+  module _ (n : ℕ) (B : Basis (module_of A) n) where
+    -- the trace of the multiplication by x from the left
+    abbrev pub trace : V → K
+    trace x = map_trace (module_of A) n B (λ y. A.◌⊗◌ x y)
+
+    -- the form tr(xy) is 0 for all y at x = 0 alone
+    pub record Nondegenerate : Type 0 where
+      pub only_zero : (x : V) → ((y : V) → trace (A.◌⊗◌ x y) ≡ R.zero) → x ≡ A.zero
