@@ -1,0 +1,7 @@
+mod Words
+mod Places
+mod Lines
+mod Filling
+mod Fields
+mod Entries
+mod Text
