@@ -5,3 +5,4 @@ mod Filling
 mod Fields
 mod Entries
 mod Text
+pub mod Triples
