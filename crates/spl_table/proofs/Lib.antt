@@ -4,4 +4,6 @@ mod Lines
 mod Filling
 mod Fields
 mod Entries
+mod Admitted
 mod Text
+mod TableOf

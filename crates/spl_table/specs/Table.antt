@@ -1,9 +1,9 @@
 -- What contracts see of a table, of which text it is the table, and which triple fails first.
-use Rattle.std.specs.Prelude.{◌≡◌, ◌≢◌, ℕ, ◌+◌, ◌-◌, ◌*◌, ◌%◌, ◌<◌, ◌≤◌, List, [], ◌∷◌, length, slice_index}
+use Rattle.std.specs.Prelude.{◌≡◌, ℕ, ◌+◌, ◌-◌, ◌*◌, ◌<◌, ◌≤◌, [], ◌∷◌, length, slice_index}
 use Rattle.theory_rings.specs.Ops.{Ops}
 use Rattle.spl_field.specs.SmallField.{characteristic, modulus_of, small_ops}
 use Rattle.spl_field.specs.declared.small.SmallField.{SmallField}
-use Rattle.spl_algebra.specs.Algebra.{Structure, AssociatesAt, IsAssociative}
+use Rattle.spl_algebra.specs.Algebra.{Structure, AssociatesAt}
 use Rattle.spl_table.specs.TableText.{TableText, ComesBefore, constant_at}
 use Rattle.spl_table.specs.declared.table.Table.{Table}
 use Rattle.spl_table.specs.declared.triple.Triple.{Triple}
