@@ -1,18 +1,18 @@
 -- Putting the values of entries into a list, one after the other.
-use Rattle.std.proofs.Common.{◌≡◌, ◌≢◌, ℕ, suc, ◌+◌, ◌-◌, ◌*◌, ◌<◌, ◌≤◌, ◌==◌, ◌&&◌, Bool, true, false, cond, eqb, leb, nat_eq, List, [], ◌∷◌, ◌++◌, length, get_or, set, replicate, Option, Some, None, MatchBool, refl, sym, ap, subst, ◌∙◌, inl, inr, append_assoc, arith}
+use Rattle.std.proofs.Common.{◌≡◌, ℕ, ◌+◌, ◌-◌, ◌*◌, ◌<◌, ◌≤◌, ◌==◌, ◌&&◌, Bool, true, false, cond, eqb, leb, nat_eq, List, [], ◌∷◌, ◌++◌, length, set, replicate, Option, Some, None, MatchBool, refl, sym, ap, subst, ◌∙◌, inl, inr, append_assoc, arith}
 use Rattle.std.specs.Prelude.{option_map, codes}
 use Rattle.std.specs.Bool.{then_some}
 use Rattle.std.specs.List.{AllByRecursion}
 use Rattle.std.specs.Cmp.Lexicographic.{pointwise}
-use Rattle.std.proofs.lemmas.Bool.{eqb-true, eq-eqb, ne_eqb, and_parts, leb-true, cases_eq, cases_Bool, false_from_ne_true}
+use Rattle.std.proofs.lemmas.Bool.{eqb-true, eq-eqb, and_parts, leb-true, cases_eq, false_from_ne_true}
 use Rattle.std.proofs.lemmas.List.{length-set, get_or-set_same, get_or-set_other, get_or-replicate, length-replicate, append-nil}
 use Rattle.std.proofs.lemmas.Option.{option_and_then_some}
 use Rattle.spl_table.specs.TableText.{Entry, constant_at}
 use Rattle.spl_table.specs.Words.{◌>>=◌, split_once}
-use Rattle.spl_table.specs.Reading.{entry_of, entry_from, entry_fits, place_of, entries_of, is_over, lines_of, Holds}
+use Rattle.spl_table.specs.Reading.{entry_of, entry_from, entry_fits, place_of, entries_of, lines_of, Holds}
 use Rattle.spl_table.proofs.Lines.{lines_of-split, lines_of_last, is_over-lines_of}
 use Rattle.spl_table.proofs.Words.{then_some_some}
-use Rattle.spl_table.proofs.Places.{Fits, Fits-from_test, place, place-lt, place_of-lt, place_injective}
+use Rattle.spl_table.proofs.Places.{Fits-from_test, place, place-lt, place_of-lt, place_injective}
 
 -- an entry that was read fits, and stands where none stood before
 pub entry_from_fits : (m p next : ℕ) (line : List ℕ) (e : Entry) → entry_from m p next line ≡ Some e → (entry_fits m p e ≡ true) × (next ≤ place_of m e)

@@ -4,5 +4,7 @@ mod Lines
 mod Filling
 mod Fields
 mod Entries
+mod Admitted
 mod Text
 pub mod Triples
+mod TableOf

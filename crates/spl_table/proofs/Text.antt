@@ -1,23 +1,24 @@
 -- A text as a whole: what is read is spelled so, and what is spelled so is read, where the numbers give a field.
-use Rattle.std.proofs.Common.{◌≡◌, ◌≢◌, ℕ, ◌+◌, ◌*◌, ◌%◌, ◌^◌, ◌<◌, ◌≤◌, ◌&&◌, Bool, true, false, not, eqb, leb, List, [], ◌∷◌, ◌++◌, Option, Some, None, refl, sym, ap, subst, ◌∙◌, append_assoc, arith}
+use Rattle.std.proofs.Common.{◌≡◌, ℕ, ◌*◌, ◌%◌, ◌≤◌, ◌&&◌, not, eqb, leb, List, [], ◌∷◌, ◌++◌, Some, refl, sym, ap, subst, ◌∙◌, append_assoc, arith}
 use Rattle.std.specs.Prelude.{codes}
 use Rattle.std.specs.Bool.{then_some}
 use Rattle.std.specs.List.{flat_map, AllByRecursion, join_with_byte}
-use Rattle.std.proofs.Math.Nat.{mul-le-mul, pow-suc, pow-zero, one-mul}
-use Rattle.std.proofs.lemmas.Bool.{and_parts, leb-true, le-leb, ne_eqb, eqb-false, eq-eqb, not-true, not_from_false}
+use Rattle.std.proofs.Math.Nat.{mul-le-mul}
+use Rattle.std.proofs.lemmas.Bool.{and_parts, leb-true, le-leb, ne_eqb, eqb-false, not-true}
 use Rattle.std.proofs.lemmas.List.Splits.{join_with_byte-slice_split}
-use Rattle.std.proofs.lemmas.Option.{same_Some, option_and_then_some}
+use Rattle.std.proofs.lemmas.Option.{option_and_then_some}
 use Rattle.spl_field.specs.FieldByDigits.{IsAdmitted}
 use Rattle.spl_table.specs.declared.reader.head.Head.{Head}
-use Rattle.spl_table.specs.TableText.{Entry, TableText, line, entry_line, spelling, EntryFits, IsWellFormed, IsTableText}
+use Rattle.spl_table.specs.TableText.{Entry, TableText, line, entry_line, spelling, EntryFits, IsTableText}
 use Rattle.spl_table.specs.Reading.{head_at, entries_of, lines_of, degree_fits, text_of}
 use Rattle.spl_table.proofs.Words.{then_some_some}
+use Rattle.spl_table.proofs.Admitted.{characteristic_most, modulus_below}
 use Rattle.spl_table.proofs.Places.{Fits}
 use Rattle.spl_table.proofs.Fields.{head_text, head_takes, head_again, IsShortHead}
 use Rattle.spl_table.proofs.Entries.{entry_lines, StartsAt, AreEntries, entries_take, entries_again, join-entry_lines, lines_of-entries}
 
 -- what the text says
-abbrev text_with : Head → List Entry → TableText
+abbrev pub text_with : Head → List Entry → TableText
 text_with h es = record { characteristic = h.characteristic; modulus = h.modulus; degree = h.degree; entries = es }
 
 all_fit : (t : TableText) (es : List Entry) → AllByRecursion (Fits (t.degree * t.degree) t.characteristic) es → AllByRecursion (EntryFits t) es
@@ -71,9 +72,8 @@ unfolding text_of
 text_again bytes t is =
     let formed = is.well_formed in
     let h : Head = record { characteristic = t.characteristic; modulus = t.modulus; degree = t.degree } in
-    let fits = formed.admitted.fits in
-    let most : t.characteristic ≤ 256 = rw (pow-suc t.characteristic 0, pow-zero t.characteristic, one-mul t.characteristic) at fits.most in
-    let modulus : t.modulus < t.characteristic = fits.below 0 0 (omega arith) in
+    let most = characteristic_most t.characteristic t.modulus formed.admitted in
+    let modulus = modulus_below t.characteristic t.modulus formed.admitted in
     let few : t.degree * t.degree ≤ 25 = square-le t.degree formed.degree_high in
     let short : IsShortHead h = record { characteristic = omega arith; modulus = omega arith; degree = omega arith } in
     let rest = flat_map entry_line t.entries ++ line (codes "end") in

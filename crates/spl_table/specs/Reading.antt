@@ -5,6 +5,9 @@ use Rattle.std.specs.List.{slice_split}
 use Rattle.std.specs.Cmp.Lexicographic.{pointwise}
 use Rattle.spl_table.specs.declared.reader.head.Head.{Head}
 use Rattle.spl_table.specs.declared.reader.entries.EntryLine.{EntryLine}
+use Rattle.spl_table.specs.declared.refusal.Kind.TheVariants.{NotBuilt}
+use Rattle.spl_table.specs.declared.refusal.TableFault.{TableFault}
+use Rattle.spl_table.specs.declared.refusal.TableFault.TheVariants.{Refused, Memory}
 use Rattle.spl_table.specs.TableText.{Entry, TableText, constant_at}
 use Rattle.spl_table.specs.Words.{◌>>=◌, split_once, strip_prefix, number_of, number_before}
 
@@ -91,3 +94,8 @@ text_of bytes = do
   head ← head_at bytes
   entries ← entries_of (head.0.degree * head.0.degree) head.0.characteristic 0 (lines_of head.1)
   then_some (degree_fits head.0) (record { characteristic = head.0.characteristic; modulus = head.0.modulus; degree = head.0.degree; entries = entries })
+
+-- the text is refused as a whole, as not built, and for this reason, unless memory ran out
+abbrev pub IsNotBuilt : TableFault → Type 0 → Type 0
+IsNotBuilt (Refused refusal) reason = (refusal ≡ record { line = 0; kind = NotBuilt }) × reason
+IsNotBuilt Memory reason = Unit {0}

@@ -1,8 +1,13 @@
 // The lines of a table text before its entries.
-ghost use Rattle.std.specs.Prelude.{◌≡◌};
+ghost use Rattle.std.specs.Prelude.{◌≡◌, ◌<◌, [], ◌∷◌, IfOk, IfErr, OnOk};
+ghost use Rattle.spl_field.specs.FieldByDigits.{IsAdmitted};
 ghost use Rattle.spl_table.specs.Words.{Gives};
 
 use crate::reader::words::{number_before, number_of, split_once, strip_prefix};
+use crate::refusal::{Kind, TableFault};
+use spl_field::admission::FieldFault;
+use spl_field::small::SmallField;
+use std::alloc::Global;
 
 /// The numbers of the lines `field P M` and `degree N`.
 #[derive(Clone, Copy)]
@@ -13,7 +18,8 @@ pub struct Head {
 }
 
 impl Head {
-    ghost use Rattle.spl_table.specs.Reading.{head_at, field_of, degree_of};
+    ghost use Rattle.spl_table.specs.Reading.{head_at, field_of, degree_of, degree_fits, IsNotBuilt};
+    ghost use Rattle.spl_field.specs.SmallField.{characteristic, modulus_of};
 
     /// The numbers of the line `field P M`.
     #[tactic(auto, unfolding(crate::specs::Reading::field_of))]
@@ -54,5 +60,34 @@ impl Head {
             degree,
         };
         Some((head, rest))
+    }
+
+    /// Whether the degree is 2 to 5 and the characteristic doesn't divide it.
+    pub fn degree_fits(&self) -> bool
+        requires { 0 < self.now.characteristic }
+        ensures { result ≡ degree_fits self.now }
+    {
+        2 <= self.degree && self.degree <= 5 && self.degree % self.characteristic != 0
+    }
+
+    /// The field, where its numbers give one.
+    pub fn field(&self, alloc: Global) -> Result<SmallField, TableFault>
+        ensures admitted { OnOk result (IsAdmitted self.now.characteristic (self.now.modulus ∷ [])) }
+        ensures characteristic { IfOk result (λ f. characteristic f ≡ self.now.characteristic) }
+        ensures modulus { IfOk result (λ f. modulus_of f ≡ self.now.modulus ∷ []) }
+        ensures fault { IfErr result (λ e. IsNotBuilt e (IsAdmitted self.now.characteristic (self.now.modulus ∷ []) → ⊥)) }
+    {
+        let Ok(p) = u16::try_from(self.characteristic) else {
+            return Err(TableFault::whole(Kind::NotBuilt));
+        };
+        let Ok(m) = u8::try_from(self.modulus) else {
+            return Err(TableFault::whole(Kind::NotBuilt));
+        };
+        match SmallField::new(alloc, p, &[m]) {
+            Ok(field) => Ok(field),
+            Err(FieldFault::Size) => Err(TableFault::whole(Kind::NotBuilt)),
+            Err(FieldFault::NoInverse { .. }) => Err(TableFault::whole(Kind::NotBuilt)),
+            Err(FieldFault::Memory) => Err(TableFault::Memory),
+        }
     }
 }
