@@ -175,7 +175,8 @@ impl Sink for MemSink {
         // As every sink.
         ensures within { IfOk result (λ n. n ≤ length piece.now) }
         ensures some { IfOk result (λ n. 0 < length piece.now → 0 < n) }
-        ensures grew { IfOk result (λ n. written_of self.new ≡ written_of self.old ++ take n piece.now) }
+        ensures grew { IfOk result (λ n.
+            written_of self.new ≡ written_of self.old ++ take n piece.now) }
         ensures rose { OnErr result (Rose (sink_faults self.old) (sink_faults self.new)) }
         ensures kept { OnErr result (written_of self.new ≡ written_of self.old) }
         ensures faults { sink_faults self.old ≤ sink_faults self.new }
@@ -185,7 +186,8 @@ impl Sink for MemSink {
         ensures failed { IsErr result ↔ (Contains (sink_failing self.old) (sink_call self.old)
             ⊎ ((0 < length piece.now) × (length (written_of self.old) ≡ room_of self.old))) }
         ensures accepted { IfOk result (λ n. n ≡ min
-            (min (length piece.now) (room_of self.old - length (written_of self.old))) (sink_most self.old)) }
+            (min (length piece.now) (room_of self.old - length (written_of self.old)))
+            (sink_most self.old)) }
 
         ensures no_fault { OnOk result (sink_faults self.new ≡ sink_faults self.old) }
         ensures fault { OnErr result (sink_faults self.new ≡ next_count (sink_faults self.old)) }

@@ -52,8 +52,8 @@ impl<R: Read> Source for StdSource<R> {
     // Each error of the reader's is a failure; what is interrupted is not tried again.
     fn read(&mut self, buf: &mut [u8]) -> Result<usize, Failed>
         ensures within { IfOk result (λ n. n ≤ length buf.new) }
-        ensures bytes { ReadConsumes (R.remaining (reader_of self.old)) (R.remaining (reader_of self.new))
-            result buf.new }
+        ensures bytes { ReadConsumes (R.remaining (reader_of self.old))
+            (R.remaining (reader_of self.new)) result buf.new }
         ensures no_fault { OnOk result (read_faults self.new ≡ read_faults self.old) }
         ensures fault { OnErr result (read_faults self.new ≡ next_count (read_faults self.old)) }
         ensures rose { OnErr result (Rose (read_faults self.old) (read_faults self.new)) }
@@ -99,8 +99,8 @@ impl<W: Write> Sink for StdSink<W> {
     fn write(&mut self, piece: &[u8]) -> Result<usize, Failed>
         ensures within { IfOk result (λ n. n ≤ length piece.now) }
         ensures some { IfOk result (λ n. 0 < length piece.now → 0 < n) }
-        ensures bytes { WriteAppends (W.contents (writer_of self.old)) (W.contents (writer_of self.new))
-            result piece.now }
+        ensures bytes { WriteAppends (W.contents (writer_of self.old))
+            (W.contents (writer_of self.new)) result piece.now }
         ensures no_fault { OnOk result (write_faults self.new ≡ write_faults self.old) }
         ensures fault { OnErr result (write_faults self.new ≡ next_count (write_faults self.old)) }
         ensures rose { OnErr result (Rose (write_faults self.old) (write_faults self.new)) }
