@@ -7,9 +7,9 @@ use Rattle.theory_rings.specs.Polynomial.{Poly, coefficient, lead, degree}
 use Rattle.theory_rings.specs.Division.{Divides, IsDivision, IsGcd, IsCoprime}
 use Rattle.theory_rings.proofs.RingLaws.{mul-zero, zero-mul, add-zero, add-neg}
 use Rattle.theory_rings.proofs.ZeroTests.{sub_eq_zero}
-use Rattle.theory_rings.proofs.Solver.{Ex, ◌⊞◌, ◌⊠◌, minus, ring2, ring3, ring4, ring5}
+use Rattle.theory_rings.proofs.Solver.{◌⊞◌, ◌⊠◌, minus, ring3, ring4, ring5}
 use Rattle.theory_rings.proofs.PolynomialRing.{polynomials, coefficient-zero, coefficient-one, constant}
-use Rattle.theory_rings.proofs.Degrees.{poly_eq_zero_or, degree-mul, lead-mul, mul-ne-zero, lead-nonzero, ne_zero_of_lead, degree-constant, lead-constant, eq_constant, length_pos, length-eq-zero, length_nonzero}
+use Rattle.theory_rings.proofs.Degrees.{poly_eq_zero_or, degree-mul, lead-mul, mul-ne-zero, lead-nonzero, degree-constant, eq_constant, length_pos, length-eq-zero}
 use Rattle.theory_rings.proofs.Constants.{constant_hom, constant-one, variable, degree-variable}
 use Rattle.theory_rings.proofs.Division.{divide}
 use Rattle.theory_rings.proofs.Fields.{mul-inv, field_mul-ne-zero}

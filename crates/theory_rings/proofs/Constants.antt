@@ -1,8 +1,8 @@
 -- Constants and the variable as polynomials.
-use Rattle.std.specs.Prelude.{◌≡◌, ◌≢◌, ℕ, zero, suc, ◌+◌, ◌<◌, ◌≤◌, Bool}
+use Rattle.std.specs.Prelude.{◌≡◌, ◌≢◌, ℕ, zero, suc, ◌<◌, Bool}
 use Rattle.std.proofs.Common.{refl, sym, ◌∙◌, ap, ap₂, arith}
 use Rattle.theory_rings.specs.Ring.{CommRingOn, ZeroTest}
-use Rattle.theory_rings.specs.Polynomial.{Poly, coefficient, lead, degree, convolution, constant_coefficients}
+use Rattle.theory_rings.specs.Polynomial.{Poly, coefficient, degree, convolution, constant_coefficients}
 use Rattle.theory_rings.specs.Homomorphism.{IsRingHom}
 use Rattle.theory_rings.proofs.RingLaws.{add-zero, zero-mul, mul-zero}
 use Rattle.theory_rings.proofs.Series.{tail, constant-convolution, convolution_congr, convolution-zero, convolution-suc}

@@ -1,11 +1,10 @@
 -- Degrees and leading coefficients of polynomials.
 use Rattle.std.specs.Prelude.{◌≡◌, ◌≢◌, ℕ, zero, suc, ◌+◌, ◌-◌, ◌<◌, ◌≤◌, Bool, List, [], ◌∷◌, length, get_or, ◌⊎◌}
-use Rattle.std.proofs.Common.{refl, sym, ◌∙◌, ap, ap₂, arith, ⊎_elim, inl, inr}
+use Rattle.std.proofs.Common.{refl, sym, ◌∙◌, ap, ap₂, arith, ⊎_elim}
 use Rattle.std.proofs.lemmas.Bool.{cases_lt}
-use Rattle.std.proofs.lemmas.List.{get_or_past}
 use Rattle.theory_rings.specs.Ring.{CommRingOn, ZeroTest}
-use Rattle.theory_rings.specs.Polynomial.{IsTrimmed, Poly, coefficient, lead, degree, convolution, constant_coefficients}
-use Rattle.theory_rings.proofs.RingLaws.{add-zero, zero-mul, mul-zero, neg_zero}
+use Rattle.theory_rings.specs.Polynomial.{IsTrimmed, Poly, coefficient, lead, degree, convolution}
+use Rattle.theory_rings.proofs.RingLaws.{zero-mul, mul-zero, neg_zero}
 use Rattle.theory_rings.proofs.ZeroTests.{eq_zero_or}
 use Rattle.theory_rings.proofs.Sums.{sum_eq_single}
 use Rattle.theory_rings.proofs.Series.{convolution_eq_zero}

@@ -1,12 +1,12 @@
 -- The field of fractions of a commutative ring in which each fraction has exactly one pair in lowest terms.
-use Rattle.std.specs.Prelude.{◌≡◌, ◌≢◌, Bool, true, false, cond, List, [], ◌∷◌, ◌⊎◌}
-use Rattle.std.proofs.Common.{refl, sym, ◌∙◌, ap, ap₂, inl, inr}
+use Rattle.std.specs.Prelude.{◌≡◌, ◌≢◌, Bool, true, false, [], ◌∷◌}
+use Rattle.std.proofs.Common.{refl, sym, ◌∙◌, ap, ap₂}
 use mathlib.Core.HLevel.{Σ_prop_path}
 use Rattle.theory_rings.specs.Ring.{CommRingOn, FieldOn, ZeroTest}
 use Rattle.theory_rings.specs.Fraction.{SameFraction, Fraction, IsFractionField}
-use Rattle.theory_rings.proofs.RingLaws.{mul-zero, zero-mul, mul_left_comm}
+use Rattle.theory_rings.proofs.RingLaws.{mul-zero, zero-mul}
 use Rattle.theory_rings.proofs.ZeroTests.{is_zero-complete}
-use Rattle.theory_rings.proofs.Solver.{Ex, ◌⊞◌, ◌⊠◌, minus, unit, nil, var, v0, v1, v2, v3, v4, ring1, ring2, ring3, ring4, ring5, by_sorted}
+use Rattle.theory_rings.proofs.Solver.{◌⊞◌, ◌⊠◌, minus, unit, nil, var, v0, v1, v2, v3, v4, ring2, ring3, ring4, by_sorted}
 
 -- products cancel, and each fraction with a denominator that is not 0 has exactly one pair in lowest terms
 pub record IsReduction {D : Type 0} (C : CommRingOn D) (Lowest : D → D → Type 0) : Type 0 where

@@ -1,20 +1,19 @@
 -- Irreducible polynomials over a field: one that divides a product divides a factor, and the remainders by a monic one
 -- are a field.
-use Rattle.std.specs.Prelude.{◌≡◌, ◌≢◌, ℕ, zero, suc, ◌+◌, ◌<◌, ◌≤◌, length, ◌⊎◌}
-use Rattle.std.proofs.Common.{refl, sym, ◌∙◌, ap, ap₂, subst, arith, inl, inr, ⊎_elim}
+use Rattle.std.specs.Prelude.{◌≡◌, ◌≢◌, ◌+◌, ◌<◌, ◌≤◌, ◌⊎◌}
+use Rattle.std.proofs.Common.{refl, sym, ◌∙◌, ap, arith, inl, inr, ⊎_elim}
 use Rattle.std.proofs.lemmas.Bool.{cases_lt}
 use Rattle.theory_rings.specs.Ring.{FieldOn, CommRingOn}
 use Rattle.theory_rings.specs.Polynomial.{Poly, lead, degree, IsMonic}
 use Rattle.theory_rings.specs.Division.{Divides, Congruent, IsDivision, IsGcd, IsCoprime, IsIrreducible}
-use Rattle.theory_rings.specs.Homomorphism.{IsRingHom}
-use Rattle.theory_rings.specs.Remainder.{Remainder, IsRemainderRing}
-use Rattle.theory_rings.proofs.RingLaws.{mul-zero, zero-mul, add-zero, add-neg}
-use Rattle.theory_rings.proofs.Solver.{Ex, ◌⊞◌, ◌⊠◌, minus, ring3, ring4, ring5}
+use Rattle.theory_rings.specs.Remainder.{Remainder}
+use Rattle.theory_rings.proofs.RingLaws.{mul-zero, add-zero}
+use Rattle.theory_rings.proofs.Solver.{◌⊞◌, ◌⊠◌, minus, ring3, ring4, ring5}
 use Rattle.theory_rings.proofs.PolynomialRing.{constant}
 use Rattle.theory_rings.proofs.Degrees.{degree_le_length, poly_eq_zero_or, lead-nonzero, length_pos, length_nonzero, ne_zero_of_length}
 use Rattle.theory_rings.proofs.Division.{divide}
 use Rattle.theory_rings.proofs.Residues.{congruent_of_eq}
-use Rattle.theory_rings.proofs.Remainders.{remainders, remainder, remainder_hom, remainder-small, remainder_eq, Remainder-path, remainders-zero_poly, remainders-one_poly, remainders-one, is_zero_remainder, zero_remainder_test, is_remainder_ring}
+use Rattle.theory_rings.proofs.Remainders.{remainders, remainder, remainder_hom, remainder-small, remainder_eq, Remainder-path, remainders-zero_poly, remainders-one_poly, is_zero_remainder, zero_remainder_test}
 use Rattle.theory_rings.proofs.Fields.{mul-inv}
 use Rattle.theory_rings.proofs.Bezout.{field_polynomials, field_degree-mul, left-ne-zero, right-ne-zero, degree_zero_inverse, gcd, divides_of_coprime, poly_one-nonzero}
 

@@ -1,21 +1,20 @@
 -- Lowest terms of fractions of polynomials over a field, with a monic denominator: they exist and are unique, so these
 -- fractions are a field.
-use Rattle.std.specs.Prelude.{◌≡◌, ◌≢◌, ℕ, suc, ◌+◌, ◌<◌, ◌≤◌, Bool, List, [], ◌∷◌, length, ◌⊎◌}
-use Rattle.std.proofs.Common.{refl, sym, ◌∙◌, ap, ap₂, subst, arith}
+use Rattle.std.specs.Prelude.{◌≡◌, ◌≢◌, [], ◌∷◌}
+use Rattle.std.proofs.Common.{refl, sym, ◌∙◌, ap, ap₂, arith}
 use Rattle.std.proofs.Math.Bridge.{le_prop}
 use Rattle.std.proofs.Math.Nat.{ℕ_set}
 use Rattle.theory_rings.specs.Ring.{FieldOn, CommRingOn}
 use Rattle.theory_rings.specs.Polynomial.{Poly, coefficient, lead, degree, IsMonic}
 use Rattle.theory_rings.specs.Division.{Divides, IsGcd, IsCoprime}
 use Rattle.theory_rings.specs.Fraction.{SameFraction, Fraction, IsLowest, IsFractionField}
-use Rattle.theory_rings.proofs.RingLaws.{mul-zero, zero-mul}
-use Rattle.theory_rings.proofs.Solver.{Ex, ◌⊞◌, ◌⊠◌, v0, v1, v2, v3, v4, var, ring3, ring4, ring5, by_sorted}
+use Rattle.theory_rings.proofs.Solver.{◌⊞◌, ◌⊠◌, v0, v1, v2, v3, v4, var, ring4, ring5, by_sorted}
 use Rattle.theory_rings.proofs.PolynomialRing.{constant, is_zero_poly, zero_poly_test}
-use Rattle.theory_rings.proofs.Degrees.{length_pos, ne_zero_of_length, ne_zero_of_lead, lead-nonzero, lead-constant, eq_constant}
+use Rattle.theory_rings.proofs.Degrees.{length_pos, ne_zero_of_length, lead-nonzero, lead-constant, eq_constant}
 use Rattle.theory_rings.proofs.Constants.{constant-one, constant_hom}
-use Rattle.theory_rings.proofs.Fields.{mul-inv, inv-ne-zero, field_set}
+use Rattle.theory_rings.proofs.Fields.{mul-inv, field_set}
 use Rattle.theory_rings.proofs.Bezout.{field_polynomials, field_degree-mul, field_lead-mul, poly_mul-ne-zero, poly_mul_cancel_left, left-ne-zero, right-ne-zero, poly_one-nonzero, gcd, coprime_of_bezout, divides_of_coprime}
-use Rattle.theory_rings.proofs.Fractions.{IsReduction, fraction_ring, fraction_field, is_fraction_field}
+use Rattle.theory_rings.proofs.Fractions.{IsReduction, fraction_field, is_fraction_field}
 
 module _ {K : Type 0} (F : FieldOn K) where
   abbrev R : CommRingOn K

@@ -1,5 +1,5 @@
 -- The ring of polynomials: a trimmed list is what its coefficients are, and those are a ring under convolution.
-use Rattle.std.specs.Prelude.{◌≡◌, ◌≢◌, ℕ, zero, suc, ◌+◌, ◌-◌, ◌<◌, ◌≤◌, Bool, true, false, cond, List, [], ◌∷◌, length, get_or, ◌⊎◌}
+use Rattle.std.specs.Prelude.{◌≡◌, ◌≢◌, ℕ, zero, suc, ◌+◌, ◌-◌, ◌≤◌, Bool, true, false, cond, List, [], ◌∷◌, length, get_or}
 use Rattle.std.proofs.Common.{refl, sym, ◌∙◌, ap, ap₂, arith, ⊎_elim}
 use Rattle.std.proofs.Math.Path.{fun_ext}
 use Rattle.std.proofs.lemmas.Bool.{cases_lt}
@@ -8,7 +8,7 @@ use mathlib.Core.HLevel.{Σ_prop_path}
 use Rattle.theory_rings.specs.Ring.{CommRingOn, ZeroTest}
 use Rattle.theory_rings.specs.Sum.{table}
 use Rattle.theory_rings.specs.Polynomial.{IsTrimmed, put_before, trim, Poly, coefficient, convolution, constant_coefficients, IsPolynomialRing}
-use Rattle.theory_rings.proofs.RingLaws.{add-zero, zero-mul, mul-zero, neg_zero}
+use Rattle.theory_rings.proofs.RingLaws.{zero-mul, mul-zero, neg_zero}
 use Rattle.theory_rings.proofs.ZeroTests.{is_zero-complete}
 use Rattle.theory_rings.proofs.Lists.{get_or-table_default}
 use Rattle.theory_rings.proofs.Embedding.{RingEmbedding, embedded_comm_ring}

@@ -1,11 +1,10 @@
 -- Power series: the convolution of coefficients makes functions on ℕ a commutative ring.
-use Rattle.std.specs.Prelude.{◌≡◌, ℕ, zero, suc, ◌+◌, ◌-◌, ◌<◌, ◌≤◌}
+use Rattle.std.specs.Prelude.{◌≡◌, ℕ, zero, suc, ◌-◌, ◌≤◌}
 use Rattle.std.proofs.Common.{refl, sym, ◌∙◌, ap, ap₂, arith}
 use Rattle.std.proofs.Math.Path.{fun_ext}
 use Rattle.theory_rings.specs.Ring.{RingOn, CommRingOn}
-use Rattle.theory_rings.specs.Sum.{sum}
 use Rattle.theory_rings.specs.Polynomial.{convolution, constant_coefficients}
-use Rattle.theory_rings.proofs.RingLaws.{add-zero, mul-zero, zero-mul}
+use Rattle.theory_rings.proofs.RingLaws.{add-zero, zero-mul}
 use Rattle.theory_rings.proofs.Sums.{sum_congr, sum_eq_zero, sum-add, sum_first, mul-sum}
 
 -- the coefficients from the second on

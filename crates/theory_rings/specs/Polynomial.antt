@@ -1,5 +1,5 @@
 -- Polynomials over a commutative ring, as the lists of their coefficients, that of power 0 first, with no 0 at the end.
-use Rattle.std.specs.Prelude.{◌≡◌, ◌≢◌, ℕ, zero, suc, ◌-◌, ◌<◌, ◌≤◌, Bool, true, false, cond, List, [], ◌∷◌, length, get_or}
+use Rattle.std.specs.Prelude.{◌≡◌, ◌≢◌, ℕ, zero, suc, ◌-◌, ◌<◌, Bool, cond, List, [], ◌∷◌, length, get_or}
 use Rattle.theory_rings.specs.Ring.{RingOn, CommRingOn}
 use Rattle.theory_rings.specs.Ops.{Ops}
 use Rattle.theory_rings.specs.Sum.{sum, sum_of}
