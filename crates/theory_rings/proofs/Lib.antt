@@ -20,3 +20,4 @@ pub mod Lowest
 pub mod Evaluation
 pub mod RingPaths
 pub mod PolynomialLaws
+pub mod LongDivision
