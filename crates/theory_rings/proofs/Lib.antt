@@ -21,3 +21,4 @@ pub mod Evaluation
 pub mod RingPaths
 pub mod PolynomialLaws
 pub mod LongDivision
+pub mod Mapping
