@@ -123,6 +123,14 @@ module _ {K : Type 0} (F : FieldOn K) where
   pub gcd : (a b : Poly R) → (g : Poly R) × IsGcd P a b g
   gcd a b = euclid (length b.0) a b (omega arith)
 
+  -- as the variable divides 0, 0 is no greatest common divisor of coprime polynomials
+  pub coprime_gcd-ne-zero : (a b g : Poly R) → IsCoprime R P a b → IsGcd P a b g → g ≢ P.zero
+  coprime_gcd-ne-zero a b g c e z =
+      let t : Poly R = variable R F.zero_test in
+      let null : (x : Poly R) → Divides P g x → Divides P t x =
+      λ x d. (P.zero, d.1 ∙ ap (P.◌⊗◌ d.0) z ∙ mul-zero P.ring d.0 ∙ sym (zero-mul P.ring t)) in
+      omega (arith, degree-variable R F.zero_test F.one-nonzero, c t (null a e.left) (null b e.right))
+
   -- 1 is a combination of coprime polynomials
   pub bezout : (a b : Poly R) → IsCoprime R P a b → (s : Poly R) × (t : Poly R) × (P.◌⊕◌ (P.◌⊗◌ s a) (P.◌⊗◌ t b) ≡ P.one)
   bezout a b c = go (gcd a b)
@@ -137,15 +145,7 @@ module _ {K : Type 0} (F : FieldOn K) where
           e = p.1
 
           nonzero : g ≢ P.zero
-          nonzero z =
-              let all : (x : Poly R) → Divides P g x → x ≡ P.zero = λ x d. d.1 ∙ ap (P.◌⊗◌ d.0) z ∙ mul-zero P.ring d.0 in
-              let any : (x : Poly R) → x ≡ P.zero → Divides P (variable R F.zero_test) x =
-              λ x n. (P.zero, n ∙ sym (zero-mul P.ring (variable R F.zero_test))) in
-              omega (
-                arith,
-                degree-variable R F.zero_test F.one-nonzero,
-                c (variable R F.zero_test) (any a (all a e.left)) (any b (all b e.right)),
-              )
+          nonzero = coprime_gcd-ne-zero a b g c e
 
           k : Poly R
           k = constant R F.zero_test (F.inv (lead R g))

@@ -3,6 +3,7 @@ use Rattle.std.specs.Prelude.{◌≡◌, ◌≢◌, Bool, true, false, [], ◌�
 use Rattle.std.proofs.Common.{refl, sym, ◌∙◌, ap, ap₂}
 use mathlib.Core.HLevel.{Σ_prop_path}
 use Rattle.theory_rings.specs.Ring.{CommRingOn, FieldOn, ZeroTest}
+use Rattle.theory_rings.specs.Homomorphism.{IsRingHom}
 use Rattle.theory_rings.specs.Fraction.{SameFraction, Fraction, IsFractionField}
 use Rattle.theory_rings.proofs.RingLaws.{mul-zero, zero-mul}
 use Rattle.theory_rings.proofs.ZeroTests.{is_zero-complete}
@@ -224,6 +225,39 @@ module _ {D : Type 0} (C : CommRingOn D) (Lowest : D → D → Type 0) (I : IsRe
     };
     mul_comm = fraction-mul_comm;
   }
+
+  -- a / 1
+  pub fraction_of : D → Frac
+  fraction_of a = reduce a one I.one-nonzero
+
+  pub fraction_of_value : (a : D) → IsValue (fraction_of a) a one
+  unfolding fraction_of
+  fraction_of_value a = reduce_value a one I.one-nonzero
+
+  one-one : one ⊗ one ≢ zero
+  one-one = product-nonzero one one I.one-nonzero I.one-nonzero
+
+  -- the ring is a part of its field of fractions
+  pub fraction_of_hom : IsRingHom C.ring fraction_ring.ring fraction_of
+  unfolding fraction_ring
+  fraction_of_hom = record {
+    map-one = value_unique (fraction_of one) fraction_one one one one one I.one-nonzero I.one-nonzero (fraction_of_value one) one_value refl;
+    map-add = λ a b. value_unique (fraction_of (a ⊕ b)) (fraction_add (fraction_of a) (fraction_of b)) (a ⊕ b) one (a ⊗ one ⊕ b ⊗ one) (one ⊗ one)
+        I.one-nonzero one-one (fraction_of_value (a ⊕ b))
+        (add_value (fraction_of a) (fraction_of b) a one b one (fraction_of_value a) (fraction_of_value b))
+        (ring2 C (λ a b. ((a ⊞ b) ⊠ (unit ⊠ unit), (a ⊠ unit ⊞ b ⊠ unit) ⊠ unit)) refl a b);
+    map-mul = λ a b. value_unique (fraction_of (a ⊗ b)) (fraction_mul (fraction_of a) (fraction_of b)) (a ⊗ b) one (a ⊗ b) (one ⊗ one)
+        I.one-nonzero one-one (fraction_of_value (a ⊗ b))
+        (mul_value (fraction_of a) (fraction_of b) a one b one (fraction_of_value a) (fraction_of_value b))
+        (ring2 C (λ a b. (a ⊠ b ⊠ (unit ⊠ unit), a ⊠ b ⊠ unit)) refl a b);
+  }
+
+  pub fraction_of_injective : (a b : D) → fraction_of a ≡ fraction_of b → a ≡ b
+  fraction_of_injective a b e =
+      let d : D = (fraction_of a).0.1 in
+      I.mul_cancel_left d a b (denominator-nonzero (fraction_of a))
+      (C.mul_comm d a ∙ sym (fraction_of_value a) ∙ ap (λ x. x.0.0 ⊗ one) e ∙ fraction_of_value b
+      ∙ ap (λ x. b ⊗ x.0.1) (sym e) ∙ C.mul_comm b d)
 
   fraction_zero-eq : (x : Frac) → x.0.0 ≡ zero → x ≡ fraction_zero
   fraction_zero-eq x e =

@@ -22,3 +22,5 @@ pub mod RingPaths
 pub mod PolynomialLaws
 pub mod LongDivision
 pub mod Mapping
+pub mod ElementLists
+pub mod LowestTests
