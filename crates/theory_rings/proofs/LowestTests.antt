@@ -1,12 +1,10 @@
 -- Tests that decide whether polynomials over a field are coprime, and whether a fraction is in lowest terms.
-use Rattle.std.specs.Prelude.{◌≡◌, ◌≢◌, ℕ, suc, ◌<◌, ◌≤◌, Bool, true, false, ◌&&◌, eqb, length, ◌⊎◌}
-use Rattle.std.proofs.Common.{refl, sym, ◌∙◌, ap, ap₂, arith, inl, inr}
+use Rattle.std.specs.Prelude.{◌≡◌, suc, Bool, true, false, ◌&&◌, eqb, length}
+use Rattle.std.proofs.Common.{refl, sym, ◌∙◌, ap, ap₂, arith}
 use Rattle.std.proofs.lemmas.Bool.{eqb-true, eq-eqb}
 use Rattle.theory_rings.specs.Ring.{FieldOn, CommRingOn}
 use Rattle.theory_rings.specs.Polynomial.{Poly, lead, degree, IsMonic}
-use Rattle.theory_rings.specs.Division.{Divides, IsCoprime, IsGcd}
-use Rattle.theory_rings.specs.Fraction.{IsLowest}
-use Rattle.theory_rings.proofs.RingLaws.{mul-zero}
+use Rattle.theory_rings.specs.Division.{IsCoprime, IsGcd}
 use Rattle.theory_rings.proofs.ZeroTests.{sub_eq_zero, sub_self}
 use Rattle.theory_rings.proofs.Solver.{◌⊞◌, ◌⊠◌, ring5}
 use Rattle.theory_rings.proofs.PolynomialRing.{constant}

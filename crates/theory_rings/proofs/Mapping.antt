@@ -1,8 +1,8 @@
 -- A homomorphism of rings, taken coefficient by coefficient, is one of polynomials and of remainders.
 use Rattle.std.specs.Prelude.{◌≡◌, ◌≢◌, ℕ, zero, suc, ◌-◌, ◌<◌, ◌≤◌, Bool, length}
-use Rattle.std.proofs.Common.{refl, sym, ◌∙◌, ap, ap₂, subst, arith}
+use Rattle.std.proofs.Common.{sym, ◌∙◌, ap, ap₂, subst, arith}
 use Rattle.theory_rings.specs.Ring.{CommRingOn, ZeroTest}
-use Rattle.theory_rings.specs.Polynomial.{Poly, coefficient, lead, degree, convolution, constant_coefficients, IsMonic}
+use Rattle.theory_rings.specs.Polynomial.{Poly, coefficient, degree, convolution, constant_coefficients, IsMonic}
 use Rattle.theory_rings.specs.Division.{Congruent}
 use Rattle.theory_rings.specs.Homomorphism.{IsRingHom}
 use Rattle.theory_rings.specs.Remainder.{Remainder}
