@@ -5,10 +5,10 @@ use Rattle.std.proofs.lemmas.Bool.{eqb-true, eq-eqb}
 use Rattle.theory_rings.specs.Ring.{FieldOn, CommRingOn}
 use Rattle.theory_rings.specs.Polynomial.{Poly, lead, degree, IsMonic}
 use Rattle.theory_rings.specs.Division.{IsCoprime, IsGcd}
-use Rattle.theory_rings.proofs.ZeroTests.{sub_eq_zero, sub_self}
+use Rattle.theory_rings.proofs.ZeroTests.{eq_of_sub_eq_zero, sub_eq_zero_of_eq}
 use Rattle.theory_rings.proofs.Solver.{◌⊞◌, ◌⊠◌, ring5}
 use Rattle.theory_rings.proofs.PolynomialRing.{constant}
-use Rattle.theory_rings.proofs.Degrees.{length-degree, ne_zero_of_length, length_nonzero}
+use Rattle.theory_rings.proofs.Degrees.{length-degree, ne_zero_of_length, length-degree_of_ne_zero}
 use Rattle.theory_rings.proofs.Bezout.{field_polynomials, gcd, degree_zero_inverse, coprime_of_bezout, coprime_gcd-ne-zero}
 use Rattle.theory_rings.proofs.Lowest.{Lowest}
 
@@ -52,7 +52,7 @@ module _ {K : Type 0} (F : FieldOn K) where
   is_coprime-complete a b c = eq-eqb (length (gcd F a b).0.0) 1 (go (gcd F a b).0 (gcd F a b).1)
     where
       go : (g : Poly R) → IsGcd P a b g → length g.0 ≡ 1
-      go g d = omega (arith, length_nonzero R F.zero_test g (coprime_gcd-ne-zero F a b g c d), c g d.left d.right)
+      go g d = omega (arith, length-degree_of_ne_zero R F.zero_test g (coprime_gcd-ne-zero F a b g c d), c g d.left d.right)
 
   -- not empty, and the leading coefficient less 1 is 0
   pub is_monic : Poly R → Bool
@@ -65,7 +65,7 @@ module _ {K : Type 0} (F : FieldOn K) where
       let b : Bool = F.is_zero (F.◌⊕◌ (lead R v) (F.neg F.one)) in
       record {
         nonzero = omega (arith, eqb-true (length v.0) (suc (degree v.0)) (and_left a b e));
-        leading = sub_eq_zero F.additive (lead R v) F.one (F.is_zero-sound (F.◌⊕◌ (lead R v) (F.neg F.one)) (and_right a b e));
+        leading = eq_of_sub_eq_zero F.additive (lead R v) F.one (F.is_zero-sound (F.◌⊕◌ (lead R v) (F.neg F.one)) (and_right a b e));
       }
 
   pub is_monic-complete : (v : Poly R) → IsMonic R v → is_monic v ≡ true
@@ -73,7 +73,7 @@ module _ {K : Type 0} (F : FieldOn K) where
   is_monic-complete v h =
       and_both (eqb (length v.0) (suc (degree v.0))) (F.is_zero (F.◌⊕◌ (lead R v) (F.neg F.one)))
       (eq-eqb (length v.0) (suc (degree v.0)) (length-degree R v h.nonzero))
-      (ap F.is_zero (sub_self F.additive (lead R v) F.one h.leading) ∙ F.is_zero-zero)
+      (ap F.is_zero (sub_eq_zero_of_eq F.additive (lead R v) F.one h.leading) ∙ F.is_zero-zero)
 
   pub is_lowest : Poly R → Poly R → Bool
   is_lowest u v = is_monic v && is_coprime u v

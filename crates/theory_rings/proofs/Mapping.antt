@@ -10,7 +10,7 @@ use Rattle.theory_rings.proofs.Sums.{map-sum, sum_congr}
 use Rattle.theory_rings.proofs.Series.{convolution_congr}
 use Rattle.theory_rings.proofs.Homomorphisms.{map-zero}
 use Rattle.theory_rings.proofs.PolynomialRing.{Poly-path, coefficient_past, polynomial, coefficient-polynomial, polynomials, coefficient-one, coefficient-add, coefficient-mul}
-use Rattle.theory_rings.proofs.Degrees.{length_le, length-degree, lt_length, lead-ne-zero}
+use Rattle.theory_rings.proofs.Degrees.{length_le, length-degree, lt_length, lead-ne-zero_of_length}
 use Rattle.theory_rings.proofs.Remainders.{remainders, remainder, remainder_hom, remainder_eq, remainder_congruent, remainder_of_small, remainders-one, remainders-add, remainders-mul}
 
 module _ {K L : Type 0} (R : CommRingOn K) {is_zero : K → Bool} (Z : ZeroTest R.zero is_zero)
@@ -73,7 +73,7 @@ module _ {K L : Type 0} (R : CommRingOn K) {is_zero : K → Bool} (Z : ZeroTest 
         omega (arith, length-degree R m monic.nonzero)
       where
         nonzero : coefficient S m' (degree m.0) ≢ S.zero
-        nonzero e = lead-ne-zero S m' monic'.nonzero
+        nonzero e = lead-ne-zero_of_length S m' monic'.nonzero
             (monic'.leading ∙ sym (ap (λ x. coefficient S x (degree m.0)) (sym image)
             ∙ coefficient-map_poly m (degree m.0) ∙ ap h monic.leading ∙ H.map-one) ∙ e)
 
