@@ -39,3 +39,8 @@ pub mod Evaluation
 pub mod RingPaths
 pub mod FieldProducts
 pub mod FrobeniusMap
+pub mod PolynomialLaws
+pub mod LongDivision
+pub mod Mapping
+pub mod ElementLists
+pub mod LowestTests

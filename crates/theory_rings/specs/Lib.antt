@@ -15,3 +15,4 @@ pub mod Homomorphism
 pub mod Remainder
 pub mod Fraction
 pub mod Evaluation
+pub mod PolynomialLaws
