@@ -2,7 +2,11 @@ pub mod Ring
 pub mod Ops
 pub mod Elements
 pub mod Sum
+pub mod IntegersMod
+pub mod Naturals
+pub mod Digits
 pub mod Polynomial
+pub mod FieldByDigits
 pub mod Division
 pub mod Homomorphism
 pub mod Remainder

@@ -3,6 +3,8 @@
 
 ghost use Rattle.std.specs.Prelude.{◌≡◌};
 
+pub mod numbers;
+
 pub fn same(x: usize) -> usize
     ensures { result ≡ x }
 {
