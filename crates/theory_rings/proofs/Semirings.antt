@@ -1,5 +1,5 @@
 -- Commutative semirings, where there may be no negatives: the numbers are one, and so is each commutative ring.
-use Rattle.std.specs.Prelude.{◌≡◌, ℕ, zero, suc, ◌+◌, ◌*◌, ◌^◌}
+use Rattle.std.specs.Prelude.{◌≡◌, ℕ, zero, suc, ◌*◌, ◌^◌}
 use Rattle.std.proofs.Common.{refl, sym, ◌∙◌, ap, ap₂}
 use Rattle.std.proofs.Math.Nat as nat
 use Rattle.theory_rings.specs.Ring.{AddCommMonoidOn, CommRingOn}
