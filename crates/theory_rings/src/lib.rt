@@ -3,6 +3,7 @@
 
 ghost use Rattle.std.specs.Prelude.{◌≡◌};
 
+pub mod frobenius;
 pub mod numbers;
 
 pub fn same(x: usize) -> usize
