@@ -21,3 +21,8 @@ pub mod Constants
 pub mod Fields
 pub mod Bezout
 pub mod RingByDigits
+pub mod Irreducible
+pub mod Fractions
+pub mod Lowest
+pub mod Evaluation
+pub mod RingPaths

@@ -10,3 +10,5 @@ pub mod FieldByDigits
 pub mod Division
 pub mod Homomorphism
 pub mod Remainder
+pub mod Fraction
+pub mod Evaluation
