@@ -26,3 +26,4 @@ pub mod Fractions
 pub mod Lowest
 pub mod Evaluation
 pub mod RingPaths
+pub mod PolynomialLaws

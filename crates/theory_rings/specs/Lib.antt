@@ -12,3 +12,4 @@ pub mod Homomorphism
 pub mod Remainder
 pub mod Fraction
 pub mod Evaluation
+pub mod PolynomialLaws
