@@ -1,8 +1,8 @@
 -- The residue of a number modulo n, which keeps sums and products; and the numbers below n as a field where each but 0
 -- has an inverse.
-use Rattle.std.specs.Prelude.{◌≡◌, ℕ, ◌+◌, ◌-◌, ◌*◌, ◌%◌, ◌<◌, ◌≤◌, true, List, slice_index}
-use Rattle.std.proofs.Common.{refl, sym, ◌∙◌, ap, arith}
-use Rattle.std.proofs.Math.Nat.{mod-mod, mod-eq_of_lt, mod-add-mod, add-mod-mod}
+use Rattle.std.specs.Prelude.{◌≡◌, ℕ, ◌+◌, ◌-◌, ◌*◌, ◌%◌, ◌<◌, ◌≤◌, List, slice_index}
+use Rattle.std.proofs.Common.{refl, sym, ◌∙◌, arith}
+use Rattle.std.proofs.Math.Nat.{mod-eq_of_lt, mod-add-mod, add-mod-mod}
 use Rattle.std.proofs.lemmas.Bool.{ltb-true, lt-ltb, eqb-true, eq-eqb}
 use Rattle.std.proofs.lemmas.Nat.{mul-mod}
 use Rattle.theory_rings.specs.Ring.{ZeroTest}
@@ -10,7 +10,7 @@ use Rattle.theory_rings.specs.Ops.{FieldLaws}
 use Rattle.theory_rings.specs.Sum.{sum}
 use Rattle.theory_rings.specs.Naturals.{nat_monoid}
 use Rattle.theory_rings.proofs.Sums.{map-sum}
-use Rattle.theory_rings.specs.IntegersMod.{Fin, Fin-path, value-lt, residue, residue_is_zero, integers_mod, IsIntegersMod, IntegersModLaw, FieldModLaw, IsInverseTable, mod_ops, mod-elem, zero-elem, one-elem, add_assoc_mod, add_comm_mod, zero-add_mod, neg-add_mod, mul_assoc_mod, mul_comm_mod, one-mul_mod, mul-add_mod}
+use Rattle.theory_rings.specs.IntegersMod.{Fin, Fin-path, value-lt, residue, residue_is_zero, integers_mod, IntegersModLaw, FieldModLaw, IsInverseTable, mod_ops, mod-elem, zero-elem, one-elem, add_assoc_mod, add_comm_mod, zero-add_mod, neg-add_mod, mul_assoc_mod, mul_comm_mod, one-mul_mod, mul-add_mod}
 
 module _ (n : ℕ) (two_le : 2 ≤ n) where
   infixl 65 ◌⊕◌
@@ -46,14 +46,15 @@ module _ (n : ℕ) (two_le : 2 ≤ n) where
   }
 
   -- where a table has inverses modulo n, the numbers below n are a field
-  pub mod_laws : (inverses : List ℕ) → IsInverseTable n inverses → FieldLaws (mod_ops n inverses)
-  mod_laws inverses T = record {
+  pub mod_laws : (inverses : List ℕ) → ((a : ℕ) → a < n → slice_index inverses a < n)
+      → ((a : ℕ) → 0 < a → a < n → (a * slice_index inverses a) % n ≡ 1) → FieldLaws (mod_ops n inverses)
+  mod_laws inverses below inverse = record {
     zero-elem = zero-elem n two_le;
     one-elem = one-elem n two_le;
     add-elem = λ a b _ _. mod-elem n two_le (a + b);
     neg-elem = λ a _. mod-elem n two_le (n - a);
     mul-elem = λ a b _ _. mod-elem n two_le (a * b);
-    inv-elem = λ a h. lt-ltb (slice_index inverses a) n (T.below a (ltb-true a n h));
+    inv-elem = λ a h. lt-ltb (slice_index inverses a) n (below a (ltb-true a n h));
     add_assoc = λ a b c _ _ _. add_assoc_mod n a b c;
     add_comm = λ a b _ _. add_comm_mod n a b;
     zero-add = λ a h. zero-add_mod n a (ltb-true a n h);
@@ -65,7 +66,7 @@ module _ (n : ℕ) (two_le : 2 ≤ n) where
     is_zero-sound = λ a _ e. eqb-true a 0 e;
     is_zero-zero = eq-eqb 0 0 refl;
     one-nonzero = λ e. omega arith;
-    inv-mul = λ a h k. mul_comm_mod n (slice_index inverses a) a ∙ T.inverse a (positive a k) (ltb-true a n h);
+    inv-mul = λ a h k. mul_comm_mod n (slice_index inverses a) a ∙ inverse a (positive a k) (ltb-true a n h);
   }
     where
       positive : (a : ℕ) → (a ≡ 0 → ⊥) → 0 < a
@@ -75,4 +76,4 @@ pub integers_mod_law : IntegersModLaw
 integers_mod_law n two_le = (integers_mod n two_le, record { zero = refl; one = refl; add = λ a b. refl; mul = λ a b. refl })
 
 pub field_mod_law : FieldModLaw
-field_mod_law n inverses two_le T = mod_laws n two_le inverses T
+field_mod_law n inverses two_le T = mod_laws n two_le inverses T.below T.inverse

@@ -25,6 +25,8 @@ pub mod Irreducible
 pub mod Fractions
 pub mod Lowest
 pub mod Evaluation
+pub mod RingPaths
+pub mod PolynomialLaws
 pub mod FieldProducts
 pub mod Powers
 pub mod Times

@@ -12,6 +12,7 @@ pub mod Homomorphism
 pub mod Remainder
 pub mod Fraction
 pub mod Evaluation
+pub mod PolynomialLaws
 pub mod Power
 pub mod Prime
 pub mod Binomial

@@ -1,6 +1,6 @@
 use Rattle.std.proofs.Common.{sym, ◌∙◌}
 use Rattle.theory_rings.proofs.FrobeniusRoots.{frobenius_root-exists, frobenius_root-unique}
-use Rattle.theory_rings.proofs.frobenius.frobenius_roots.Goals as goal
+use Rattle.theory_rings.proofs.frobenius.frobenius_roots_law.Goals as goal
 
 pub returns : goal.returns
 returns c o L q is_elem-lt p prime char a l =
