@@ -6,8 +6,8 @@ use Rattle.std.proofs.Math.Nat.{dvd-mul_right}
 use Rattle.theory_rings.specs.Ring.{CommRingOn}
 use Rattle.theory_rings.specs.Prime.{IsPrime}
 use Rattle.theory_rings.specs.Sum.{sum}
-use Rattle.theory_rings.specs.Power.{power, times}
-use Rattle.theory_rings.specs.Binomial.{choose}
+use Rattle.theory_rings.specs.Power.{times}
+use Rattle.theory_rings.specs.Binomial.{choose, BinomialLaw}
 use Rattle.theory_rings.proofs.RingLaws.{add-zero, add_left_comm}
 use Rattle.theory_rings.proofs.Sums.{sum_congr, sum-add, sum_first}
 use Rattle.theory_rings.proofs.Times.{one-times, add-times}
@@ -106,7 +106,5 @@ module _ {K : Type 0} (S : CommSemiringOn K) (a b : K) where
       ∙ sym (sum_first monoid (suc n) t)
 
 -- the binomial theorem in a commutative ring
-pub binomial_theorem : {K : Type 0} (C : CommRingOn K) (a b : K) (n : ℕ)
-    → power C.ring (C.◌⊕◌ a b) n
-    ≡ sum C.monoid (suc n) (λ k. times C.monoid (choose n k) (C.◌⊗◌ (power C.ring a k) (power C.ring b (n - k))))
+pub binomial_theorem : {K : Type 0} (C : CommRingOn K) → BinomialLaw C
 binomial_theorem C a b n = add-power (semiring C) a b n

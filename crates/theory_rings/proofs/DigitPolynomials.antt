@@ -1,18 +1,16 @@
 -- The numbers are the polynomials over the integers modulo p, by their digits in base p; those below p ^ d are those of
 -- degree below d.
-use Rattle.std.specs.Prelude.{◌≡◌, ℕ, zero, suc, ◌+◌, ◌-◌, ◌*◌, ◌%◌, ◌^◌, ◌<◌, ◌≤◌, length}
-use Rattle.std.proofs.Common.{refl, sym, ◌∙◌, ap, ap₂, arith, ⊎_elim}
+use Rattle.std.specs.Prelude.{◌≡◌, ℕ, zero, suc, ◌+◌, ◌-◌, ◌*◌, ◌^◌, ◌<◌, ◌≤◌, length}
+use Rattle.std.proofs.Common.{sym, ◌∙◌, ap, arith, ⊎_elim}
 use Rattle.std.proofs.Math.Nat.{mod-eq_of_lt, pow-le-pow_right, div-eq_of_lt, mul-add-div, mul-add-mod_self_left}
-use Rattle.std.proofs.Math.Path.{fun_ext}
 use Rattle.std.proofs.lemmas.Bool.{cases_lt}
-use Rattle.theory_rings.specs.Ring.{CommRingOn, ZeroTest}
-use Rattle.theory_rings.specs.Sum.{sum}
-use Rattle.theory_rings.specs.IntegersMod.{Fin, Fin-path, value-lt, residue, residue_is_zero, integers_mod}
+use Rattle.theory_rings.specs.Ring.{CommRingOn}
+use Rattle.theory_rings.specs.IntegersMod.{Fin, value-lt, residue, integers_mod}
 use Rattle.theory_rings.specs.Digits.{digit, of_digits}
 use Rattle.theory_rings.specs.Polynomial.{Poly, coefficient, convolution, constant_coefficients}
 use Rattle.theory_rings.specs.FieldByDigits.{product_coefficient}
 use Rattle.theory_rings.proofs.Sums.{sum_congr}
-use Rattle.theory_rings.proofs.IntegersMod.{residue_eq, residue-value, residue-zero, residue-one, residue-mul, residue-sum, residue_zero_test}
+use Rattle.theory_rings.proofs.IntegersMod.{residue-value, residue-zero, residue-one, residue-mul, residue-sum, residue_zero_test}
 use Rattle.theory_rings.proofs.Digits.{digit-zero, digit-suc, zero-digit, digit_lt, digit_past, digit_injective, digit-of_digits, of_digits_lt, lt_pow_self}
 use Rattle.theory_rings.proofs.Degrees.{length_le}
 use Rattle.theory_rings.proofs.PolynomialRing.{Poly-path, coefficient_past, polynomial, coefficient-polynomial, polynomials, coefficient-zero, coefficient-one, constant, coefficient-constant, series_prepend, prepend, coefficient-prepend}

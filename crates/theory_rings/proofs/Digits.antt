@@ -1,8 +1,7 @@
 -- A number below p ^ d is its d digits, and each d digits are those of one number below p ^ d.
-use Rattle.std.specs.Prelude.{◌≡◌, ℕ, zero, suc, ◌+◌, ◌-◌, ◌*◌, ◌/◌, ◌%◌, ◌^◌, ◌<◌, ◌≤◌}
-use Rattle.std.proofs.Common.{refl, sym, ◌∙◌, ap, ap₂, arith}
+use Rattle.std.specs.Prelude.{◌≡◌, ℕ, zero, suc, ◌+◌, ◌*◌, ◌/◌, ◌%◌, ◌^◌, ◌<◌, ◌≤◌}
+use Rattle.std.proofs.Common.{sym, ◌∙◌, ap, ap₂, arith}
 use Rattle.std.proofs.Math.Nat.{mod-lt, mod-one, zero-mod, mod-eq_of_lt, div-add-mod, div-one, zero-div, div-eq_of_lt, div-div-eq-div-mul, mul-add-div, mul-add-mod_self_left, pow-zero, pow-suc, pow-succ', pow-le-pow_right, one-le-pow, mul-le-mul_right}
-use Rattle.theory_rings.specs.Sum.{sum}
 use Rattle.theory_rings.specs.Naturals.{nat_monoid}
 use Rattle.theory_rings.specs.Digits.{digit, of_digits, DigitsLaw}
 use Rattle.theory_rings.proofs.Sums.{sum_congr, sum_first}

@@ -5,8 +5,9 @@ use Rattle.std.proofs.Math.Nat as nat
 use Rattle.std.proofs.lemmas.Nat.{mul-mod_second}
 use Rattle.theory_rings.specs.Prime.{IsPrime}
 use Rattle.theory_rings.specs.Power.{power_by_ops}
+use Rattle.theory_rings.proofs.NaturalSums.{sum_const}
 use Rattle.theory_rings.proofs.Primes.{IsPrime-not_dvd, IsPrime-mul_mod_cancel}
-use Rattle.theory_rings.proofs.Semirings.{naturals, power_in-one, power-naturals, times-naturals}
+use Rattle.theory_rings.proofs.Semirings.{naturals, power_in-one, power-naturals}
 use Rattle.theory_rings.proofs.FrobeniusMap.{add-power_prime}
 
 -- a power by the product modulo n is the power modulo n
@@ -22,7 +23,7 @@ module _ (p : ℕ) (prime : IsPrime p) where
       let e : a + 1 ≡ suc a = omega arith in (
         r.0,
         sym (ap (λ x. x ^ p) e) ∙ sym (power-naturals (a + 1) p) ∙ r.1
-            ∙ ap₂ (λ x y. x + y) (ap₂ (λ x y. x + y) (power-naturals a p) (power_in-one naturals p)) (times-naturals p r.0),
+            ∙ ap₂ (λ x y. x + y) (ap₂ (λ x y. x + y) (power-naturals a p) (power_in-one naturals p)) (sum_const p r.0),
       )
 
   -- Fermat's little theorem

@@ -1,14 +1,14 @@
 -- The sum and the product of numbers by their digits are those of their polynomials modulo the modulus.
-use Rattle.std.specs.Prelude.{◌≡◌, ◌≢◌, ℕ, zero, suc, ◌+◌, ◌-◌, ◌*◌, ◌%◌, ◌^◌, ◌<◌, ◌≤◌, List, [], ◌∷◌, ◌++◌, length, get_or}
+use Rattle.std.specs.Prelude.{◌≡◌, ◌≢◌, ℕ, suc, ◌+◌, ◌%◌, ◌<◌, ◌≤◌, List, [], ◌∷◌, ◌++◌, length}
 use Rattle.std.proofs.Common.{refl, sym, ◌∙◌, ap, ap₂, arith, ⊎_elim, length-append}
-use Rattle.std.proofs.Math.Nat.{mod-mod, mod-eq_of_lt}
+use Rattle.std.proofs.Math.Nat.{mod-mod}
 use Rattle.std.proofs.lemmas.Bool.{cases_lt}
 use Rattle.std.proofs.lemmas.List.{get_or_past, get_or_push}
 use Rattle.std.proofs.lemmas.Nat.{mod_below}
 use Rattle.theory_rings.specs.Ring.{CommRingOn}
-use Rattle.theory_rings.specs.IntegersMod.{Fin, Fin-path, residue, integers_mod}
+use Rattle.theory_rings.specs.IntegersMod.{Fin, residue}
 use Rattle.theory_rings.specs.Digits.{digit, of_digits}
-use Rattle.theory_rings.specs.Polynomial.{Poly, coefficient, lead, degree, convolution, IsMonic}
+use Rattle.theory_rings.specs.Polynomial.{coefficient, lead, degree, IsMonic}
 use Rattle.theory_rings.specs.Division.{IsDivision}
 use Rattle.theory_rings.specs.FieldByDigits.{product_coefficient, modulus_coefficient, size_by_digits, IsSumByDigits, IsProductByDigits}
 use Rattle.theory_rings.proofs.IntegersMod.{residue_eq, residue-zero, residue-one, residue-add}

@@ -3,13 +3,14 @@ use Rattle.std.specs.Prelude.{◌≡◌, ℕ, zero, suc, ◌-◌, ◌/◌, ◌^�
 use Rattle.std.proofs.Common.{sym, ◌∙◌, ap, ap₂, arith}
 use Rattle.std.proofs.Math.Nat.{mul-div_cancel', pow-zero, pow-suc}
 use Rattle.theory_rings.specs.Ring.{CommRingOn, FieldOn}
+use Rattle.theory_rings.specs.Homomorphism.{IsRingHom}
 use Rattle.theory_rings.specs.Prime.{IsPrime}
 use Rattle.theory_rings.specs.Sum.{sum}
 use Rattle.theory_rings.specs.Power.{power, times}
 use Rattle.theory_rings.specs.Binomial.{choose}
 use Rattle.theory_rings.proofs.RingLaws.{add-zero, add_cancel_left}
 use Rattle.theory_rings.proofs.Sums.{sum_congr, sum_first, map-sum}
-use Rattle.theory_rings.proofs.Powers.{power_first, power-zero, power-power, power_only_zero}
+use Rattle.theory_rings.proofs.Powers.{power-one, power-mul, power_first, power-zero, power-power, power_only_zero}
 use Rattle.theory_rings.proofs.Times.{one-times, mul-times, times-sum, times_char}
 use Rattle.theory_rings.proofs.Divisibility.{pow-pos}
 use Rattle.theory_rings.proofs.Semirings.{CommSemiringOn, semiring, power_in}
@@ -72,6 +73,14 @@ module _ {K : Type 0} (C : CommRingOn K) (p : ℕ) (prime : IsPrime p) (char : t
   frobenius-add a b =
       let r = add-power_prime (semiring C) a b p prime in
       r.1 ∙ ap (λ x. power ring a p ⊕ power ring b p ⊕ x) (times_char ring p char r.0) ∙ add-zero monoid (power ring a p ⊕ power ring b p)
+
+  -- the map is a homomorphism
+  pub frobenius_hom : IsRingHom ring ring (λ x. power ring x p)
+  frobenius_hom = record {
+    map-one = power-one ring p;
+    map-add = frobenius-add;
+    map-mul = λ a b. power-mul ring a b (C.mul_comm a b) p;
+  }
 
   frobenius_iterate : (x : K) (i : ℕ) → power ring x (p ^ suc i) ≡ power ring (power ring x (p ^ i)) p
   frobenius_iterate x i = ap (power ring x) (pow-suc p i) ∙ sym (power-power ring x (p ^ i) p)

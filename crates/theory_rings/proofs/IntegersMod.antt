@@ -1,8 +1,8 @@
 -- The residue of a number modulo n, which keeps sums and products; and the numbers below n as a field where each but 0
 -- has an inverse.
-use Rattle.std.specs.Prelude.{◌≡◌, ℕ, ◌+◌, ◌-◌, ◌*◌, ◌%◌, ◌<◌, ◌≤◌, true, List, slice_index}
-use Rattle.std.proofs.Common.{refl, sym, ◌∙◌, ap, arith}
-use Rattle.std.proofs.Math.Nat.{mod-mod, mod-eq_of_lt, mod-add-mod, add-mod-mod}
+use Rattle.std.specs.Prelude.{◌≡◌, ℕ, ◌+◌, ◌-◌, ◌*◌, ◌%◌, ◌<◌, ◌≤◌, List, slice_index}
+use Rattle.std.proofs.Common.{refl, sym, ◌∙◌, arith}
+use Rattle.std.proofs.Math.Nat.{mod-eq_of_lt, mod-add-mod, add-mod-mod}
 use Rattle.std.proofs.lemmas.Bool.{ltb-true, lt-ltb, eqb-true, eq-eqb}
 use Rattle.std.proofs.lemmas.Nat.{mul-mod}
 use Rattle.theory_rings.specs.Ring.{ZeroTest}
@@ -10,7 +10,7 @@ use Rattle.theory_rings.specs.Ops.{FieldLaws}
 use Rattle.theory_rings.specs.Sum.{sum}
 use Rattle.theory_rings.specs.Naturals.{nat_monoid}
 use Rattle.theory_rings.proofs.Sums.{map-sum}
-use Rattle.theory_rings.specs.IntegersMod.{Fin, Fin-path, value-lt, residue, residue_is_zero, integers_mod, IsIntegersMod, IntegersModLaw, FieldModLaw, IsInverseTable, mod_ops, mod-elem, zero-elem, one-elem, add_assoc_mod, add_comm_mod, zero-add_mod, neg-add_mod, mul_assoc_mod, mul_comm_mod, one-mul_mod, mul-add_mod}
+use Rattle.theory_rings.specs.IntegersMod.{Fin, Fin-path, value-lt, residue, residue_is_zero, integers_mod, IntegersModLaw, FieldModLaw, IsInverseTable, mod_ops, mod-elem, zero-elem, one-elem, add_assoc_mod, add_comm_mod, zero-add_mod, neg-add_mod, mul_assoc_mod, mul_comm_mod, one-mul_mod, mul-add_mod}
 
 module _ (n : ℕ) (two_le : 2 ≤ n) where
   infixl 65 ◌⊕◌

@@ -1,7 +1,7 @@
 -- Sums of natural numbers: constants, bounds, products and remainders.
 use Rattle.std.specs.Prelude.{◌≡◌, ℕ, zero, suc, ◌+◌, ◌*◌, ◌%◌, ◌<◌, ◌≤◌}
-use Rattle.std.proofs.Common.{refl, sym, ◌∙◌, ap, ap₂, arith, ⊎_elim}
-use Rattle.std.proofs.Math.Nat.{zero-mul, mul-zero, mul-add, add-mul, add-mod, mod-mod, mod-add-mod, add-mod-mod}
+use Rattle.std.proofs.Common.{refl, sym, ◌∙◌, ap, arith, ⊎_elim}
+use Rattle.std.proofs.Math.Nat.{zero-mul, mul-zero, mul-add, add-mul, mod-add-mod, add-mod-mod}
 use Rattle.std.proofs.lemmas.Bool.{cases_lt}
 use Rattle.theory_rings.specs.Sum.{sum}
 use Rattle.theory_rings.specs.Naturals.{nat_monoid}

@@ -1,21 +1,21 @@
 -- Products by digits from others: by 0, by 1, by a sum, by t times a number, and of numbers below p.
-use Rattle.std.specs.Prelude.{◌≡◌, ℕ, zero, suc, ◌+◌, ◌-◌, ◌*◌, ◌/◌, ◌%◌, ◌^◌, ◌<◌, ◌≤◌, List, [], ◌∷◌, ◌++◌, length, get_or}
+use Rattle.std.specs.Prelude.{◌≡◌, ℕ, zero, suc, ◌+◌, ◌-◌, ◌*◌, ◌%◌, ◌<◌, ◌≤◌, List, [], ◌∷◌, ◌++◌, length, get_or}
 use Rattle.std.proofs.Common.{refl, sym, ◌∙◌, ap, ap₂, arith, ⊎_elim, length-append}
 use Rattle.std.proofs.Math.ListN.{get_or-append}
 use Rattle.std.proofs.lemmas.List.{get_or_past, get_or_push}
-use Rattle.std.proofs.Math.Nat.{mod-mod, mod-eq_of_lt, one-le-pow, lt_of_lt_of_le, mul-div_cancel_left}
+use Rattle.std.proofs.Math.Nat.{mod-mod, one-le-pow, lt_of_lt_of_le, mul-div_cancel_left}
 use Rattle.std.proofs.lemmas.Nat.{mod_below}
 use Rattle.std.proofs.lemmas.Bool.{cases_lt}
 use Rattle.theory_rings.specs.Ring.{CommRingOn, ZeroTest}
 use Rattle.theory_rings.specs.IntegersMod.{Fin, residue, residue_is_zero}
-use Rattle.theory_rings.specs.Digits.{digit, of_digits}
-use Rattle.theory_rings.specs.Polynomial.{Poly, coefficient, constant_coefficients}
+use Rattle.theory_rings.specs.Digits.{digit}
+use Rattle.theory_rings.specs.Polynomial.{constant_coefficients}
 use Rattle.theory_rings.specs.FieldByDigits.{modulus_coefficient, size_by_digits, IsSumByDigits, IsProductByDigits}
-use Rattle.theory_rings.proofs.Solver.{Ex, ◌⊞◌, ◌⊠◌, minus, v0, v1, v2, v3, v4, var, by_sorted, ring3, ring4, ring5}
-use Rattle.theory_rings.proofs.RingLaws.{zero-mul, mul-zero, add-zero}
-use Rattle.theory_rings.proofs.IntegersMod.{residue_eq, residue-zero, residue-one, residue-add, residue-mul, residue_zero_test}
+use Rattle.theory_rings.proofs.Solver.{◌⊞◌, ◌⊠◌, ring3, ring4, ring5}
+use Rattle.theory_rings.proofs.RingLaws.{zero-mul, mul-zero}
+use Rattle.theory_rings.proofs.IntegersMod.{residue_eq, residue-zero, residue-add, residue-mul, residue_zero_test}
 use Rattle.theory_rings.proofs.Digits.{digit-suc, digit_past, le_pow_self}
-use Rattle.theory_rings.proofs.PolynomialRing.{Poly-path, coefficient-add, coefficient-mul, constant, coefficient-constant, prepend, coefficient-prepend, series_prepend}
+use Rattle.theory_rings.proofs.PolynomialRing.{Poly-path, coefficient-add, constant, coefficient-constant, prepend}
 use Rattle.theory_rings.proofs.Constants.{variable, prepend-zero, coefficient-constant_mul}
 use Rattle.theory_rings.proofs.DigitPolynomials.{residues, DigitPoly, digit_polynomials, polynomial_of, coefficient-polynomial_of, polynomial_of-zero, polynomial_of-one, polynomial_of-constant, polynomial_of-prepend}
 use Rattle.theory_rings.proofs.FieldByDigits.{modulus, coefficient-modulus, polynomial_of-sum, polynomial_of-product, product_from_polynomial}

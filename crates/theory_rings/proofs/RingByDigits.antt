@@ -1,7 +1,7 @@
 -- The numbers below p ^ d by their digits are the ring of the remainders by the modulus, whatever the modulus; where each
 -- but 0 has an inverse they are a field.
-use Rattle.std.specs.Prelude.{◌≡◌, ◌≢◌, ℕ, suc, ◌^◌, ◌<◌, ◌≤◌, Bool, true, IsTrue, nat_lt, nat_eq, List, length}
-use Rattle.std.proofs.Common.{refl, sym, ◌∙◌, ap, ap₂, subst, arith}
+use Rattle.std.specs.Prelude.{◌≡◌, ◌≢◌, ℕ, suc, ◌<◌, ◌≤◌, List, length}
+use Rattle.std.proofs.Common.{refl, sym, ◌∙◌, ap, subst, arith}
 use Rattle.std.proofs.Math.Bridge.{le_prop}
 use Rattle.std.proofs.lemmas.Bool.{ltb-true, lt-ltb, eqb-true, eq-eqb}
 use mathlib.Core.HLevel.{Σ_prop_path}
@@ -9,19 +9,17 @@ use Rattle.theory_rings.specs.Ring.{CommRingOn, ZeroTest}
 use Rattle.theory_rings.specs.Ops.{Ops, IsElem, FieldLaws}
 use Rattle.theory_rings.specs.Elements.{Elem}
 use Rattle.theory_rings.specs.Homomorphism.{IsRingHom}
-use Rattle.theory_rings.specs.IntegersMod.{Fin, Fin-path, value-lt, residue, residue_is_zero, integers_mod}
+use Rattle.theory_rings.specs.IntegersMod.{Fin, Fin-path, value-lt, residue, residue_is_zero}
 use Rattle.theory_rings.specs.Digits.{digit}
-use Rattle.theory_rings.specs.Polynomial.{Poly, coefficient}
-use Rattle.theory_rings.specs.Division.{Congruent}
+use Rattle.theory_rings.specs.Polynomial.{coefficient}
 use Rattle.theory_rings.specs.Remainder.{Remainder}
 use Rattle.theory_rings.specs.FieldByDigits.{size_by_digits, IsSumByDigits, IsProductByDigits, IsRingByDigits, IsFieldByDigits, DigitsAreRemainders, DigitsAreRemaindersLaw, FieldByDigitsLaw}
 use Rattle.theory_rings.proofs.RingLaws.{neg_unique}
 use Rattle.theory_rings.proofs.IntegersMod.{residue_zero_test}
-use Rattle.theory_rings.proofs.Digits.{lt_pow_self, le_pow_self}
+use Rattle.theory_rings.proofs.Digits.{le_pow_self}
 use Rattle.theory_rings.proofs.Embedding.{RingEmbedding, embedded_comm_ring, FieldEmbedding, embedded_field}
 use Rattle.theory_rings.proofs.PolynomialRing.{is_polynomial_ring}
-use Rattle.theory_rings.proofs.Remainders.{remainders, remainder, remainder_eq, remainder_of_small, Remainder-path, remainders-zero_poly, remainders-one_poly, remainders-add_poly, remainders-mul, is_remainder_ring}
-use Rattle.theory_rings.proofs.Residues.{congruent_of_eq}
+use Rattle.theory_rings.proofs.Remainders.{remainders, remainder_eq, remainder_of_small, remainders-zero_poly, remainders-one_poly, remainders-add_poly, remainders-mul, is_remainder_ring}
 use Rattle.theory_rings.proofs.DigitPolynomials.{DigitPoly, residues, digit_polynomials, polynomial_of, coefficient-polynomial_of, number_of, number_of_lt, polynomial_of-number_of, polynomial_of-injective, length-polynomial_of, polynomial_of-zero, polynomial_of-one}
 use Rattle.theory_rings.proofs.FieldByDigits.{modulus, coefficient-modulus, length-modulus, degree-modulus, modulus_monic, polynomial_of-sum, polynomial_of-product, sum_exists, sum_unique, product_exists, product_unique}
 

@@ -1,8 +1,9 @@
 -- Commutative semirings, where there may be no negatives: the numbers are one, and so is each commutative ring.
-use Rattle.std.specs.Prelude.{◌≡◌, ℕ, zero, suc, ◌+◌, ◌*◌, ◌^◌}
+use Rattle.std.specs.Prelude.{◌≡◌, ℕ, zero, suc, ◌*◌, ◌^◌}
 use Rattle.std.proofs.Common.{refl, sym, ◌∙◌, ap, ap₂}
 use Rattle.std.proofs.Math.Nat as nat
 use Rattle.theory_rings.specs.Ring.{AddCommMonoidOn, CommRingOn}
+use Rattle.theory_rings.specs.Naturals.{nat_monoid}
 use Rattle.theory_rings.specs.Power.{power_by_ops, times}
 use Rattle.theory_rings.specs.Sum.{sum}
 use Rattle.theory_rings.proofs.RingLaws.{mul-zero}
@@ -35,13 +36,7 @@ semiring C = record {
 
 abbrev pub naturals : CommSemiringOn ℕ
 naturals = record {
-  monoid = record {
-    zero = 0;
-    ◌⊕◌ = ◌+◌;
-    add_assoc = nat.add_assoc;
-    add_comm = nat.add_comm;
-    zero-add = nat.zero-add;
-  };
+  monoid = nat_monoid;
   one = 1;
   ◌⊗◌ = ◌*◌;
   mul_assoc = nat.mul_assoc;
@@ -50,10 +45,6 @@ naturals = record {
   mul-zero = nat.mul-zero;
   mul-add = nat.mul-add;
 }
-
-pub times-naturals : (n x : ℕ) → times naturals.monoid n x ≡ n * x
-times-naturals zero x = sym (nat.zero-mul x)
-times-naturals (suc n) x = ap (λ y. y + x) (times-naturals n x) ∙ sym (nat.suc-mul n x)
 
 pub power-naturals : (x n : ℕ) → power_by_ops 1 ◌*◌ x n ≡ x ^ n
 power-naturals x zero = sym (nat.pow-zero x)

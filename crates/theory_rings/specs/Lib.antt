@@ -16,3 +16,4 @@ pub mod Remainder
 pub mod Fraction
 pub mod Evaluation
 pub mod PolynomialLaws
+pub mod Frobenius
