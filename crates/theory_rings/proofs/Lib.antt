@@ -27,3 +27,4 @@ pub mod Lowest
 pub mod Evaluation
 pub mod RingPaths
 pub mod PolynomialLaws
+pub mod Primes

@@ -13,3 +13,4 @@ pub mod Remainder
 pub mod Fraction
 pub mod Evaluation
 pub mod PolynomialLaws
+pub mod Prime
