@@ -28,3 +28,5 @@ pub mod Evaluation
 pub mod RingPaths
 pub mod PolynomialLaws
 pub mod Primes
+pub mod Powers
+pub mod Binomials

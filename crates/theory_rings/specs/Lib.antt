@@ -14,3 +14,4 @@ pub mod Fraction
 pub mod Evaluation
 pub mod PolynomialLaws
 pub mod Prime
+pub mod Binomial
