@@ -30,3 +30,5 @@ pub mod PolynomialLaws
 pub mod Primes
 pub mod Powers
 pub mod Binomials
+pub mod Reindex
+pub mod FiniteFields

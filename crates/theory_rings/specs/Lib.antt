@@ -15,3 +15,4 @@ pub mod Evaluation
 pub mod PolynomialLaws
 pub mod Prime
 pub mod Binomial
+pub mod Enumerated

@@ -4,9 +4,10 @@
 // law.
 //
 // Read `specs/Ring.antt` first, which says what a ring and a field are, then `specs/Polynomial.antt`, and then the laws in
-// `polynomials` and `numbers`. The lemmas stand in `proofs/`, by notion.
+// `numbers`, `polynomials` and `power_laws`. The lemmas stand in `proofs/`, by notion.
 #![tactic(auto)]
 
 pub mod numbers;
 pub mod polynomials;
+pub mod power_laws;
 pub mod structures;
