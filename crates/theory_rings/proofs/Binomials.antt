@@ -10,7 +10,7 @@ use Rattle.theory_rings.specs.Prime.{IsPrime}
 use Rattle.theory_rings.specs.Binomial.{choose, multiple, BinomialTheorem, FrobeniusIsAdditive}
 use Rattle.theory_rings.proofs.RingLaws.{add-zero, add_left_comm}
 use Rattle.theory_rings.proofs.Sums.{sum_congr, sum_eq_zero, sum-add, sum_first, sum-mul}
-use Rattle.theory_rings.proofs.Solver.{Ex, ◌⊠◌, ring3}
+use Rattle.theory_rings.proofs.Solver.{◌⊠◌, ring3}
 use Rattle.theory_rings.proofs.Primes.{prime-dvd-mul}
 use Rattle.theory_rings.proofs.Powers.{add-multiple, multiple-one, multiple-mul, multiple_eq_zero}
 

@@ -1,6 +1,6 @@
 -- In a field of q elements the q-th power of each element is itself: multiplication by an element but 0 permutes the
 -- others, so that their product stays the same.
-use Rattle.std.specs.Prelude.{◌≡◌, ◌≢◌, ℕ, zero, suc, ◌*◌, ◌/◌, ◌<◌, ◌≤◌, Bool, true, false, cond}
+use Rattle.std.specs.Prelude.{◌≡◌, ◌≢◌, ℕ, zero, suc, ◌/◌, ◌<◌, Bool, true, false, cond}
 use Rattle.std.proofs.Common.{refl, sym, ◌∙◌, ap, ap₂, subst, arith, ⊎_elim}
 use Rattle.std.proofs.Math.Nat.{div-mul_cancel}
 use Rattle.theory_rings.specs.Ring.{AddCommMonoidOn, FieldOn}

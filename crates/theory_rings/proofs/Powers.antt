@@ -1,14 +1,13 @@
 -- Powers and multiples in a ring.
 use Rattle.std.specs.Prelude.{◌≡◌, ℕ, zero, suc, ◌+◌, ◌*◌, ◌<◌}
-use Rattle.std.proofs.Common.{refl, sym, ◌∙◌, ap, ap₂, arith}
+use Rattle.std.proofs.Common.{refl, sym, ◌∙◌, ap, arith}
 use Rattle.std.proofs.Math.Nat as nat
 use Rattle.theory_rings.specs.Ring.{AddCommMonoidOn, RingOn, CommRingOn}
-use Rattle.theory_rings.specs.Sum.{sum}
 use Rattle.theory_rings.specs.Evaluation.{power}
 use Rattle.theory_rings.specs.Binomial.{multiple}
-use Rattle.theory_rings.proofs.RingLaws.{add-zero, zero-mul, mul-zero}
-use Rattle.theory_rings.proofs.Sums.{sum_congr, sum_eq_zero, sum-add, sum-split, sum-mul}
-use Rattle.theory_rings.proofs.Solver.{Ex, ◌⊠◌, ring4}
+use Rattle.theory_rings.proofs.RingLaws.{zero-mul, mul-zero}
+use Rattle.theory_rings.proofs.Sums.{sum_eq_zero, sum-split, sum-mul}
+use Rattle.theory_rings.proofs.Solver.{◌⊠◌, ring4}
 
 module _ {V : Type 0} (M : AddCommMonoidOn V) where
   infixl 65 ◌⊕◌

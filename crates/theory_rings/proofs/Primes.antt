@@ -2,7 +2,7 @@
 use Rattle.std.specs.Prelude.{◌≡◌, ◌≢◌, ℕ, zero, suc, ◌+◌, ◌-◌, ◌*◌, ◌/◌, ◌%◌, ◌<◌, ◌≤◌, ◌⊎◌}
 use Prim.Native.Nat.{◌∣◌}
 use Rattle.std.proofs.Common.{refl, sym, ◌∙◌, ap, subst, arith, ⊎_elim, inl, inr}
-use Rattle.std.proofs.Math.Nat.{mod-lt, mod-mod, mod-eq_of_lt, zero-mod, zero-mul, div-add-mod, div-le_self, mul-add-mod_self_left, mod_self, mod-eq-zero_of_dvd, dvd_of_mod-eq-zero, le_of_dvd, eq-zero_of_zero-dvd, mul-div_cancel'}
+use Rattle.std.proofs.Math.Nat.{mod-lt, mod-eq_of_lt, zero-mod, zero-mul, div-add-mod, div-le_self, mul-add-mod_self_left, mod_self, mod-eq-zero_of_dvd, dvd_of_mod-eq-zero, le_of_dvd, eq-zero_of_zero-dvd, mul-div_cancel'}
 use Rattle.std.proofs.lemmas.Nat.{mod_below, mul-mod_first, mul-mod_second}
 use Rattle.std.proofs.lemmas.Bool.{cases_lt, cases_eq}
 use Rattle.theory_rings.specs.Prime.{IsPrime, HasInversesMod, PrimeLaw}
