@@ -32,3 +32,4 @@ pub mod Powers
 pub mod Binomials
 pub mod Reindex
 pub mod FiniteFields
+pub mod ElementsByDigits
