@@ -33,3 +33,4 @@ pub mod Binomials
 pub mod Reindex
 pub mod FiniteFields
 pub mod ElementsByDigits
+pub mod EnumeratedTuples
