@@ -6,10 +6,10 @@ use Rattle.theory_rings.specs.Ring.{FieldOn, CommRingOn}
 use Rattle.theory_rings.specs.Polynomial.{Poly, coefficient, lead, degree}
 use Rattle.theory_rings.specs.Division.{Divides, IsDivision, IsGcd, IsCoprime}
 use Rattle.theory_rings.proofs.RingLaws.{mul-zero, zero-mul, add-zero, add-neg}
-use Rattle.theory_rings.proofs.ZeroTests.{sub_eq_zero}
-use Rattle.theory_rings.proofs.Solver.{Ex, ◌⊞◌, ◌⊠◌, minus, ring2, ring3, ring4, ring5}
+use Rattle.theory_rings.proofs.ZeroTests.{eq_of_sub_eq_zero}
+use Rattle.theory_rings.proofs.Solver.{◌⊞◌, ◌⊠◌, minus, ring3, ring4, ring5}
 use Rattle.theory_rings.proofs.PolynomialRing.{polynomials, coefficient-zero, coefficient-one, constant}
-use Rattle.theory_rings.proofs.Degrees.{poly_eq_zero_or, degree-mul, lead-mul, mul-ne-zero, lead-nonzero, ne_zero_of_lead, degree-constant, lead-constant, eq_constant, length_pos, length-eq-zero, length_nonzero}
+use Rattle.theory_rings.proofs.Degrees.{poly_eq_zero_or, degree-mul, lead-mul, mul-ne-zero, lead-ne-zero, degree-constant, eq_constant, length_pos, length-eq-zero}
 use Rattle.theory_rings.proofs.Constants.{constant_hom, constant-one, variable, degree-variable}
 use Rattle.theory_rings.proofs.Division.{divide}
 use Rattle.theory_rings.proofs.Fields.{mul-inv, field_mul-ne-zero}
@@ -27,7 +27,7 @@ module _ {K : Type 0} (F : FieldOn K) where
 
   leads : (a b : Poly R) → a ≢ P.zero → b ≢ P.zero → F.◌⊗◌ (lead R a) (lead R b) ≢ F.zero
   leads a b ha hb =
-      field_mul-ne-zero F (lead R a) (lead R b) (lead-nonzero R F.zero_test a ha) (lead-nonzero R F.zero_test b hb)
+      field_mul-ne-zero F (lead R a) (lead R b) (lead-ne-zero R F.zero_test a ha) (lead-ne-zero R F.zero_test b hb)
 
   pub field_degree-mul : (a b : Poly R) → a ≢ P.zero → b ≢ P.zero → degree (P.◌⊗◌ a b).0 ≡ degree a.0 + degree b.0
   field_degree-mul a b ha hb = degree-mul R F.zero_test a b (leads a b ha hb)
@@ -41,7 +41,7 @@ module _ {K : Type 0} (F : FieldOn K) where
 
   pub poly_mul_cancel_left : (a b c : Poly R) → a ≢ P.zero → P.◌⊗◌ a b ≡ P.◌⊗◌ a c → b ≡ c
   poly_mul_cancel_left a b c h e =
-      sub_eq_zero P.additive b c (go (poly_eq_zero_or R F.zero_test (P.◌⊕◌ b (P.neg c))))
+      eq_of_sub_eq_zero P.additive b c (go (poly_eq_zero_or R F.zero_test (P.◌⊕◌ b (P.neg c))))
     where
       null : P.◌⊗◌ a (P.◌⊕◌ b (P.neg c)) ≡ P.zero
       null =
@@ -53,14 +53,14 @@ module _ {K : Type 0} (F : FieldOn K) where
       go (inr n) = absurd (poly_mul-ne-zero a (P.◌⊕◌ b (P.neg c)) h n null)
 
   -- the factors of what is not 0 are not 0
-  pub left-ne-zero : (a b : Poly R) → P.◌⊗◌ a b ≢ P.zero → a ≢ P.zero
-  left-ne-zero a b h e = h (ap (λ x. P.◌⊗◌ x b) e ∙ zero-mul P.ring b)
+  pub left_ne_zero_of_mul : (a b : Poly R) → P.◌⊗◌ a b ≢ P.zero → a ≢ P.zero
+  left_ne_zero_of_mul a b h e = h (ap (λ x. P.◌⊗◌ x b) e ∙ zero-mul P.ring b)
 
-  pub right-ne-zero : (a b : Poly R) → P.◌⊗◌ a b ≢ P.zero → b ≢ P.zero
-  right-ne-zero a b h e = h (ap (P.◌⊗◌ a) e ∙ mul-zero P.ring a)
+  pub right_ne_zero_of_mul : (a b : Poly R) → P.◌⊗◌ a b ≢ P.zero → b ≢ P.zero
+  right_ne_zero_of_mul a b h e = h (ap (P.◌⊗◌ a) e ∙ mul-zero P.ring a)
 
-  pub poly_one-nonzero : P.one ≢ P.zero
-  poly_one-nonzero e = F.one-nonzero (sym (coefficient-one R F.zero_test 0) ∙ ap (λ x. coefficient R x 0) e ∙ coefficient-zero R F.zero_test 0)
+  pub poly_one-ne-zero : P.one ≢ P.zero
+  poly_one-ne-zero e = F.one-nonzero (sym (coefficient-one R F.zero_test 0) ∙ ap (λ x. coefficient R x 0) e ∙ coefficient-zero R F.zero_test 0)
 
   pub degree-one : degree P.one.0 ≡ 0
   degree-one = ap (λ x. degree x.0) (sym (constant-one R F.zero_test)) ∙ degree-constant R F.zero_test F.one
@@ -68,8 +68,8 @@ module _ {K : Type 0} (F : FieldOn K) where
   -- what divides 1 is of degree 0
   pub degree_of_divides_one : (g : Poly R) → Divides P g P.one → degree g.0 ≡ 0
   degree_of_divides_one g d =
-      let h : P.◌⊗◌ d.0 g ≢ P.zero = λ e. poly_one-nonzero (d.1 ∙ e) in
-      omega (arith, field_degree-mul d.0 g (left-ne-zero d.0 g h) (right-ne-zero d.0 g h), ap (λ x. degree x.0) d.1, degree-one)
+      let h : P.◌⊗◌ d.0 g ≢ P.zero = λ e. poly_one-ne-zero (d.1 ∙ e) in
+      omega (arith, field_degree-mul d.0 g (left_ne_zero_of_mul d.0 g h) (right_ne_zero_of_mul d.0 g h), ap (λ x. degree x.0) d.1, degree-one)
 
   constant_inverse : (c : K) → c ≢ F.zero → P.◌⊗◌ (constant R F.zero_test (F.inv c)) (constant R F.zero_test c) ≡ P.one
   constant_inverse c h =
@@ -80,7 +80,7 @@ module _ {K : Type 0} (F : FieldOn K) where
   pub degree_zero_inverse : (a : Poly R) → a ≢ P.zero → degree a.0 ≡ 0 → P.◌⊗◌ (constant R F.zero_test (F.inv (lead R a))) a ≡ P.one
   degree_zero_inverse a h d =
       ap (P.◌⊗◌ (constant R F.zero_test (F.inv (lead R a)))) (eq_constant R F.zero_test a d ∙ ap (λ k. constant R F.zero_test (coefficient R a k)) (sym d))
-      ∙ constant_inverse (lead R a) (lead-nonzero R F.zero_test a h)
+      ∙ constant_inverse (lead R a) (lead-ne-zero R F.zero_test a h)
 
   -- a step of Euclid's algorithm
   gcd_step : (a b q r g : Poly R) → IsDivision R P a b q r → IsGcd P b r g → IsGcd P a b g
@@ -114,7 +114,7 @@ module _ {K : Type 0} (F : FieldOn K) where
       go : (b ≡ P.zero) ⊎ (b ≢ P.zero) → ((a b : Poly R) → length b.0 ≤ fuel → (g : Poly R) × IsGcd P a b g) → (g : Poly R) × IsGcd P a b g
       go (inl z) rec = (a, gcd_zero a b z)
       go (inr h) rec =
-          let d = divide R F.zero_test b (F.inv (lead R b)) (mul-inv F (lead R b) (lead-nonzero R F.zero_test b h)) (length_pos R F.zero_test b h) a in
+          let d = divide R F.zero_test b (F.inv (lead R b)) (mul-inv F (lead R b) (lead-ne-zero R F.zero_test b h)) (length_pos R F.zero_test b h) a in
           let smaller : length d.1.0 < length b.0 = (let e = d.2 in e.smaller) in
           let r = rec b d.1 (omega arith) in
           (r.0, gcd_step a b d.0 d.1 r.0 d.2 r.1)
@@ -122,6 +122,14 @@ module _ {K : Type 0} (F : FieldOn K) where
   -- a greatest common divisor, with its multipliers
   pub gcd : (a b : Poly R) → (g : Poly R) × IsGcd P a b g
   gcd a b = euclid (length b.0) a b (omega arith)
+
+  -- as the variable divides 0, 0 is no greatest common divisor of coprime polynomials
+  pub coprime_gcd-ne-zero : (a b g : Poly R) → IsCoprime R P a b → IsGcd P a b g → g ≢ P.zero
+  coprime_gcd-ne-zero a b g c e z =
+      let t : Poly R = variable R F.zero_test in
+      let null : (x : Poly R) → Divides P g x → Divides P t x =
+      λ x d. (P.zero, d.1 ∙ ap (P.◌⊗◌ d.0) z ∙ mul-zero P.ring d.0 ∙ sym (zero-mul P.ring t)) in
+      omega (arith, degree-variable R F.zero_test F.one-nonzero, c t (null a e.left) (null b e.right))
 
   -- 1 is a combination of coprime polynomials
   pub bezout : (a b : Poly R) → IsCoprime R P a b → (s : Poly R) × (t : Poly R) × (P.◌⊕◌ (P.◌⊗◌ s a) (P.◌⊗◌ t b) ≡ P.one)
@@ -137,15 +145,7 @@ module _ {K : Type 0} (F : FieldOn K) where
           e = p.1
 
           nonzero : g ≢ P.zero
-          nonzero z =
-              let all : (x : Poly R) → Divides P g x → x ≡ P.zero = λ x d. d.1 ∙ ap (P.◌⊗◌ d.0) z ∙ mul-zero P.ring d.0 in
-              let any : (x : Poly R) → x ≡ P.zero → Divides P (variable R F.zero_test) x =
-              λ x n. (P.zero, n ∙ sym (zero-mul P.ring (variable R F.zero_test))) in
-              omega (
-                arith,
-                degree-variable R F.zero_test F.one-nonzero,
-                c (variable R F.zero_test) (any a (all a e.left)) (any b (all b e.right)),
-              )
+          nonzero = coprime_gcd-ne-zero a b g c e
 
           k : Poly R
           k = constant R F.zero_test (F.inv (lead R g))

@@ -1,15 +1,14 @@
 -- Degrees and leading coefficients of polynomials.
 use Rattle.std.specs.Prelude.{◌≡◌, ◌≢◌, ℕ, zero, suc, ◌+◌, ◌-◌, ◌<◌, ◌≤◌, Bool, List, [], ◌∷◌, length, get_or, ◌⊎◌}
-use Rattle.std.proofs.Common.{refl, sym, ◌∙◌, ap, ap₂, arith, ⊎_elim, inl, inr}
+use Rattle.std.proofs.Common.{refl, sym, ◌∙◌, ap, ap₂, arith, ⊎_elim}
 use Rattle.std.proofs.lemmas.Bool.{cases_lt}
-use Rattle.std.proofs.lemmas.List.{get_or_past}
 use Rattle.theory_rings.specs.Ring.{CommRingOn, ZeroTest}
-use Rattle.theory_rings.specs.Polynomial.{IsTrimmed, Poly, coefficient, lead, degree, convolution, constant_coefficients}
-use Rattle.theory_rings.proofs.RingLaws.{add-zero, zero-mul, mul-zero, neg_zero}
+use Rattle.theory_rings.specs.Polynomial.{IsTrimmed, Poly, coefficient, lead, degree, convolution}
+use Rattle.theory_rings.proofs.RingLaws.{zero-mul, mul-zero, neg_zero}
 use Rattle.theory_rings.proofs.ZeroTests.{eq_zero_or}
 use Rattle.theory_rings.proofs.Sums.{sum_eq_single}
 use Rattle.theory_rings.proofs.Series.{convolution_eq_zero}
-use Rattle.theory_rings.proofs.PolynomialRing.{last_nonzero, Poly-path, coefficient_past, polynomials, zero-list, coefficient-zero, coefficient-add, coefficient-neg, coefficient-mul, constant, coefficient-constant, zero_poly_test, constant_past}
+use Rattle.theory_rings.proofs.PolynomialRing.{last-ne-zero, Poly-path, coefficient_past, polynomials, zero-list, coefficient-zero, coefficient-add, coefficient-neg, coefficient-mul, constant, coefficient-constant, zero_poly_test, constant_past}
 
 module _ {K : Type 0} (R : CommRingOn K) where
   -- coefficients that are 0 from n on bound the length
@@ -18,7 +17,7 @@ module _ {K : Type 0} (R : CommRingOn K) where
     where
       go : (xs : List K) → IsTrimmed R.zero xs → ((k : ℕ) → n ≤ k → get_or xs k R.zero ≡ R.zero) → length xs ≤ n
       go [] t e = omega arith
-      go (x ∷ xs) t e = low (length xs) (λ l. last_nonzero R.zero x xs t (e (length xs) l))
+      go (x ∷ xs) t e = low (length xs) (λ l. last-ne-zero R.zero x xs t (e (length xs) l))
         where
           low : (m : ℕ) → (n ≤ m → ⊥) → suc m ≤ n
           low m h = omega arith
@@ -44,12 +43,12 @@ module _ {K : Type 0} (R : CommRingOn K) where
       go [] = omega arith
       go (x ∷ xs) = omega arith
 
-  pub lead-ne-zero : (a : Poly R) → 0 < length a.0 → lead R a ≢ R.zero
-  lead-ne-zero a h = go a.0 a.1 h
+  pub lead-ne-zero_of_length : (a : Poly R) → 0 < length a.0 → lead R a ≢ R.zero
+  lead-ne-zero_of_length a h = go a.0 a.1 h
     where
       go : (xs : List K) → IsTrimmed R.zero xs → 0 < length xs → get_or xs (degree xs) R.zero ≢ R.zero
       go [] t l = absurd (omega arith)
-      go (x ∷ xs) t l = last_nonzero R.zero x xs t
+      go (x ∷ xs) t l = last-ne-zero R.zero x xs t
 
   pub coefficient_above : (a : Poly R) (k : ℕ) → degree a.0 < k → coefficient R a k ≡ R.zero
   coefficient_above a k l = coefficient_past R a k (omega (arith, length_le_suc-degree a))
@@ -115,14 +114,14 @@ module _ {K : Type 0} (R : CommRingOn K) {is_zero : K → Bool} (Z : ZeroTest R.
   ne_zero_of_length a l e = omega (arith, ap (λ x. length x.0) e, zero-length)
 
   -- a polynomial is 0 where its leading coefficient is
-  pub lead-nonzero : (a : Poly R) → a ≢ P.zero → lead R a ≢ R.zero
-  lead-nonzero a h = lead-ne-zero R a (length_pos a h)
+  pub lead-ne-zero : (a : Poly R) → a ≢ P.zero → lead R a ≢ R.zero
+  lead-ne-zero a h = lead-ne-zero_of_length R a (length_pos a h)
 
   pub ne_zero_of_lead : (a : Poly R) → lead R a ≢ R.zero → a ≢ P.zero
   ne_zero_of_lead a h = ne_zero_of_length a (omega (arith, lt_length R a (degree a.0) h))
 
-  pub length_nonzero : (a : Poly R) → a ≢ P.zero → length a.0 ≡ suc (degree a.0)
-  length_nonzero a h = length-degree R a (length_pos a h)
+  pub length-degree_of_ne_zero : (a : Poly R) → a ≢ P.zero → length a.0 ≡ suc (degree a.0)
+  length-degree_of_ne_zero a h = length-degree R a (length_pos a h)
 
   pub length-add_le : (a b : Poly R) (n : ℕ) → length a.0 ≤ n → length b.0 ≤ n → length (P.◌⊕◌ a b).0 ≤ n
   length-add_le a b n la lb =

@@ -1,16 +1,16 @@
 -- Division of polynomials by one whose leading coefficient has an inverse: quotient and remainder exist, and are unique.
-use Rattle.std.specs.Prelude.{◌≡◌, ◌≢◌, ℕ, zero, suc, ◌+◌, ◌<◌, ◌≤◌, Bool, List, [], ◌∷◌, length, get_or, ◌⊎◌}
+use Rattle.std.specs.Prelude.{◌≡◌, ◌≢◌, ℕ, zero, suc, ◌<◌, ◌≤◌, Bool, List, [], ◌∷◌, length, ◌⊎◌}
 use Rattle.std.proofs.Common.{refl, sym, ◌∙◌, ap, ap₂, subst, arith, inl, inr}
 use Rattle.std.proofs.lemmas.Bool.{cases_lt}
 use Rattle.theory_rings.specs.Ring.{CommRingOn, ZeroTest}
-use Rattle.theory_rings.specs.Polynomial.{IsTrimmed, Poly, coefficient, lead, degree, convolution, constant_coefficients}
+use Rattle.theory_rings.specs.Polynomial.{IsTrimmed, Poly, coefficient, lead, degree}
 use Rattle.theory_rings.specs.Division.{IsDivision}
-use Rattle.theory_rings.proofs.RingLaws.{add-zero, add-neg, add_cancel_left, zero-mul, mul-zero, neg_zero, eq_zero_of_mul-unit}
-use Rattle.theory_rings.proofs.ZeroTests.{sub_eq_zero}
-use Rattle.theory_rings.proofs.Solver.{Ex, ◌⊞◌, ◌⊠◌, minus, v0, v1, v2, v3, v4, var, by_sorted, ring5}
+use Rattle.theory_rings.proofs.RingLaws.{add-neg, add_cancel_left, zero-mul, mul-zero, neg_zero, eq_zero_of_mul-unit}
+use Rattle.theory_rings.proofs.ZeroTests.{eq_of_sub_eq_zero}
+use Rattle.theory_rings.proofs.Solver.{◌⊞◌, ◌⊠◌, minus, v0, v1, v2, v3, v4, var, by_sorted, ring5}
 use Rattle.theory_rings.proofs.Constants.{coefficient-constant_mul, variable, prepend_eq}
-use Rattle.theory_rings.proofs.PolynomialRing.{series_prepend, IsTrimmed-tail, Poly-path, coefficient_past, polynomials, zero-list, coefficient-zero, coefficient-add, coefficient-neg, coefficient-mul, constant, coefficient-constant, prepend, coefficient-prepend, prepend-tail}
-use Rattle.theory_rings.proofs.Degrees.{length_le, length-degree, length_nonzero, poly_eq_zero_or, length-add_le, length-neg_le, degree-mul, mul-ne-zero, lead-nonzero, ne_zero_of_length, zero-length}
+use Rattle.theory_rings.proofs.PolynomialRing.{IsTrimmed-tail, Poly-path, coefficient_past, polynomials, coefficient-zero, coefficient-add, coefficient-neg, constant, prepend, coefficient-prepend, prepend-tail}
+use Rattle.theory_rings.proofs.Degrees.{length_le, length-degree, length-degree_of_ne_zero, poly_eq_zero_or, length-add_le, length-neg_le, degree-mul, mul-ne-zero, lead-ne-zero, zero-length}
 
 module _ {K : Type 0} (R : CommRingOn K) {is_zero : K → Bool} (Z : ZeroTest R.zero is_zero) where
   abbrev P : CommRingOn (Poly R)
@@ -116,14 +116,14 @@ module _ {K : Type 0} (R : CommRingOn K) {is_zero : K → Bool} (Z : ZeroTest R.
             omega (arith, ap (λ y. length y.0) product, length-add_le R Z r' (P.neg r) n low' (length-neg_le R Z r n low))
 
         same : q ≡ q'
-        same = sub_eq_zero P.additive q q' (go (poly_eq_zero_or R Z difference))
+        same = eq_of_sub_eq_zero P.additive q q' (go (poly_eq_zero_or R Z difference))
           where
             go : (difference ≡ P.zero) ⊎ (difference ≢ P.zero) → difference ≡ P.zero
             go (inl e) = e
-            go (inr h) = absurd (omega (arith, short, degree-mul R Z difference b leads, length_nonzero R Z (P.◌⊗◌ difference b) (mul-ne-zero R Z difference b leads), length-degree R b positive))
+            go (inr h) = absurd (omega (arith, short, degree-mul R Z difference b leads, length-degree_of_ne_zero R Z (P.◌⊗◌ difference b) (mul-ne-zero R Z difference b leads), length-degree R b positive))
               where
                 leads : R.◌⊗◌ (lead R difference) (lead R b) ≢ R.zero
-                leads e = lead-nonzero R Z difference h (eq_zero_of_mul-unit R.ring (lead R difference) (lead R b) u unit e)
+                leads e = lead-ne-zero R Z difference h (eq_zero_of_mul-unit R.ring (lead R difference) (lead R b) u unit e)
 
         rests : r ≡ r'
         rests = add_cancel_left P.additive (P.◌⊗◌ q b) r r' (sym d.whole ∙ d'.whole ∙ ap (λ y. P.◌⊕◌ (P.◌⊗◌ y b) r') (sym same))

@@ -1,14 +1,14 @@
 -- Evaluation at a point is a homomorphism of rings.
-use Rattle.std.specs.Prelude.{◌≡◌, ℕ, zero, suc, ◌+◌, ◌-◌, ◌<◌, ◌≤◌, Bool, List, [], ◌∷◌, length}
+use Rattle.std.specs.Prelude.{◌≡◌, ℕ, suc, ◌+◌, ◌-◌, ◌≤◌, Bool, List, [], ◌∷◌, length}
 use Rattle.std.proofs.Common.{refl, sym, ◌∙◌, ap, ap₂, subst, arith}
 use Rattle.theory_rings.specs.Ring.{CommRingOn, ZeroTest}
 use Rattle.theory_rings.specs.Sum.{sum}
-use Rattle.theory_rings.specs.Polynomial.{IsTrimmed, Poly, coefficient, constant_coefficients}
+use Rattle.theory_rings.specs.Polynomial.{IsTrimmed, Poly, coefficient}
 use Rattle.theory_rings.specs.Homomorphism.{IsRingHom}
 use Rattle.theory_rings.specs.Evaluation.{power, evaluate}
-use Rattle.theory_rings.proofs.RingLaws.{add-zero, zero-mul, mul-zero}
+use Rattle.theory_rings.proofs.RingLaws.{add-zero, zero-mul}
 use Rattle.theory_rings.proofs.Sums.{sum_congr, sum_eq_zero, sum-add, sum-split, sum_first, mul-sum}
-use Rattle.theory_rings.proofs.Solver.{Ex, ◌⊞◌, ◌⊠◌, ring3, ring4, ring5}
+use Rattle.theory_rings.proofs.Solver.{◌⊞◌, ◌⊠◌, ring3, ring4}
 use Rattle.theory_rings.proofs.Homomorphisms.{map-zero}
 use Rattle.theory_rings.proofs.PolynomialRing.{IsTrimmed-tail, Poly-path, coefficient_past, polynomials, zero-list, coefficient-zero, coefficient-add, coefficient-constant, constant, constant_past, prepend, coefficient-prepend, prepend-tail}
 use Rattle.theory_rings.proofs.Degrees.{length_le}

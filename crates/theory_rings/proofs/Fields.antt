@@ -1,8 +1,8 @@
 -- What follows from the laws of a field.
-use Rattle.std.specs.Prelude.{◌≡◌, ◌≢◌, ◌⊎◌}
+use Rattle.std.specs.Prelude.{◌≡◌, ◌≢◌}
 use Rattle.std.proofs.Common.{sym, ◌∙◌, ap}
 use Rattle.theory_rings.specs.Ring.{FieldOn}
-use Rattle.theory_rings.proofs.RingLaws.{mul-zero, zero-mul, eq_zero_of_mul-unit}
+use Rattle.theory_rings.proofs.RingLaws.{mul-zero, eq_zero_of_mul-unit}
 use Rattle.theory_rings.proofs.ZeroTests.{group_set}
 
 module _ {K : Type 0} (F : FieldOn K) where

@@ -1,22 +1,21 @@
 -- Irreducible polynomials over a field: one that divides a product divides a factor, and the remainders by a monic one
 -- are a field.
-use Rattle.std.specs.Prelude.{◌≡◌, ◌≢◌, ℕ, zero, suc, ◌+◌, ◌<◌, ◌≤◌, length, ◌⊎◌}
-use Rattle.std.proofs.Common.{refl, sym, ◌∙◌, ap, ap₂, subst, arith, inl, inr, ⊎_elim}
+use Rattle.std.specs.Prelude.{◌≡◌, ◌≢◌, ◌+◌, ◌<◌, ◌≤◌, ◌⊎◌}
+use Rattle.std.proofs.Common.{refl, sym, ◌∙◌, ap, arith, inl, inr, ⊎_elim}
 use Rattle.std.proofs.lemmas.Bool.{cases_lt}
 use Rattle.theory_rings.specs.Ring.{FieldOn, CommRingOn}
 use Rattle.theory_rings.specs.Polynomial.{Poly, lead, degree, IsMonic}
 use Rattle.theory_rings.specs.Division.{Divides, Congruent, IsDivision, IsGcd, IsCoprime, IsIrreducible}
-use Rattle.theory_rings.specs.Homomorphism.{IsRingHom}
-use Rattle.theory_rings.specs.Remainder.{Remainder, IsRemainderRing}
-use Rattle.theory_rings.proofs.RingLaws.{mul-zero, zero-mul, add-zero, add-neg}
-use Rattle.theory_rings.proofs.Solver.{Ex, ◌⊞◌, ◌⊠◌, minus, ring3, ring4, ring5}
+use Rattle.theory_rings.specs.Remainder.{Remainder}
+use Rattle.theory_rings.proofs.RingLaws.{mul-zero, add-zero}
+use Rattle.theory_rings.proofs.Solver.{◌⊞◌, ◌⊠◌, minus, ring3, ring4, ring5}
 use Rattle.theory_rings.proofs.PolynomialRing.{constant}
-use Rattle.theory_rings.proofs.Degrees.{degree_le_length, poly_eq_zero_or, lead-nonzero, length_pos, length_nonzero, ne_zero_of_length}
+use Rattle.theory_rings.proofs.Degrees.{degree_le_length, poly_eq_zero_or, lead-ne-zero, length_pos, length-degree_of_ne_zero, ne_zero_of_length}
 use Rattle.theory_rings.proofs.Division.{divide}
 use Rattle.theory_rings.proofs.Residues.{congruent_of_eq}
-use Rattle.theory_rings.proofs.Remainders.{remainders, remainder, remainder_hom, remainder-small, remainder_eq, Remainder-path, remainders-zero_poly, remainders-one_poly, remainders-one, is_zero_remainder, zero_remainder_test, is_remainder_ring}
+use Rattle.theory_rings.proofs.Remainders.{remainders, remainder, remainder_hom, remainder-small, remainder_eq, Remainder-path, remainders-zero_poly, remainders-one_poly, is_zero_remainder, zero_remainder_test}
 use Rattle.theory_rings.proofs.Fields.{mul-inv}
-use Rattle.theory_rings.proofs.Bezout.{field_polynomials, field_degree-mul, left-ne-zero, right-ne-zero, degree_zero_inverse, gcd, divides_of_coprime, poly_one-nonzero}
+use Rattle.theory_rings.proofs.Bezout.{field_polynomials, field_degree-mul, left_ne_zero_of_mul, right_ne_zero_of_mul, degree_zero_inverse, gcd, divides_of_coprime, poly_one-ne-zero}
 
 module _ {K : Type 0} (F : FieldOn K) where
   abbrev R : CommRingOn K
@@ -29,14 +28,14 @@ module _ {K : Type 0} (F : FieldOn K) where
   pub degree_le_of_divides : (m a : Poly R) → Divides P m a → a ≢ P.zero → degree m.0 ≤ degree a.0
   degree_le_of_divides m a d h =
       let n : P.◌⊗◌ d.0 m ≢ P.zero = λ e. h (d.1 ∙ e) in
-      omega (arith, field_degree-mul F d.0 m (left-ne-zero F d.0 m n) (right-ne-zero F d.0 m n), ap (λ x. degree x.0) d.1)
+      omega (arith, field_degree-mul F d.0 m (left_ne_zero_of_mul F d.0 m n) (right_ne_zero_of_mul F d.0 m n), ap (λ x. degree x.0) d.1)
 
   -- divisibility is decided by the remainder
   pub divides_or : (m a : Poly R) → m ≢ P.zero → Divides P m a ⊎ (Divides P m a → ⊥)
   divides_or m a h = go (poly_eq_zero_or R F.zero_test r)
     where
       d : (q : Poly R) × (r : Poly R) × IsDivision R P a m q r
-      d = divide R F.zero_test m (F.inv (lead R m)) (mul-inv F (lead R m) (lead-nonzero R F.zero_test m h)) (length_pos R F.zero_test m h) a
+      d = divide R F.zero_test m (F.inv (lead R m)) (mul-inv F (lead R m) (lead-ne-zero R F.zero_test m h)) (length_pos R F.zero_test m h) a
 
       q : Poly R
       q = d.0
@@ -57,27 +56,27 @@ module _ {K : Type 0} (F : FieldOn K) where
           omega (
             arith,
             degree_le_of_divides m r (P.◌⊕◌ c.0 (P.neg q), rest) n,
-            length_nonzero R F.zero_test r n,
-            length_nonzero R F.zero_test m h,
+            length-degree_of_ne_zero R F.zero_test r n,
+            length-degree_of_ne_zero R F.zero_test m h,
             e.smaller,
           ))
 
   module _ (m : Poly R) (i : IsIrreducible R P m) where
-    pub irreducible-nonzero : m ≢ P.zero
-    irreducible-nonzero = ne_zero_of_length R F.zero_test m (omega (arith, i.positive, degree_le_length R m))
+    pub irreducible-ne-zero : m ≢ P.zero
+    irreducible-ne-zero = ne_zero_of_length R F.zero_test m (omega (arith, i.positive, degree_le_length R m))
 
     -- what it does not divide is coprime to it
     pub irreducible_coprime : (a : Poly R) → (Divides P m a → ⊥) → IsCoprime R P a m
     irreducible_coprime a n g da dm = go (cases_lt 0 (degree g.0))
       where
         product_ne_zero : P.◌⊗◌ dm.0 g ≢ P.zero
-        product_ne_zero e = irreducible-nonzero (dm.1 ∙ e)
+        product_ne_zero e = irreducible-ne-zero (dm.1 ∙ e)
 
         c_ne_zero : dm.0 ≢ P.zero
-        c_ne_zero = left-ne-zero F dm.0 g product_ne_zero
+        c_ne_zero = left_ne_zero_of_mul F dm.0 g product_ne_zero
 
         sum : degree m.0 ≡ degree dm.0.0 + degree g.0
-        sum = ap (λ x. degree x.0) dm.1 ∙ field_degree-mul F dm.0 g c_ne_zero (right-ne-zero F dm.0 g product_ne_zero)
+        sum = ap (λ x. degree x.0) dm.1 ∙ field_degree-mul F dm.0 g c_ne_zero (right_ne_zero_of_mul F dm.0 g product_ne_zero)
 
         -- a divisor of the same degree is a multiple
         whole : degree dm.0.0 ≡ 0 → Divides P m a
@@ -98,7 +97,7 @@ module _ {K : Type 0} (F : FieldOn K) where
 
     -- it divides a product only where it divides a factor
     pub irreducible_prime : (a b : Poly R) → Divides P m (P.◌⊗◌ a b) → Divides P m a ⊎ Divides P m b
-    irreducible_prime a b d = go (divides_or m a irreducible-nonzero)
+    irreducible_prime a b d = go (divides_or m a irreducible-ne-zero)
       where
         turned : (Divides P m a → ⊥) → IsCoprime R P m a
         turned n g dm da = irreducible_coprime a n g da dm
@@ -142,8 +141,8 @@ module _ {K : Type 0} (F : FieldOn K) where
           arith,
           degree_le_of_divides m a.0 d (remainder-ne-zero a h),
           a.1,
-          length_nonzero R F.zero_test a.0 (remainder-ne-zero a h),
-          length_nonzero R F.zero_test m (irreducible-nonzero m i),
+          length-degree_of_ne_zero R F.zero_test a.0 (remainder-ne-zero a h),
+          length-degree_of_ne_zero R F.zero_test m (irreducible-ne-zero m i),
         ))
 
     -- the remainders by a monic irreducible polynomial are a field
@@ -153,7 +152,7 @@ module _ {K : Type 0} (F : FieldOn K) where
       inv = λ a. of_poly (inverse_mod m a.0);
       is_zero = is_zero_remainder R F.zero_test m monic;
       zero_test = zero_remainder_test R F.zero_test m monic;
-      one-nonzero = λ e. poly_one-nonzero F
+      one-nonzero = λ e. poly_one-ne-zero F
           (sym (remainders-one_poly R F.zero_test m monic i.positive) ∙ ap (λ x. x.0) e ∙ remainders-zero_poly R F.zero_test m monic);
       inv-mul = λ a h.
           let H = remainder_hom R F.zero_test m monic in

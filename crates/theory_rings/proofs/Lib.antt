@@ -34,3 +34,7 @@ pub mod Reindex
 pub mod FiniteFields
 pub mod ElementsByDigits
 pub mod EnumeratedTuples
+pub mod LongDivision
+pub mod Mapping
+pub mod ElementLists
+pub mod LowestTests

@@ -1,21 +1,20 @@
 -- Lowest terms of fractions of polynomials over a field, with a monic denominator: they exist and are unique, so these
 -- fractions are a field.
-use Rattle.std.specs.Prelude.{◌≡◌, ◌≢◌, ℕ, suc, ◌+◌, ◌<◌, ◌≤◌, Bool, List, [], ◌∷◌, length, ◌⊎◌}
-use Rattle.std.proofs.Common.{refl, sym, ◌∙◌, ap, ap₂, subst, arith}
+use Rattle.std.specs.Prelude.{◌≡◌, ◌≢◌, [], ◌∷◌}
+use Rattle.std.proofs.Common.{refl, sym, ◌∙◌, ap, ap₂, arith}
 use Rattle.std.proofs.Math.Bridge.{le_prop}
 use Rattle.std.proofs.Math.Nat.{ℕ_set}
 use Rattle.theory_rings.specs.Ring.{FieldOn, CommRingOn}
 use Rattle.theory_rings.specs.Polynomial.{Poly, coefficient, lead, degree, IsMonic}
 use Rattle.theory_rings.specs.Division.{Divides, IsGcd, IsCoprime}
 use Rattle.theory_rings.specs.Fraction.{SameFraction, Fraction, IsLowest, IsFractionField}
-use Rattle.theory_rings.proofs.RingLaws.{mul-zero, zero-mul}
-use Rattle.theory_rings.proofs.Solver.{Ex, ◌⊞◌, ◌⊠◌, v0, v1, v2, v3, v4, var, ring3, ring4, ring5, by_sorted}
+use Rattle.theory_rings.proofs.Solver.{◌⊞◌, ◌⊠◌, v0, v1, v2, v3, v4, var, ring4, ring5, by_sorted}
 use Rattle.theory_rings.proofs.PolynomialRing.{constant, is_zero_poly, zero_poly_test}
-use Rattle.theory_rings.proofs.Degrees.{length_pos, ne_zero_of_length, ne_zero_of_lead, lead-nonzero, lead-constant, eq_constant}
+use Rattle.theory_rings.proofs.Degrees.{length_pos, ne_zero_of_length, lead-ne-zero, lead-constant, eq_constant}
 use Rattle.theory_rings.proofs.Constants.{constant-one, constant_hom}
-use Rattle.theory_rings.proofs.Fields.{mul-inv, inv-ne-zero, field_set}
-use Rattle.theory_rings.proofs.Bezout.{field_polynomials, field_degree-mul, field_lead-mul, poly_mul-ne-zero, poly_mul_cancel_left, left-ne-zero, right-ne-zero, poly_one-nonzero, gcd, coprime_of_bezout, divides_of_coprime}
-use Rattle.theory_rings.proofs.Fractions.{IsReduction, fraction_ring, fraction_field, is_fraction_field}
+use Rattle.theory_rings.proofs.Fields.{mul-inv, field_set}
+use Rattle.theory_rings.proofs.Bezout.{field_polynomials, field_degree-mul, field_lead-mul, poly_mul-ne-zero, poly_mul_cancel_left, left_ne_zero_of_mul, right_ne_zero_of_mul, poly_one-ne-zero, gcd, coprime_of_bezout, divides_of_coprime}
+use Rattle.theory_rings.proofs.Fractions.{IsReduction, fraction_field, is_fraction_field}
 
 module _ {K : Type 0} (F : FieldOn K) where
   abbrev R : CommRingOn K
@@ -51,11 +50,11 @@ module _ {K : Type 0} (F : FieldOn K) where
   unfolding normalizer
   normalizer-inverse v h =
       let H = constant_hom R F.zero_test in
-      sym (H.map-mul (lead R v) (F.inv (lead R v))) ∙ ap (constant R F.zero_test) (mul-inv F (lead R v) (lead-nonzero R F.zero_test v h)) ∙ H.map-one
+      sym (H.map-mul (lead R v) (F.inv (lead R v))) ∙ ap (constant R F.zero_test) (mul-inv F (lead R v) (lead-ne-zero R F.zero_test v h)) ∙ H.map-one
 
   normalizer-ne-zero : (v : Poly R) → v ≢ P.zero → normalizer v ≢ P.zero
   normalizer-ne-zero v h =
-      right-ne-zero F (constant R F.zero_test (lead R v)) (normalizer v) (λ e. poly_one-nonzero F (sym (normalizer-inverse v h) ∙ e))
+      right_ne_zero_of_mul F (constant R F.zero_test (lead R v)) (normalizer v) (λ e. poly_one-ne-zero F (sym (normalizer-inverse v h) ∙ e))
 
   -- it does
   IsMonic-normalizer : (v : Poly R) → v ≢ P.zero → IsMonic R (P.◌⊗◌ (normalizer v) v)
@@ -64,7 +63,7 @@ module _ {K : Type 0} (F : FieldOn K) where
     nonzero = length_pos R F.zero_test (P.◌⊗◌ (normalizer v) v) (poly_mul-ne-zero F (normalizer v) v (normalizer-ne-zero v h) h);
     leading = field_lead-mul F (normalizer v) v (normalizer-ne-zero v h) h
         ∙ ap (λ x. F.◌⊗◌ x (lead R v)) (lead-constant R F.zero_test (F.inv (lead R v)))
-        ∙ F.inv-mul (lead R v) (lead-nonzero R F.zero_test v h);
+        ∙ F.inv-mul (lead R v) (lead-ne-zero R F.zero_test v h);
   }
 
   -- each fraction has lowest terms
@@ -92,7 +91,7 @@ module _ {K : Type 0} (F : FieldOn K) where
           product-ne-zero z = h (e.right.1 ∙ z)
 
           b-ne-zero : b ≢ P.zero
-          b-ne-zero = left-ne-zero F b g product-ne-zero
+          b-ne-zero = left_ne_zero_of_mul F b g product-ne-zero
 
           k : Poly R
           k = normalizer b
@@ -103,7 +102,7 @@ module _ {K : Type 0} (F : FieldOn K) where
           -- the cofactors are coprime, as g cancels
           cofactors : P.◌⊕◌ (P.◌⊗◌ e.s a) (P.◌⊗◌ e.t b) ≡ P.one
           cofactors =
-              poly_mul_cancel_left F g (P.◌⊕◌ (P.◌⊗◌ e.s a) (P.◌⊗◌ e.t b)) P.one (right-ne-zero F b g product-ne-zero)
+              poly_mul_cancel_left F g (P.◌⊕◌ (P.◌⊗◌ e.s a) (P.◌⊗◌ e.t b)) P.one (right_ne_zero_of_mul F b g product-ne-zero)
               (ring5 P (λ g s a t b. (g ⊠ (s ⊠ a ⊞ t ⊠ b), s ⊠ (a ⊠ g) ⊞ t ⊠ (b ⊠ g))) refl g e.s a e.t b
               ∙ ap₂ (λ x y. P.◌⊕◌ (P.◌⊗◌ e.s x) (P.◌⊗◌ e.t y)) (sym e.left.1) (sym e.right.1)
               ∙ sym e.combined ∙ sym (P.mul-one g))
@@ -128,7 +127,7 @@ module _ {K : Type 0} (F : FieldOn K) where
       c = d.0
 
       c-ne-zero : c ≢ P.zero
-      c-ne-zero = left-ne-zero F c v (λ e. w-ne-zero (d.1 ∙ e))
+      c-ne-zero = left_ne_zero_of_mul F c v (λ e. w-ne-zero (d.1 ∙ e))
 
       flat : degree c.0 ≡ 0
       flat = omega (
@@ -136,7 +135,7 @@ module _ {K : Type 0} (F : FieldOn K) where
         ap (λ x. degree x.0) d.1,
         ap (λ x. degree x.0) d'.1,
         field_degree-mul F c v c-ne-zero v-ne-zero,
-        field_degree-mul F d'.0 w (left-ne-zero F d'.0 w (λ e. v-ne-zero (d'.1 ∙ e))) w-ne-zero,
+        field_degree-mul F d'.0 w (left_ne_zero_of_mul F d'.0 w (λ e. v-ne-zero (d'.1 ∙ e))) w-ne-zero,
       )
 
       lead_one : lead R c ≡ F.one
@@ -172,10 +171,10 @@ module _ {K : Type 0} (F : FieldOn K) where
 
   pub polynomial_reduction : IsReduction P Lowest
   polynomial_reduction = record {
-    one-nonzero = poly_one-nonzero F;
+    one-nonzero = poly_one-ne-zero F;
     mul_cancel_left = poly_mul_cancel_left F;
     lowest_prop = IsLowest-prop;
-    lowest-nonzero = λ u v h. IsMonic-ne-zero v h.monic;
+    lowest-ne-zero = λ u v h. IsMonic-ne-zero v h.monic;
     reduced = lowest_terms;
     unique = lowest_terms_unique;
   }

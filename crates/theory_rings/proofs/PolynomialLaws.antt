@@ -1,12 +1,11 @@
 -- The laws of polynomials, of every ring of polynomials.
-use Rattle.std.specs.Prelude.{◌≡◌, ◌≢◌, ℕ, Bool, ◌⊎◌}
+use Rattle.std.specs.Prelude.{◌≢◌, Bool}
 use Rattle.std.proofs.Common.{refl, sym, ◌∙◌, ap}
 use Rattle.theory_rings.specs.Ring.{CommRingOn, FieldOn, ZeroTest}
-use Rattle.theory_rings.specs.Polynomial.{Poly, IsPolynomialRing}
-use Rattle.theory_rings.specs.Division.{Divides, IsDivision, IsGcd, IsIrreducible}
-use Rattle.theory_rings.specs.Fraction.{SameFraction, Fraction, IsLowest, IsFractionField}
+use Rattle.theory_rings.specs.Polynomial.{Poly}
+use Rattle.theory_rings.specs.Fraction.{SameFraction, Fraction}
 use Rattle.theory_rings.specs.PolynomialLaws.{HasPolynomialRing, HasDivision, HasRemainderRings, EvaluationIsHom, HasGcd, IrreducibleIsPrime, HasRemainderFields, HasLowestTerms, HasRationalFunctions}
-use Rattle.theory_rings.proofs.Solver.{Ex, ◌⊠◌, ring3}
+use Rattle.theory_rings.proofs.Solver.{◌⊠◌, ring3}
 use Rattle.theory_rings.proofs.PolynomialRing.{polynomials, is_polynomial_ring}
 use Rattle.theory_rings.proofs.RingPaths.{for_polynomials}
 use Rattle.theory_rings.proofs.Division.{divide, division_unique}

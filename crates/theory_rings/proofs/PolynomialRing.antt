@@ -1,5 +1,5 @@
 -- The ring of polynomials: a trimmed list is what its coefficients are, and those are a ring under convolution.
-use Rattle.std.specs.Prelude.{◌≡◌, ◌≢◌, ℕ, zero, suc, ◌+◌, ◌-◌, ◌<◌, ◌≤◌, Bool, true, false, cond, List, [], ◌∷◌, length, get_or, ◌⊎◌}
+use Rattle.std.specs.Prelude.{◌≡◌, ◌≢◌, ℕ, zero, suc, ◌+◌, ◌-◌, ◌≤◌, Bool, true, false, cond, List, [], ◌∷◌, length, get_or}
 use Rattle.std.proofs.Common.{refl, sym, ◌∙◌, ap, ap₂, arith, ⊎_elim}
 use Rattle.std.proofs.Math.Path.{fun_ext}
 use Rattle.std.proofs.lemmas.Bool.{cases_lt}
@@ -8,7 +8,7 @@ use mathlib.Core.HLevel.{Σ_prop_path}
 use Rattle.theory_rings.specs.Ring.{CommRingOn, ZeroTest}
 use Rattle.theory_rings.specs.Sum.{table}
 use Rattle.theory_rings.specs.Polynomial.{IsTrimmed, put_before, trim, Poly, coefficient, convolution, constant_coefficients, IsPolynomialRing}
-use Rattle.theory_rings.proofs.RingLaws.{add-zero, zero-mul, mul-zero, neg_zero}
+use Rattle.theory_rings.proofs.RingLaws.{zero-mul, mul-zero, neg_zero}
 use Rattle.theory_rings.proofs.ZeroTests.{is_zero-complete}
 use Rattle.theory_rings.proofs.Lists.{get_or-table_default}
 use Rattle.theory_rings.proofs.Embedding.{RingEmbedding, embedded_comm_ring}
@@ -25,16 +25,16 @@ module _ {X : Type 0} (nought : X) where
   IsTrimmed-tail x (y ∷ ys) h = h
 
   -- the last item of a trimmed list
-  pub last_nonzero : (x : X) (xs : List X) → IsTrimmed nought (x ∷ xs) → get_or (x ∷ xs) (length xs) nought ≢ nought
-  last_nonzero x [] h = h
-  last_nonzero x (y ∷ ys) h = last_nonzero y ys h
+  pub last-ne-zero : (x : X) (xs : List X) → IsTrimmed nought (x ∷ xs) → get_or (x ∷ xs) (length xs) nought ≢ nought
+  last-ne-zero x [] h = h
+  last-ne-zero x (y ∷ ys) h = last-ne-zero y ys h
 
   -- a trimmed list is what its items are
   pub IsTrimmed-injective : (xs ys : List X) → IsTrimmed nought xs → IsTrimmed nought ys
       → ((k : ℕ) → get_or xs k nought ≡ get_or ys k nought) → xs ≡ ys
   IsTrimmed-injective [] [] hx hy e = refl
-  IsTrimmed-injective [] (y ∷ ys) hx hy e = absurd (last_nonzero y ys hy (sym (e (length ys))))
-  IsTrimmed-injective (x ∷ xs) [] hx hy e = absurd (last_nonzero x xs hx (e (length xs)))
+  IsTrimmed-injective [] (y ∷ ys) hx hy e = absurd (last-ne-zero y ys hy (sym (e (length ys))))
+  IsTrimmed-injective (x ∷ xs) [] hx hy e = absurd (last-ne-zero x xs hx (e (length xs)))
   IsTrimmed-injective (x ∷ xs) (y ∷ ys) hx hy e =
       ap₂ (λ z zs. z ∷ zs) (e 0) (IsTrimmed-injective xs ys (IsTrimmed-tail x xs hx) (IsTrimmed-tail y ys hy) (λ k. e (suc k)))
 

@@ -1,15 +1,15 @@
 -- The remainders by a monic polynomial are a commutative ring, over any commutative ring with a test of 0.
-use Rattle.std.specs.Prelude.{◌≡◌, ◌≢◌, ℕ, suc, ◌<◌, ◌≤◌, Bool, length}
+use Rattle.std.specs.Prelude.{◌≡◌, ◌<◌, ◌≤◌, Bool, length}
 use Rattle.std.proofs.Common.{refl, sym, ◌∙◌, ap, subst, arith}
 use Rattle.std.proofs.Math.Bridge.{le_prop}
 use Rattle.theory_rings.specs.Ring.{CommRingOn, ZeroTest}
-use Rattle.theory_rings.specs.Polynomial.{Poly, coefficient, lead, degree, IsMonic}
+use Rattle.theory_rings.specs.Polynomial.{Poly, lead, degree, IsMonic}
 use Rattle.theory_rings.specs.Division.{IsDivision, Congruent}
 use Rattle.theory_rings.specs.Homomorphism.{IsRingHom}
 use Rattle.theory_rings.specs.Remainder.{Remainder, IsRemainderRing}
 use Rattle.theory_rings.proofs.RingLaws.{zero-mul}
 use Rattle.theory_rings.proofs.PolynomialRing.{polynomials, coefficient-one, constant_past, is_zero_poly, zero_poly_test}
-use Rattle.theory_rings.proofs.Degrees.{length_le, zero-length, length-add_le, length-neg_le, degree_le_length, length-degree}
+use Rattle.theory_rings.proofs.Degrees.{length_le, zero-length, length-add_le, length-neg_le, length-degree}
 use Rattle.theory_rings.proofs.Division.{divide, division_unique}
 use Rattle.theory_rings.proofs.Residues.{residues-zero, residues-one, residues-add, residues-neg, residues-mul, IsResidueSystem, residues, residue, residue_hom, residue_eq, residue-small, congruent_of_residue, Residue-path, congruent_of_eq, congruent_sym}
 

@@ -6,8 +6,8 @@ use mathlib.Core.HLevel.{Σ_prop_path}
 use Rattle.theory_rings.specs.Ring.{CommRingOn}
 use Rattle.theory_rings.specs.Division.{Congruent}
 use Rattle.theory_rings.specs.Homomorphism.{IsRingHom}
-use Rattle.theory_rings.proofs.RingLaws.{add-zero, add-neg, zero-mul, neg-mul, neg_add, add_add_add_comm}
-use Rattle.theory_rings.proofs.Solver.{Ex, ◌⊞◌, ◌⊠◌, minus, v0, ring3, ring4, ring5}
+use Rattle.theory_rings.proofs.RingLaws.{add-zero, zero-mul}
+use Rattle.theory_rings.proofs.Solver.{◌⊞◌, ◌⊠◌, minus, ring3, ring4, ring5}
 
 module _ {D : Type 0} (C : CommRingOn D) (m : D) where
   infixl 65 ◌⊕◌

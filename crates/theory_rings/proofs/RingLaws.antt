@@ -1,6 +1,6 @@
 -- What follows from the laws of a monoid, a group, a ring and a commutative ring.
 use Rattle.std.specs.Prelude.{◌≡◌}
-use Rattle.std.proofs.Common.{sym, ◌∙◌, ap, arith}
+use Rattle.std.proofs.Common.{sym, ◌∙◌, ap}
 use Rattle.theory_rings.specs.Ring.{AddCommMonoidOn, AddCommGroupOn, RingOn, CommRingOn}
 
 module _ {V : Type 0} (M : AddCommMonoidOn V) where

@@ -1,9 +1,9 @@
 -- A commutative ring on a set is determined by its operations; so there is one ring of polynomials.
-use Rattle.std.specs.Prelude.{◌≡◌, ℕ, Bool}
-use Rattle.std.proofs.Common.{sym, ◌∙◌, ap, ap₂, subst}
+use Rattle.std.specs.Prelude.{◌≡◌, Bool}
+use Rattle.std.proofs.Common.{sym, ◌∙◌, subst}
 use mathlib.Core.HLevel.{is_prop→PathP}
 use Rattle.theory_rings.specs.Ring.{CommRingOn, ZeroTest}
-use Rattle.theory_rings.specs.Polynomial.{Poly, coefficient, convolution, IsPolynomialRing}
+use Rattle.theory_rings.specs.Polynomial.{Poly, IsPolynomialRing}
 use Rattle.theory_rings.proofs.ZeroTests.{group_set}
 use Rattle.theory_rings.proofs.PolynomialRing.{Poly-path, polynomials, is_polynomial_ring, zero_poly_test}
 

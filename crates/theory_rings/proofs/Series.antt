@@ -3,14 +3,33 @@ use Rattle.std.specs.Prelude.{◌≡◌, ℕ, zero, suc, ◌+◌, ◌-◌, ◌<�
 use Rattle.std.proofs.Common.{refl, sym, ◌∙◌, ap, ap₂, arith}
 use Rattle.std.proofs.Math.Path.{fun_ext}
 use Rattle.theory_rings.specs.Ring.{RingOn, CommRingOn}
-use Rattle.theory_rings.specs.Sum.{sum}
 use Rattle.theory_rings.specs.Polynomial.{convolution, constant_coefficients}
-use Rattle.theory_rings.proofs.RingLaws.{add-zero, mul-zero, zero-mul}
+use Rattle.theory_rings.proofs.RingLaws.{add-zero, zero-mul}
 use Rattle.theory_rings.proofs.Sums.{sum_congr, sum_eq_zero, sum-add, sum_first, mul-sum}
 
 -- the coefficients from the second on
 abbrev pub tail : {X : Type 0} → (ℕ → X) → ℕ → X
 tail f k = f (suc k)
+
+-- the coefficients f, s places further up
+abbrev pub shift : {X : Type 0} → X → ℕ → (ℕ → X) → ℕ → X
+shift nought zero f k = f k
+shift nought (suc s) f zero = nought
+shift nought (suc s) f (suc k) = shift nought s f k
+
+module _ {X : Type 0} (nought : X) where
+  pub shift-below : (s : ℕ) (f : ℕ → X) (k : ℕ) → k < s → shift nought s f k ≡ nought
+  shift-below zero f k l = absurd (omega arith)
+  shift-below (suc s) f zero l = refl
+  shift-below (suc s) f (suc k) l = shift-below s f k (omega arith)
+
+  pub shift-above : (s : ℕ) (f : ℕ → X) (k j : ℕ) → k ≡ s + j → shift nought s f k ≡ f j
+  shift-above zero f k j e = ap f (plain k j e)
+    where
+      plain : (k j : ℕ) → k ≡ 0 + j → k ≡ j
+      plain k j e = omega arith
+  shift-above (suc s) f zero j e = absurd (omega arith)
+  shift-above (suc s) f (suc k) j e = shift-above s f k j (omega arith)
 
 module _ {K : Type 0} (R : RingOn K) where
   infixl 65 ◌⊕◌

@@ -1,10 +1,9 @@
 -- Sums over an index range: congruence, exchange, splitting, a term taken out, a single term, maps.
-use Rattle.std.specs.Prelude.{◌≡◌, ℕ, zero, suc, ◌+◌, ◌*◌, ◌<◌, ◌≤◌, cond, ltb}
+use Rattle.std.specs.Prelude.{◌≡◌, ℕ, zero, suc, ◌+◌, ◌<◌, ◌≤◌, cond, ltb}
 use Rattle.std.proofs.Common.{refl, sym, ◌∙◌, ap, ap₂, arith, ⊎_elim}
 use Rattle.std.proofs.lemmas.Bool.{cases_lt, lt-ltb, le-ltb}
-use Rattle.std.proofs.Math.Path.{fun_ext}
 use Rattle.theory_rings.specs.Ring.{AddCommMonoidOn, AddCommGroupOn, RingOn}
-use Rattle.theory_rings.specs.Sum.{sum, sum_of, sum_by_ops}
+use Rattle.theory_rings.specs.Sum.{sum}
 use Rattle.theory_rings.proofs.RingLaws.{add-zero, add_add_add_comm, mul-zero, zero-mul, neg_add, neg_zero}
 
 -- the numbers without k, in order

@@ -22,21 +22,21 @@ module _ {V : Type 0} (G : AddCommGroupOn V) where
   infixl 65 ◌⊕◌
   open G use {zero, ◌⊕◌, neg}
 
-  pub sub_eq_zero : (a b : V) → a ⊕ neg b ≡ zero → a ≡ b
-  sub_eq_zero a b e =
+  pub eq_of_sub_eq_zero : (a b : V) → a ⊕ neg b ≡ zero → a ≡ b
+  eq_of_sub_eq_zero a b e =
       sym (add-zero G.monoid a) ∙ ap (λ x. a ⊕ x) (sym (G.neg-add b)) ∙ sym (G.add_assoc a (neg b) b)
       ∙ ap (λ x. x ⊕ b) e ∙ G.zero-add b
 
-  pub sub_self : (a b : V) → a ≡ b → a ⊕ neg b ≡ zero
-  sub_self a b e = ap (λ x. x ⊕ neg b) e ∙ add-neg G b
+  pub sub_eq_zero_of_eq : (a b : V) → a ≡ b → a ⊕ neg b ≡ zero
+  sub_eq_zero_of_eq a b e = ap (λ x. x ⊕ neg b) e ∙ add-neg G b
 
   -- a group with a test of 0 has decidable equality, and is a set
   pub group_discrete : {is_zero : V → Bool} → ZeroTest zero is_zero → Discrete V
   group_discrete {is_zero} Z a b = go (eq_zero_or Z (a ⊕ neg b))
     where
       go : (a ⊕ neg b ≡ zero) ⊎ (a ⊕ neg b ≢ zero) → Dec (a ≡ b)
-      go (inl e) = yes (sub_eq_zero a b e)
-      go (inr n) = no (λ e. n (sub_self a b e))
+      go (inl e) = yes (eq_of_sub_eq_zero a b e)
+      go (inr n) = no (λ e. n (sub_eq_zero_of_eq a b e))
 
   pub group_set : {is_zero : V → Bool} → ZeroTest zero is_zero → IsSet V
   group_set Z = hedberg (group_discrete Z)

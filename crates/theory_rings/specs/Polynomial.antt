@@ -1,5 +1,5 @@
 -- Polynomials over a commutative ring, as the lists of their coefficients, that of power 0 first, with no 0 at the end.
-use Rattle.std.specs.Prelude.{◌≡◌, ◌≢◌, ℕ, zero, suc, ◌-◌, ◌<◌, ◌≤◌, Bool, true, false, cond, List, [], ◌∷◌, length, get_or}
+use Rattle.std.specs.Prelude.{◌≡◌, ◌≢◌, ℕ, zero, suc, ◌-◌, ◌<◌, Bool, cond, List, [], ◌∷◌, length, get_or}
 use Rattle.theory_rings.specs.Ring.{RingOn, CommRingOn}
 use Rattle.theory_rings.specs.Ops.{Ops}
 use Rattle.theory_rings.specs.Sum.{sum, sum_of}
@@ -20,7 +20,7 @@ abbrev pub trim : {X : Type 0} → (X → Bool) → List X → List X
 trim is_zero [] = []
 trim is_zero (x ∷ xs) = put_before is_zero x (trim is_zero xs)
 
--- the degree of a polynomial; that of 0 is 0 here
+-- the degree of the polynomial with these coefficients; that of 0 is 0 here
 abbrev pub degree : {X : Type 0} → List X → ℕ
 degree [] = 0
 degree (x ∷ xs) = length xs
@@ -39,6 +39,7 @@ constant_coefficients nought c zero = c
 constant_coefficients nought c (suc k) = nought
 
 module _ {K : Type 0} (R : CommRingOn K) where
+  -- the polynomials over R
   abbrev pub Poly : Type 0
   Poly = (xs : List K) × IsTrimmed R.zero xs
 

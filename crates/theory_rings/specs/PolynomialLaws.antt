@@ -1,11 +1,11 @@
 -- What the laws of polynomials say.
-use Rattle.std.specs.Prelude.{◌≡◌, ◌≢◌, ℕ, ◌<◌, length, ◌⊎◌}
+use Rattle.std.specs.Prelude.{◌≡◌, ◌≢◌, ◌<◌, length, ◌⊎◌}
 use Rattle.theory_rings.specs.Ring.{CommRingOn, FieldOn}
 use Rattle.theory_rings.specs.Homomorphism.{IsRingHom}
 use Rattle.theory_rings.specs.Polynomial.{Poly, lead, IsMonic, IsPolynomialRing}
 use Rattle.theory_rings.specs.Division.{Divides, IsDivision, IsIrreducible, IsGcd}
 use Rattle.theory_rings.specs.Remainder.{Remainder, IsRemainderRing}
-use Rattle.theory_rings.specs.Fraction.{SameFraction, Fraction, IsFractionField, IsLowest}
+use Rattle.theory_rings.specs.Fraction.{Fraction, IsValue, IsFractionField, IsLowest}
 use Rattle.theory_rings.specs.Evaluation.{evaluate}
 
 -- of each ring P of polynomials over R
@@ -51,8 +51,8 @@ module _ {K : Type 0} (F : FieldOn K) where
   -- each fraction of polynomials is that of one pair in lowest terms
   abbrev pub HasLowestTerms : Type 0
   HasLowestTerms = OfPolynomials F.cring (λ P. (u v : Poly F.cring) → v ≢ P.zero
-      → (w : Fraction (IsLowest F.cring P)) × SameFraction P w.0.0 w.0.1 u v
-      × ((w' : Fraction (IsLowest F.cring P)) → SameFraction P w'.0.0 w'.0.1 u v → w ≡ w'))
+      → (w : Fraction (IsLowest F.cring P)) × IsValue P (IsLowest F.cring P) w u v
+      × ((w' : Fraction (IsLowest F.cring P)) → IsValue P (IsLowest F.cring P) w' u v → w ≡ w'))
 
   -- the fractions of polynomials are a field
   abbrev pub HasRationalFunctions : Type 0
