@@ -1,6 +1,6 @@
 -- The field of the numbers below p ^ d: its elements are numbered, its p is prime and is 0 in it. The integers modulo p are
 -- the case of one digit.
-use Rattle.std.specs.Prelude.{◌≡◌, ◌≢◌, ℕ, zero, suc, ◌+◌, ◌-◌, ◌*◌, ◌/◌, ◌%◌, ◌^◌, ◌<◌, ◌≤◌, ◌⊎◌, Bool, true, false, List, [], ◌∷◌, length, nat_lt, slice_index}
+use Rattle.std.specs.Prelude.{◌≡◌, ◌≢◌, ℕ, zero, suc, ◌+◌, ◌-◌, ◌*◌, ◌/◌, ◌%◌, ◌^◌, ◌<◌, ◌≤◌, Bool, true, false, List, [], ◌∷◌, length, nat_lt, slice_index}
 use Prim.Native.Nat.{◌∣◌}
 use Rattle.std.proofs.Common.{refl, sym, ◌∙◌, ap, ap₂, subst, arith, ⊎_elim, inl, inr}
 use Rattle.std.proofs.Math.Nat.{zero-mod, mod-add-mod, add-mod-mod, mod_self, le_of_dvd, eq-zero_of_zero-dvd, mul-div_cancel', lt_of_lt_of_le, pow-suc, pow-zero, one-mul}

@@ -1,6 +1,6 @@
 -- The tuples of k members of a set of n members are numbered by the numbers below n ^ k: member i is that of digit i.
-use Rattle.std.specs.Prelude.{◌≡◌, ℕ, ◌^◌, ◌<◌, ◌≤◌}
-use Rattle.std.proofs.Common.{sym, ◌∙◌, ap, arith}
+use Rattle.std.specs.Prelude.{◌≡◌, ℕ, ◌^◌, ◌<◌}
+use Rattle.std.proofs.Common.{sym, ◌∙◌, ap}
 use Rattle.theory_rings.specs.Digits.{digit, of_digits}
 use Rattle.theory_rings.specs.Enumerated.{Enumerated}
 use Rattle.theory_rings.proofs.Digits.{digit_lt, digit_injective, digit-of_digits, of_digits_lt}
