@@ -84,7 +84,7 @@ pub record DigitsAreRemainders (p : ℕ) (two_le : 2 ≤ p) (m : List ℕ) : Typ
   pub back-map : (a : Fin (size_by_digits p m)) → back (map a) ≡ a
   pub map-back : (f : Remainder (integers_mod p two_le) M) → map (back f) ≡ f
 
--- so it is for every p from 2 on, prime or not, and every modulus of degree 1 or more, irreducible or not
+-- they are, for every p from 2 on, prime or not, and every modulus of degree 1 or more, irreducible or not
 abbrev pub DigitsAreRemaindersLaw : Type 0
 DigitsAreRemaindersLaw = (p : ℕ) (two_le : 2 ≤ p) (m : List ℕ) → 1 ≤ length m → DigitsAreRemainders p two_le m
 

@@ -11,6 +11,6 @@ pub record IsPrime (p : ℕ) : Type 0 where
 abbrev pub HasInversesMod : ℕ → Type 0
 HasInversesMod n = (a : ℕ) → 0 < a → a < n → (b : ℕ) × (b < n) × ((a * b) % n ≡ 1)
 
--- which says that n is prime
+-- a number from 2 on is prime just where it has these inverses
 abbrev pub PrimeLaw : Type 0
 PrimeLaw = (n : ℕ) → ((IsPrime n → HasInversesMod n) × (2 ≤ n → HasInversesMod n → IsPrime n))
