@@ -11,7 +11,7 @@ use Rattle.theory_rings.specs.Polynomial.{Poly, coefficient, convolution, consta
 use Rattle.theory_rings.specs.FieldByDigits.{product_coefficient}
 use Rattle.theory_rings.proofs.Sums.{sum_congr}
 use Rattle.theory_rings.proofs.IntegersMod.{residue-value, residue-zero, residue-one, residue-mul, residue-sum, residue_zero_test}
-use Rattle.theory_rings.proofs.Digits.{digit-zero, digit-suc, zero-digit, digit_lt, digit_past, digit_injective, digit-of_digits, of_digits_lt, lt_pow_self}
+use Rattle.theory_rings.proofs.Digits.{digit-zero, digit-suc, digit-suc_of_lt, zero-digit, digit_lt, digit_past, digit_injective, digit-of_digits, of_digits_lt, lt_pow_self}
 use Rattle.theory_rings.proofs.Degrees.{length_le}
 use Rattle.theory_rings.proofs.PolynomialRing.{Poly-path, coefficient_past, polynomial, coefficient-polynomial, polynomials, coefficient-zero, coefficient-one, constant, coefficient-constant, series_prepend, prepend, coefficient-prepend}
 
@@ -120,7 +120,7 @@ module _ (p : ℕ) (two_le : 2 ≤ p) where
     where
       each : (k : ℕ) → residue p two_le (digit p a k) ≡ constant_coefficients residues.zero (residue p two_le a) k
       each zero = ap (residue p two_le) (digit-zero p a ∙ mod-eq_of_lt l)
-      each (suc k) = ap (residue p two_le) (digit-suc p a k ∙ ap (λ x. digit p x k) (div-eq_of_lt l) ∙ zero-digit p k) ∙ residue-zero p two_le
+      each (suc k) = ap (residue p two_le) (digit-suc_of_lt p a k l) ∙ residue-zero p two_le
 
   pub polynomial_of-one : polynomial_of 1 ≡ digit_polynomials.one
   polynomial_of-one = Poly-path residues (polynomial_of 1) digit_polynomials.one

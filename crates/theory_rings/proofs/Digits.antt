@@ -26,6 +26,10 @@ module _ (p : ℕ) where
   pub zero-digit : (k : ℕ) → digit p 0 k ≡ 0
   zero-digit k = ap (λ x. x % p) (zero-div (p ^ k)) ∙ zero-mod p
 
+  -- a number below p has one digit
+  pub digit-suc_of_lt : (a k : ℕ) → a < p → digit p a (suc k) ≡ 0
+  digit-suc_of_lt a k l = digit-suc a k ∙ ap (λ x. digit p x k) (div-eq_of_lt l) ∙ zero-digit k
+
   -- the lowest digit, and the number that the others make
   pub of_digits_suc : (d : ℕ) (f : ℕ → ℕ) → of_digits p (suc d) f ≡ f 0 + p * of_digits p d (λ k. f (suc k))
   of_digits_suc d f =

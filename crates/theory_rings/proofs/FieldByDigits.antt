@@ -1,7 +1,7 @@
 -- The sum and the product of numbers by their digits are those of their polynomials modulo the modulus.
-use Rattle.std.specs.Prelude.{◌≡◌, ◌≢◌, ℕ, suc, ◌+◌, ◌%◌, ◌<◌, ◌≤◌, List, [], ◌∷◌, ◌++◌, length}
+use Rattle.std.specs.Prelude.{◌≡◌, ◌≢◌, ℕ, zero, suc, ◌+◌, ◌-◌, ◌%◌, ◌<◌, ◌≤◌, List, [], ◌∷◌, ◌++◌, length}
 use Rattle.std.proofs.Common.{refl, sym, ◌∙◌, ap, ap₂, arith, ⊎_elim, length-append}
-use Rattle.std.proofs.Math.Nat.{mod-mod}
+use Rattle.std.proofs.Math.Nat.{mod-mod, mod-eq_of_lt, zero-mod, add-mod-mod, mod_self, one-le-pow, lt_of_lt_of_le}
 use Rattle.std.proofs.lemmas.Bool.{cases_lt}
 use Rattle.std.proofs.lemmas.List.{get_or_past, get_or_push}
 use Rattle.std.proofs.lemmas.Nat.{mod_below}
@@ -12,7 +12,7 @@ use Rattle.theory_rings.specs.Polynomial.{coefficient, lead, degree, IsMonic}
 use Rattle.theory_rings.specs.Division.{IsDivision}
 use Rattle.theory_rings.specs.FieldByDigits.{product_coefficient, modulus_coefficient, size_by_digits, IsSumByDigits, IsProductByDigits}
 use Rattle.theory_rings.proofs.IntegersMod.{residue_eq, residue-zero, residue-one, residue-add}
-use Rattle.theory_rings.proofs.Digits.{digit_past, digit_injective, digit-of_digits, of_digits_lt}
+use Rattle.theory_rings.proofs.Digits.{digit-zero, digit-suc_of_lt, zero-digit, digit_lt, le_pow_self, digit_past, digit_injective, digit-of_digits, of_digits_lt}
 use Rattle.theory_rings.proofs.PolynomialRing.{Poly-path, coefficient-add, coefficient-mul}
 use Rattle.theory_rings.proofs.Series.{convolution_congr}
 use Rattle.theory_rings.proofs.IntegersMod.{residue_zero_test}
@@ -171,16 +171,47 @@ module _ (p : ℕ) (two_le : 2 ≤ p) (m : List ℕ) where
       )
 
   -- the sum, made of its digits
-  pub sum_exists : (a b : ℕ) → (c : ℕ) × IsSumByDigits p m a b c
-  sum_exists a b =
+  pub sum_by_digits : (a b : ℕ) → IsSumByDigits p m a b (of_digits p (length m) (λ k. (digit p a k + digit p b k) % p))
+  sum_by_digits a b =
       let f : ℕ → ℕ = λ k. (digit p a k + digit p b k) % p in
-      let small : (k : ℕ) → k < length m → f k < p = λ k l. mod_below (digit p a k + digit p b k) p (omega arith) in (
-        of_digits p (length m) f,
-        record {
-          below = of_digits_lt p (omega arith) (length m) f small;
-          each = digit-of_digits p (omega arith) (length m) f small;
-        },
-      )
+      let small : (k : ℕ) → k < length m → f k < p = λ k l. mod_below (digit p a k + digit p b k) p (omega arith) in
+      record {
+        below = of_digits_lt p (omega arith) (length m) f small;
+        each = digit-of_digits p (omega arith) (length m) f small;
+      }
+
+  -- the opposite, too
+  pub neg_by_digits : (a : ℕ) → IsSumByDigits p m a (of_digits p (length m) (λ k. (p - digit p a k) % p)) 0
+  neg_by_digits a =
+      let f : ℕ → ℕ = λ k. (p - digit p a k) % p in
+      let small : (k : ℕ) → k < length m → f k < p = λ k l. mod_below (p - digit p a k) p (omega arith) in
+      record {
+        below = let l = one-le-pow (length m) p (omega arith) in omega arith;
+        each = λ k l. zero-digit p k ∙ sym
+            (ap (λ x. (digit p a k + x) % p) (digit-of_digits p (omega arith) (length m) f small k l)
+            ∙ cancels (digit p a k) (digit_lt p (omega arith) a k));
+      }
+    where
+      cancels : (x : ℕ) → x < p → (x + (p - x) % p) % p ≡ 0
+      cancels x l = add-mod-mod x (p - x) p ∙ ap (λ y. y % p) whole ∙ mod_self p
+        where
+          whole : x + (p - x) ≡ p
+          whole = omega arith
+
+  -- the sum of numbers below p is that modulo p
+  pub sum-constants : (a b : ℕ) → 1 ≤ length m → a < p → b < p → IsSumByDigits p m a b ((a + b) % p)
+  sum-constants a b d la lb = record {
+    below = lt_of_lt_of_le (mod_below (a + b) p (omega arith)) (le_pow_self p (length m) d);
+    each = λ k _. each k;
+  }
+    where
+      each : (k : ℕ) → digit p ((a + b) % p) k ≡ (digit p a k + digit p b k) % p
+      each zero =
+          digit-zero p ((a + b) % p) ∙ mod-mod (a + b) p
+          ∙ sym (ap₂ (λ x y. (x + y) % p) (digit-zero p a ∙ mod-eq_of_lt la) (digit-zero p b ∙ mod-eq_of_lt lb))
+      each (suc k) =
+          digit-suc_of_lt p ((a + b) % p) k (mod_below (a + b) p (omega arith)) ∙ sym (zero-mod p)
+          ∙ sym (ap₂ (λ x y. (x + y) % p) (digit-suc_of_lt p a k la) (digit-suc_of_lt p b k lb))
 
   pub sum_unique : (a b c c' : ℕ) → IsSumByDigits p m a b c → IsSumByDigits p m a b c' → c ≡ c'
   sum_unique a b c c' s s' = digit_injective p (length m) c c' s.below s'.below (λ k l. s.each k l ∙ sym (s'.each k l))

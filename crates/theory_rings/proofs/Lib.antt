@@ -40,6 +40,13 @@ pub mod RingPaths
 pub mod FieldProducts
 pub mod FrobeniusMap
 pub mod PolynomialLaws
+pub mod Primes
+pub mod Powers
+pub mod Binomials
+pub mod Reindex
+pub mod FiniteFields
+pub mod ElementsByDigits
+pub mod EnumeratedTuples
 pub mod LongDivision
 pub mod Mapping
 pub mod ElementLists

@@ -1,6 +1,6 @@
 -- The numbers below p ^ d by their digits are the ring of the remainders by the modulus, whatever the modulus; where each
 -- but 0 has an inverse they are a field.
-use Rattle.std.specs.Prelude.{◌≡◌, ◌≢◌, ℕ, suc, ◌<◌, ◌≤◌, List, length}
+use Rattle.std.specs.Prelude.{◌≡◌, ◌≢◌, ℕ, suc, ◌+◌, ◌%◌, ◌<◌, ◌≤◌, List, length}
 use Rattle.std.proofs.Common.{refl, sym, ◌∙◌, ap, subst, arith}
 use Rattle.std.proofs.Math.Bridge.{le_prop}
 use Rattle.std.proofs.lemmas.Bool.{ltb-true, lt-ltb, eqb-true, eq-eqb}
@@ -10,10 +10,10 @@ use Rattle.theory_rings.specs.Ops.{Ops, IsElem, FieldLaws}
 use Rattle.theory_rings.specs.Elements.{Elem}
 use Rattle.theory_rings.specs.Homomorphism.{IsRingHom}
 use Rattle.theory_rings.specs.IntegersMod.{Fin, Fin-path, value-lt, residue, residue_is_zero}
-use Rattle.theory_rings.specs.Digits.{digit}
+use Rattle.theory_rings.specs.Digits.{digit, of_digits}
 use Rattle.theory_rings.specs.Polynomial.{coefficient}
 use Rattle.theory_rings.specs.Remainder.{Remainder}
-use Rattle.theory_rings.specs.FieldByDigits.{size_by_digits, IsSumByDigits, IsProductByDigits, IsRingByDigits, IsFieldByDigits, DigitsAreRemainders, DigitsAreRemaindersLaw, FieldByDigitsLaw}
+use Rattle.theory_rings.specs.FieldByDigits.{size_by_digits, IsSumByDigits, IsProductByDigits, IsRingByDigits, IsFieldByDigits, DigitsAreRemainders, DigitsAreRemaindersLaw}
 use Rattle.theory_rings.proofs.RingLaws.{neg_unique}
 use Rattle.theory_rings.proofs.IntegersMod.{residue_zero_test}
 use Rattle.theory_rings.proofs.Digits.{le_pow_self}
@@ -21,7 +21,7 @@ use Rattle.theory_rings.proofs.Embedding.{RingEmbedding, embedded_comm_ring, Fie
 use Rattle.theory_rings.proofs.PolynomialRing.{is_polynomial_ring}
 use Rattle.theory_rings.proofs.Remainders.{remainders, remainder_eq, remainder_of_small, remainders-zero_poly, remainders-one_poly, remainders-add_poly, remainders-mul, is_remainder_ring}
 use Rattle.theory_rings.proofs.DigitPolynomials.{DigitPoly, residues, digit_polynomials, polynomial_of, coefficient-polynomial_of, number_of, number_of_lt, polynomial_of-number_of, polynomial_of-injective, length-polynomial_of, polynomial_of-zero, polynomial_of-one}
-use Rattle.theory_rings.proofs.FieldByDigits.{modulus, coefficient-modulus, length-modulus, degree-modulus, modulus_monic, polynomial_of-sum, polynomial_of-product, sum_exists, sum_unique, product_exists, product_unique}
+use Rattle.theory_rings.proofs.FieldByDigits.{modulus, coefficient-modulus, length-modulus, degree-modulus, modulus_monic, polynomial_of-sum, polynomial_of-product, sum_by_digits, sum_unique, product_exists, product_unique}
 
 module _ (p : ℕ) (two_le : 2 ≤ p) (m : List ℕ) where
   abbrev R : CommRingOn (Fin p)
@@ -132,14 +132,15 @@ module _ (p : ℕ) (two_le : 2 ≤ p) (m : List ℕ) where
     from-to_remainder a = to_remainder-injective (from_remainder (to_remainder a)) a (to-from_remainder (to_remainder a))
 
     sum_of : Fin q → Fin q → Fin q
-    sum_of a b = let s = sum_exists p two_le m a.0 b.0 in (s.0, lt-ltb s.0 q s.1.below)
+    sum_of a b = let s = sum_by_digits p two_le m a.0 b.0 in
+        let c = of_digits p (length m) (λ k. (digit p a.0 k + digit p b.0 k) % p) in (c, lt-ltb c q s.below)
 
     product_of : Fin q → Fin q → Fin q
     product_of a b = let s = product_exists p two_le m a.0 b.0 in (s.0, lt-ltb s.0 q s.1.below)
 
     to_remainder-sum : (a b : Fin q) → to_remainder (sum_of a b) ≡ Q.◌⊕◌ (to_remainder a) (to_remainder b)
     unfolding to_remainder sum_of
-    to_remainder-sum a b = remainder_of-sum a.0 b.0 (sum_of a b).0 (value-lt q a) (value-lt q b) (value-lt q (sum_of a b)) (sum_exists p two_le m a.0 b.0).1
+    to_remainder-sum a b = remainder_of-sum a.0 b.0 (sum_of a b).0 (value-lt q a) (value-lt q b) (value-lt q (sum_of a b)) (sum_by_digits p two_le m a.0 b.0)
 
     to_remainder-product : (a b : Fin q) → to_remainder (product_of a b) ≡ Q.◌⊗◌ (to_remainder a) (to_remainder b)
     unfolding to_remainder product_of
@@ -171,8 +172,8 @@ module _ (p : ℕ) (two_le : 2 ≤ p) (m : List ℕ) where
     is_ring_by_digits = record {
       zero = refl;
       one = refl;
-      add = λ a b. (sum_exists p two_le m a.0 b.0).1;
-      add_only = λ a b c s. sum_unique p two_le m a.0 b.0 c (sum_of a b).0 s (sum_exists p two_le m a.0 b.0).1;
+      add = λ a b. (sum_by_digits p two_le m a.0 b.0);
+      add_only = λ a b c s. sum_unique p two_le m a.0 b.0 c (sum_of a b).0 s (sum_by_digits p two_le m a.0 b.0);
       mul = λ a b. (product_exists p two_le m a.0 b.0).1;
       mul_only = λ a b c s. product_unique p two_le m a.0 b.0 c (product_of a b).0 s (product_exists p two_le m a.0 b.0).1;
     }
@@ -274,6 +275,3 @@ module _ (p : ℕ) (two_le : 2 ≤ p) (m : List ℕ) where
 
 pub digits_are_remainders_law : DigitsAreRemaindersLaw
 digits_are_remainders_law = digits_are_remainders
-
-pub field_by_digits_law : FieldByDigitsLaw
-field_by_digits_law = field_by_digits_laws

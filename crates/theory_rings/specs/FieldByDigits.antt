@@ -4,8 +4,12 @@
 use Rattle.std.specs.Prelude.{◌≡◌, ◌≢◌, ℕ, suc, ◌+◌, ◌-◌, ◌*◌, ◌%◌, ◌^◌, ◌<◌, ◌≤◌, List, [], ◌∷◌, ◌++◌, length, get_or, nat_lt, nat_eq}
 use Rattle.theory_rings.specs.Ring.{CommRingOn}
 use Rattle.theory_rings.specs.Ops.{Ops, FieldLaws}
+use Rattle.theory_rings.specs.Elements.{Elem, elements}
+use Rattle.theory_rings.specs.Prime.{IsPrime}
+use Rattle.theory_rings.specs.Binomial.{multiple}
+use Rattle.theory_rings.specs.Enumerated.{Enumerated}
 use Rattle.theory_rings.specs.Homomorphism.{IsRingHom}
-use Rattle.theory_rings.specs.IntegersMod.{Fin, integers_mod, residue}
+use Rattle.theory_rings.specs.IntegersMod.{Fin, integers_mod, residue, mod_ops, IsInverseTable}
 use Rattle.theory_rings.specs.Polynomial.{Poly, coefficient, IsPolynomialRing}
 use Rattle.theory_rings.specs.Remainder.{Remainder, IsRemainderRing}
 use Rattle.theory_rings.specs.Sum.{sum}
@@ -80,10 +84,22 @@ pub record DigitsAreRemainders (p : ℕ) (two_le : 2 ≤ p) (m : List ℕ) : Typ
   pub back-map : (a : Fin (size_by_digits p m)) → back (map a) ≡ a
   pub map-back : (f : Remainder (integers_mod p two_le) M) → map (back f) ≡ f
 
--- so it is for every p from 2 on, prime or not, and every modulus of degree 1 or more, irreducible or not
+-- they are, for every p from 2 on, prime or not, and every modulus of degree 1 or more, irreducible or not
 abbrev pub DigitsAreRemaindersLaw : Type 0
 DigitsAreRemaindersLaw = (p : ℕ) (two_le : 2 ≤ p) (m : List ℕ) → 1 ≤ length m → DigitsAreRemainders p two_le m
 
+-- o is a field of p ^ d elements, in which the prime p is 0
+pub record IsFiniteField (p d : ℕ) (o : Ops ℕ) : Type 0 where
+  pub laws : FieldLaws o
+  pub prime : IsPrime p
+  pub characteristic : multiple (elements o laws).monoid p (elements o laws).one ≡ (elements o laws).zero
+  pub members : Enumerated (Elem o)
+  pub size : members.size ≡ p ^ d
+
 -- a program's operations that are these, with inverses, are a field
 abbrev pub FieldByDigitsLaw : Type 0
-FieldByDigitsLaw = (p : ℕ) → 2 ≤ p → (m : List ℕ) → 1 ≤ length m → (o : Ops ℕ) → IsFieldByDigits p m o → FieldLaws o
+FieldByDigitsLaw = (p : ℕ) → 2 ≤ p → (m : List ℕ) → 1 ≤ length m → (o : Ops ℕ) → IsFieldByDigits p m o → IsFiniteField p (length m) o
+
+-- the integers modulo p are the case of one digit, whatever the modulus
+abbrev pub OneDigitLaw : Type 0
+OneDigitLaw = (p c : ℕ) (inverses : List ℕ) → 2 ≤ p → IsInverseTable p inverses → IsFieldByDigits p (c ∷ []) (mod_ops p inverses)

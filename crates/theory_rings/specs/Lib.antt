@@ -17,3 +17,4 @@ pub mod Fraction
 pub mod Evaluation
 pub mod PolynomialLaws
 pub mod Frobenius
+pub mod Enumerated

@@ -1,14 +1,14 @@
 // The laws of numbers modulo n and of numbers by their digits: each is the contract of a function that does nothing.
 ghost use Rattle.theory_rings.specs.IntegersMod.{IntegersModLaw, FieldModLaw};
 ghost use Rattle.theory_rings.specs.Digits.{DigitsLaw};
-ghost use Rattle.theory_rings.specs.FieldByDigits.{DigitsAreRemaindersLaw, FieldByDigitsLaw};
+ghost use Rattle.theory_rings.specs.FieldByDigits.{DigitsAreRemaindersLaw, FieldByDigitsLaw, OneDigitLaw};
 
 /// The numbers below n are a commutative ring modulo n.
 pub fn integers_mod_law()
     ensures { IntegersModLaw }
 {}
 
-/// They are a field where each but 0 has an inverse.
+/// The numbers below n are a field modulo n where each but 0 has an inverse modulo n.
 pub fn field_mod_law()
     ensures { FieldModLaw }
 {}
@@ -23,7 +23,13 @@ pub fn digits_are_remainders_law()
     ensures { DigitsAreRemaindersLaw }
 {}
 
-/// They are a field where each but 0 has an inverse.
+/// The numbers below p^d with these operations are a field of p^d elements where each but 0 has an inverse; then p is
+/// prime, and is 0 in the field.
 pub fn field_by_digits_law()
     ensures { FieldByDigitsLaw }
+{}
+
+/// The integers modulo p are the case of one digit.
+pub fn one_digit_law()
+    ensures { OneDigitLaw }
 {}

@@ -1,4 +1,4 @@
-use Rattle.theory_rings.proofs.RingByDigits.{field_by_digits_law}
+use Rattle.theory_rings.proofs.ElementsByDigits.{field_by_digits_law}
 use Rattle.theory_rings.proofs.numbers.field_by_digits_law.Goals as goal
 
 pub returns : goal.returns

@@ -1,0 +1,169 @@
+-- The field of the numbers below p ^ d: its elements are numbered, its p is prime and is 0 in it. The integers modulo p are
+-- the case of one digit.
+use Rattle.std.specs.Prelude.{◌≡◌, ◌≢◌, ℕ, zero, suc, ◌+◌, ◌-◌, ◌*◌, ◌/◌, ◌%◌, ◌^◌, ◌<◌, ◌≤◌, Bool, true, false, List, [], ◌∷◌, length, nat_lt, slice_index}
+use Prim.Native.Nat.{◌∣◌}
+use Rattle.std.proofs.Common.{refl, sym, ◌∙◌, ap, ap₂, subst, arith, ⊎_elim, inl, inr}
+use Rattle.std.proofs.Math.Nat.{zero-mod, mod-add-mod, add-mod-mod, mod_self, le_of_dvd, eq-zero_of_zero-dvd, mul-div_cancel', lt_of_lt_of_le, pow-suc, pow-zero, one-mul}
+use Rattle.std.proofs.Math.Bool.{true≢false}
+use Rattle.std.proofs.lemmas.Bool.{cases_eq, ltb-true, lt-ltb}
+use Rattle.std.proofs.lemmas.Nat.{mod_below}
+use Rattle.theory_rings.specs.Ring.{FieldOn}
+use Rattle.theory_rings.specs.Ops.{Ops, IsElem, FieldLaws}
+use Rattle.theory_rings.specs.Elements.{Elem, Elem-path, elements}
+use Rattle.theory_rings.specs.IntegersMod.{mod_ops, IsInverseTable}
+use Rattle.theory_rings.specs.Prime.{IsPrime}
+use Rattle.theory_rings.specs.Binomial.{multiple}
+use Rattle.theory_rings.specs.Enumerated.{Enumerated}
+use Rattle.theory_rings.specs.FieldByDigits.{size_by_digits, IsSumByDigits, IsProductByDigits, IsFieldByDigits, FieldByDigitsLaw, OneDigitLaw}
+use Rattle.theory_rings.proofs.Fields.{field_mul-ne-zero}
+use Rattle.theory_rings.proofs.Digits.{le_pow_self}
+use Rattle.theory_rings.proofs.FieldByDigits.{sum-constants, sum_unique, product_unique}
+use Rattle.theory_rings.proofs.ProductSteps.{product-constants}
+use Rattle.theory_rings.proofs.RingByDigits.{field_by_digits_laws}
+
+-- a program's field of the numbers below n
+module _ (o : Ops ℕ) (L : FieldLaws o) (n : ℕ) (below : (a : ℕ) → IsElem o a → a < n) (elem : (a : ℕ) → a < n → IsElem o a) where
+  abbrev number_member : (i : ℕ) (b : Bool) → o.is_elem i ≡ b → Elem o
+  number_member i true e = (i, e)
+  number_member i false e = (o.zero, L.zero-elem)
+
+  value-number_member : (i : ℕ) (b : Bool) (e : o.is_elem i ≡ b) → b ≡ true → (number_member i b e).0 ≡ i
+  value-number_member i true e t = refl
+  value-number_member i false e t = absurd (true≢false (sym t))
+
+  -- has these elements
+  pub numbers_enumerated : Enumerated (Elem o)
+  numbers_enumerated = record {
+    size = n;
+    member = λ i. number_member i (o.is_elem i) refl;
+    number = λ x. x.0;
+    number-lt = λ x. below x.0 x.1;
+    member-number = λ x. Elem-path o (number_member x.0 (o.is_elem x.0) refl) x (value-number_member x.0 (o.is_elem x.0) refl x.1);
+    number-member = λ i l. value-number_member i (o.is_elem i) refl (elem i l);
+  }
+
+  pub size-numbers : numbers_enumerated.size ≡ n
+  unfolding numbers_enumerated
+  size-numbers = refl
+
+module _ (p : ℕ) (two_le : 2 ≤ p) (m : List ℕ) (d : 1 ≤ length m) (o : Ops ℕ) (F : IsFieldByDigits p m o) where
+  abbrev laws : FieldLaws o
+  laws = field_by_digits_laws p two_le m d o F
+
+  abbrev pub field_by_digits : FieldOn (Elem o)
+  field_by_digits = elements o laws
+
+  abbrev q : ℕ
+  q = size_by_digits p m
+
+  elem_lt : (a : ℕ) → IsElem o a → a < q
+  elem_lt a h = ltb-true a q (sym (F.is_elem a) ∙ h)
+
+  lt_elem : (a : ℕ) → a < q → IsElem o a
+  lt_elem a l = F.is_elem a ∙ lt-ltb a q l
+
+  -- the field has p ^ d elements
+  pub enumerated_by_digits : Enumerated (Elem o)
+  enumerated_by_digits = numbers_enumerated o laws q elem_lt lt_elem
+
+  pub size-by_digits : enumerated_by_digits.size ≡ p ^ length m
+  unfolding enumerated_by_digits
+  size-by_digits = size-numbers o laws q elem_lt lt_elem
+
+  constant_lt : (a : ℕ) → a < p → a < q
+  constant_lt a l = lt_of_lt_of_le l (le_pow_self p (length m) d)
+
+  add-constants : (a b : ℕ) → a < p → b < p → o.add a b ≡ (a + b) % p
+  add-constants a b la lb = sum_unique p two_le m a b (o.add a b) ((a + b) % p)
+      (F.add a b (constant_lt a la) (constant_lt b lb)) (sum-constants p two_le m a b d la lb)
+
+  mul-constants : (a b : ℕ) → a < p → b < p → o.mul a b ≡ (a * b) % p
+  mul-constants a b la lb = product_unique p two_le m a b (o.mul a b) ((a * b) % p)
+      (F.mul a b (constant_lt a la) (constant_lt b lb)) (product-constants p two_le m a b d la lb)
+
+  value-multiple : (n : ℕ) → (multiple field_by_digits.monoid n field_by_digits.one).0 ≡ n % p
+  value-multiple zero = F.zero ∙ sym (zero-mod p)
+  value-multiple (suc n) =
+      ap₂ o.add (value-multiple n) F.one ∙ add-constants (n % p) 1 (mod_below n p (omega arith)) (omega arith)
+      ∙ mod-add-mod n p 1 ∙ ap (λ x. x % p) (omega arith)
+
+  -- p is 0 in it
+  pub characteristic_by_digits : multiple field_by_digits.monoid p field_by_digits.one ≡ field_by_digits.zero
+  characteristic_by_digits =
+      Elem-path o (multiple field_by_digits.monoid p field_by_digits.one) field_by_digits.zero (value-multiple p ∙ mod_self p ∙ sym F.zero)
+
+  -- and prime
+  pub prime_by_digits : IsPrime p
+  prime_by_digits = record {
+    two_le = two_le;
+    divisors = λ a h. ⊎_elim (λ (e : a ≡ p). inr e) (λ (n : a ≢ p). inl (proper a h n)) (cases_eq a p);
+  }
+    where
+      factors : (a b : ℕ) → a < p → b < p → 0 < a → 0 < b → a * b ≡ p → ⊥
+      factors a b la lb pa pb e =
+          let x : Elem o = (a, lt_elem a (constant_lt a la)) in
+          let y : Elem o = (b, lt_elem b (constant_lt b lb)) in
+          field_mul-ne-zero field_by_digits x y (λ z. nonzero a pa (ap (λ w. w.0) z)) (λ z. nonzero b pb (ap (λ w. w.0) z))
+          (Elem-path o (field_by_digits.◌⊗◌ x y) field_by_digits.zero
+          (mul-constants a b la lb ∙ ap (λ w. w % p) e ∙ mod_self p ∙ sym F.zero))
+        where
+          nonzero : (a : ℕ) → 0 < a → a ≡ o.zero → ⊥
+          nonzero a l z = let w : a ≡ 0 = z ∙ F.zero in omega arith
+
+      proper : (a : ℕ) → a ∣ p → a ≢ p → a ≡ 1
+      proper a h n =
+          let pos : a ≢ 0 = λ z. let w = eq-zero_of_zero-dvd (subst (λ x. x ∣ p) z h) in omega arith in
+          let le = le_of_dvd (omega arith) h in
+          let s = mul-div_cancel' a h in
+          decide a (p / a) s (omega arith) (omega arith)
+        where
+          decide : (a b : ℕ) → a * b ≡ p → 0 < a → a < p → a ≡ 1
+          decide a zero s pa la = absurd (omega arith)
+          decide zero (suc b) s pa la = absurd (omega arith)
+          decide (suc zero) (suc b) s pa la = refl
+          decide (suc (suc a)) (suc b) s pa la = absurd (factors (suc (suc a)) (suc b) la (omega arith) pa (omega arith) s)
+
+-- the integers modulo p are the field of one digit, whatever the modulus
+module _ (p : ℕ) (two_le : 2 ≤ p) (c : ℕ) (inverses : List ℕ) (T : IsInverseTable p inverses) where
+  size_one : size_by_digits p (c ∷ []) ≡ p
+  size_one = pow-suc p 0 ∙ ap (λ x. x * p) (pow-zero p) ∙ one-mul p
+
+  small : (a : ℕ) → a < size_by_digits p (c ∷ []) → a < p
+  small a l = let e = size_one in omega arith
+
+  small_mod : (a : ℕ) → a % p < size_by_digits p (c ∷ [])
+  small_mod a = let e = size_one in let l = mod_below a p (omega arith) in omega arith
+
+  cancels : (a : ℕ) → a < p → (a + (p - a) % p) % p ≡ 0
+  cancels a l = add-mod-mod a (p - a) p ∙ ap (λ x. x % p) whole ∙ mod_self p
+    where
+      whole : a + (p - a) ≡ p
+      whole = omega arith
+
+  pub mod_ops_by_digits : IsFieldByDigits p (c ∷ []) (mod_ops p inverses)
+  mod_ops_by_digits = record {
+    is_elem = λ a. ap (nat_lt a) (sym size_one);
+    is_zero = λ a. refl;
+    zero = refl;
+    one = refl;
+    add = λ a b la lb. sum-constants p two_le (c ∷ []) a b (omega arith) (small a la) (small b lb);
+    neg = λ a la. small_mod (p - a);
+    add-neg = λ a la. subst (IsSumByDigits p (c ∷ []) a ((p - a) % p)) (cancels a (small a la))
+        (sum-constants p two_le (c ∷ []) a ((p - a) % p) (omega arith) (small a la) (small ((p - a) % p) (small_mod (p - a))));
+    mul = λ a b la lb. product-constants p two_le (c ∷ []) a b (omega arith) (small a la) (small b lb);
+    inv = λ a la. subst (λ n. slice_index inverses a < n) (sym size_one) (T.below a (small a la));
+    mul-inv = λ a la n. subst (IsProductByDigits p (c ∷ []) a (slice_index inverses a)) (T.inverse a (omega arith) (small a la))
+        (product-constants p two_le (c ∷ []) a (slice_index inverses a) (omega arith) (small a la) (T.below a (small a la)));
+  }
+
+pub field_by_digits_law : FieldByDigitsLaw
+field_by_digits_law p two_le m d o F = record {
+  laws = field_by_digits_laws p two_le m d o F;
+  prime = prime_by_digits p two_le m d o F;
+  characteristic = characteristic_by_digits p two_le m d o F;
+  members = enumerated_by_digits p two_le m d o F;
+  size = size-by_digits p two_le m d o F;
+}
+
+pub one_digit_law : OneDigitLaw
+one_digit_law p c inverses two_le T = mod_ops_by_digits p two_le c inverses T
