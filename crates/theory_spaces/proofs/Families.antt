@@ -1,7 +1,7 @@
 -- Families, as functions from the numbers of which the first n count: one more member at the end, a member put in, two
 -- families one after the other, a choice of one member for each number.
 use Rattle.std.specs.Prelude.{◌≡◌, ℕ, suc, pred, ◌+◌, ◌-◌, ◌<◌, ◌≤◌, cond, ltb, ◌⊎◌}
-use Rattle.std.proofs.Common.{refl, ◌∙◌, ap, arith, inl, inr, ⊎_elim}
+use Rattle.std.proofs.Common.{refl, sym, ◌∙◌, ap, subst, arith, inl, inr, ⊎_elim}
 use Rattle.std.proofs.lemmas.Bool.{cases_lt, lt-ltb, le-ltb}
 use Rattle.theory_rings.proofs.Sums.{bump, bump-below, bump-above}
 
@@ -56,6 +56,14 @@ join-below n v w i l = rw (lt-ltb i n l) refl
 
 pub join-above : {X : Type 0} (n : ℕ) (v w : ℕ → X) (i : ℕ) → join n v w (n + i) ≡ w i
 join-above n v w i = rw (le-ltb (n + i) n (omega arith)) (let e : n + i - n ≡ i = omega arith in ap w e)
+
+-- what holds of the members of both holds of all
+pub each_join : {X : Type 0} (n m : ℕ) (v w : ℕ → X) (P : X → Type 0) → ((i : ℕ) → i < n → P (v i)) → ((j : ℕ) → j < m → P (w j))
+    → (i : ℕ) → i < n + m → P (join n v w i)
+each_join n m v w P hv hw i l = ⊎_elim
+    (λ (g : i < n). subst P (sym (join-below n v w i g)) (hv i g))
+    (λ (g : n ≤ i). let e : n + (i - n) ≡ i = omega arith in
+    subst P (ap (join n v w) e) (subst P (sym (join-above n v w (i - n))) (hw (i - n) (omega arith)))) (cases_lt i n)
 
 chosen : {S : Type 0} (n : ℕ) (Q : ℕ → S → Type 0) → S → ((i : ℕ) → i < n → (s : S) × Q i s) → (i : ℕ) → (i < n) ⊎ (n ≤ i) → S
 chosen n Q z h i (inl l) = (h i l).0

@@ -7,10 +7,10 @@ use Rattle.theory_rings.proofs.RingLaws.{add-zero, add-neg, mul-zero, zero-mul, 
 use Rattle.theory_rings.proofs.Sums.{sum_eq_zero, bump, bump-lt}
 use Rattle.theory_rings.proofs.ZeroTests.{eq_zero_or}
 use Rattle.theory_spaces.specs.Module.{ModuleOn}
-use Rattle.theory_spaces.specs.Linear.{comb, InSpan, Independent, Coords}
+use Rattle.theory_spaces.specs.Linear.{comb, InSpan, Coords}
 use Rattle.theory_spaces.specs.Valuation.{ValuationOn, Integer, integers, restrict, LatticeBasis}
 use Rattle.theory_spaces.proofs.Families.{push, push-below, push-at, unbump, eq_or_not, below_suc}
-use Rattle.theory_spaces.proofs.Modules.{zero-scale, comb-push, InSpan-add, InSpan-scale, InSpan-push, InSpan-push_at, InSpan_trans, InSpan-member, independent_none}
+use Rattle.theory_spaces.proofs.Modules.{zero-scale, comb-push, InSpan-add, InSpan-scale, InSpan-push, InSpan-push_at, InSpan_trans, InSpan-member}
 use Rattle.theory_spaces.proofs.Spaces.{coord-comb}
 
 module _ {K : Type 0} (F : FieldOn K) (W : ValuationOn F) where

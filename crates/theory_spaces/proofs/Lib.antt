@@ -12,3 +12,5 @@ pub mod Simple
 pub mod Quotients
 pub mod Lattices
 pub mod Corners
+pub mod Kernels
+pub mod Subspaces

@@ -1,15 +1,14 @@
 -- Combinations of vectors, spans, independent vectors and linear maps.
-use Rattle.std.specs.Prelude.{◌≡◌, ℕ, zero, suc, ◌+◌, ◌-◌, ◌<◌, ◌≤◌, ◌⊎◌}
-use Rattle.std.proofs.Common.{refl, sym, ◌∙◌, ap, ap₂, subst, arith, inl, inr, ⊎_elim}
-use Rattle.std.proofs.lemmas.Bool.{cases_lt}
-use Rattle.theory_rings.specs.Ring.{RingOn, FieldOn}
+use Rattle.std.specs.Prelude.{◌≡◌, ℕ, zero, suc, ◌+◌, ◌-◌, ◌<◌, ◌≤◌}
+use Rattle.std.proofs.Common.{refl, sym, ◌∙◌, ap, ap₂, subst, arith}
+use Rattle.theory_rings.specs.Ring.{RingOn}
 use Rattle.theory_rings.specs.Sum.{sum}
-use Rattle.theory_rings.proofs.RingLaws.{add-zero, add-neg, add_cancel_left, neg_unique, neg-mul}
+use Rattle.theory_rings.proofs.RingLaws.{add-zero, add-neg, add_cancel_left, neg-mul}
 use Rattle.theory_rings.proofs.Sums.{sum_congr, sum_eq_zero, sum-add, map-sum, sum_comm, sum-split, sum_eq_single}
 use Rattle.theory_spaces.specs.Module.{ModuleOn}
 pub use Rattle.theory_spaces.specs.ModuleLaws.{scale-zero, zero-scale, scale-neg, neg-scale, neg_one-scale}
-use Rattle.theory_spaces.specs.Linear.{comb, InSpan, Independent, IsLinear}
-use Rattle.theory_spaces.proofs.Families.{push, push-below, push-above, push-at, join, join-below, join-above, put_at, put_at-here, put_at-else, choose}
+use Rattle.theory_spaces.specs.Linear.{comb, InSpan, Independent, IsSubmodule, IsLinear}
+use Rattle.theory_spaces.proofs.Families.{push, push-below, push-above, push-at, join, join-below, join-above, each_join, put_at, put_at-here, put_at-else, choose}
 
 module _ {K V : Type 0} {R : RingOn K} (M : ModuleOn R V) where
   infixl 65 ◌⊕◌
@@ -116,23 +115,43 @@ module _ {K V : Type 0} {R : RingOn K} (M : ModuleOn R V) where
   pub InSpan-push_at : (n : ℕ) (y : V) (w : ℕ → V) → InSpan M (suc n) (push n y w) y
   InSpan-push_at n y w = let P : V → Type 0 = InSpan M (suc n) (push n y w) in subst P (push-at n y w) (InSpan-member (suc n) n (push n y w) (omega arith))
 
+  -- the members of two families span what both span
+  pub InSpan-join_left : (n m : ℕ) (v w : ℕ → V) (i : ℕ) → i < n → InSpan M (n + m) (join n v w) (v i)
+  InSpan-join_left n m v w i l = let P : V → Type 0 = InSpan M (n + m) (join n v w) in subst P (join-below n v w i l) (InSpan-member (n + m) i (join n v w) (omega arith))
+
+  pub InSpan-join_right : (n m : ℕ) (v w : ℕ → V) (j : ℕ) → j < m → InSpan M (n + m) (join n v w) (w j)
+  InSpan-join_right n m v w j l = let P : V → Type 0 = InSpan M (n + m) (join n v w) in subst P (join-above n v w j) (InSpan-member (n + m) (n + j) (join n v w) (omega arith))
+
+  pub InSpan-join : (n m : ℕ) (v w : ℕ → V) (k : ℕ) (u : ℕ → V) → ((i : ℕ) → i < n → InSpan M k u (v i)) → ((j : ℕ) → j < m → InSpan M k u (w j))
+      → (x : V) → InSpan M (n + m) (join n v w) x → InSpan M k u x
+  InSpan-join n m v w k u hv hw x s = InSpan_trans (n + m) k (join n v w) u x (each_join n m v w (InSpan M k u) hv hw) s
+
+  -- submodules are closed under combinations
+  pub comb_in : (S : V → Type 0) → IsSubmodule M S → (n : ℕ) (c : ℕ → K) (v : ℕ → V) → ((i : ℕ) → i < n → S (v i)) → S (comb M n c v)
+  comb_in S h zero c v g = h.zero-in
+  comb_in S h (suc n) c v g = h.add-in (comb M n c v) (c n • v n) (comb_in S h n c v (λ i l. g i (omega arith))) (h.scale-in (c n) (v n) (g n (omega arith)))
+
+  pub span_in : (S : V → Type 0) → IsSubmodule M S → (n : ℕ) (v : ℕ → V) → ((i : ℕ) → i < n → S (v i)) → (x : V) → InSpan M n v x → S x
+  span_in S h n v g x s = subst S (sym s.combines) (comb_in S h n s.weights v g)
+
   -- independent vectors
   pub independent_none : (v : ℕ → V) → Independent M zero v
   independent_none v = record { only_zero = λ c e i l. absurd (omega arith) }
 
+  -- weights that are zero from k on
+  pub comb-push_zero : (k n : ℕ) (c : ℕ → K) (v : ℕ → V) → k ≤ n → comb M n (push k R.zero c) v ≡ comb M k c v
+  comb-push_zero k n c v l =
+      let q : n ≡ k + (n - k) = omega arith in
+      ap (λ t. comb M t (push k R.zero c) v) q ∙ sum-split monoid k (n - k) (λ i. push k R.zero c i • v i)
+      ∙ ap₂ (λ x y. x ⊕ y) (comb_congr k (push k R.zero c) c v (push-below k R.zero c))
+      (comb_zero (n - k) (λ i. push k R.zero c (k + i)) (λ i. v (k + i)) (λ i g. push-above k R.zero c (k + i) (omega arith)))
+      ∙ add-zero monoid (comb M k c v)
+
   -- the first k of n independent vectors
   pub Independent-front : (k n : ℕ) (v : ℕ → V) → k ≤ n → Independent M n v → Independent M k v
-  Independent-front k n v l h = record { only_zero = λ c e i g. sym (push-below k R.zero c i g) ∙ h.only_zero (push k R.zero c) (extended c e) i (omega arith) }
-    where
-      extended : (c : ℕ → K) → comb M k c v ≡ M.zero → comb M n (push k R.zero c) v ≡ M.zero
-      extended c e =
-          let q : n ≡ k + (n - k) = omega arith in
-          ap (λ t. comb M t (push k R.zero c) v) q ∙ sum-split monoid k (n - k) (λ i. push k R.zero c i • v i)
-          ∙ ap₂ (λ x y. x ⊕ y)
-          (comb_congr k (push k R.zero c) c v (push-below k R.zero c) ∙ e)
-          (sum_eq_zero monoid (n - k) (λ i. push k R.zero c (k + i) • v (k + i))
-          (λ i g. ap (λ a. a • v (k + i)) (push-above k R.zero c (k + i) (omega arith)) ∙ zero-scale M (v (k + i))))
-          ∙ M.zero-add M.zero
+  Independent-front k n v l h = record {
+    only_zero = λ c e i g. sym (push-below k R.zero c i g) ∙ h.only_zero (push k R.zero c) (comb-push_zero k n c v l ∙ e) i (omega arith);
+  }
 
   pub Independent_congr : (n : ℕ) (v w : ℕ → V) → ((i : ℕ) → i < n → v i ≡ w i) → Independent M n v → Independent M n w
   Independent_congr n v w h d = record { only_zero = λ c e. d.only_zero c (comb_congr_right n c v w h ∙ e) }

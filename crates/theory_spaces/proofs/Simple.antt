@@ -1,22 +1,22 @@
 -- An algebra with a nondegenerate trace form and no more than the multiples of one in its centre is central simple.
-use Rattle.std.specs.Prelude.{◌≡◌, ℕ, zero, suc, ◌<◌, ◌≤◌, ◌⊎◌}
+use Rattle.std.specs.Prelude.{◌≡◌, ℕ, ◌<◌, ◌≤◌, ◌⊎◌}
 use Rattle.std.proofs.Common.{refl, sym, ◌∙◌, ap, ap₂, subst, arith, inl, inr, ⊎_elim}
 use Rattle.std.proofs.lemmas.Bool.{cases_lt}
 use Rattle.theory_rings.specs.Ring.{FieldOn}
 use Rattle.theory_rings.specs.Sum.{sum}
-use Rattle.theory_rings.proofs.RingLaws.{add-zero, add-neg, mul-zero, zero-mul, neg-mul, neg_neg, neg_unique}
+use Rattle.theory_rings.proofs.RingLaws.{add-zero, add-neg, mul-zero, zero-mul, neg-mul, neg_unique}
 use Rattle.theory_rings.proofs.Sums.{sum_congr, sum_eq_zero, mul-sum}
 use Rattle.theory_rings.proofs.Solver.{◌⊠◌, minus, ring2}
 use Rattle.theory_rings.proofs.ZeroTests.{eq_zero_or, sub_eq_zero}
 use Rattle.theory_spaces.specs.Module.{ModuleOn, AlgebraOn, module_of}
-use Rattle.theory_spaces.specs.Linear.{comb, InSpan, Independent, Basis, IsLinear}
-use Rattle.theory_spaces.specs.Algebra.{IdealSpan, Central, CentralSimple, Nondegenerate, IsNilpotent, trace}
+use Rattle.theory_spaces.specs.Linear.{comb, InSpan, Independent, Basis}
+use Rattle.theory_spaces.specs.Algebra.{Central, CentralSimple, Nondegenerate, trace}
 use Rattle.theory_spaces.proofs.Families.{push, push-below, push-at}
 use Rattle.theory_spaces.proofs.Modules.{zero-scale, InSpan-add, InSpan-neg, InSpan-scale, InSpan-comb, InSpan_trans, InSpan-member, map-comb}
 use Rattle.theory_spaces.proofs.Decide.{Free}
 use Rattle.theory_spaces.proofs.Dimension.{dependent}
 use Rattle.theory_spaces.proofs.Spaces.{coords_of, span_basis}
-use Rattle.theory_spaces.proofs.Traces.{left_linear, right_linear, trace-add, trace-scale, trace-zero, trace-comb, trace-nilpotent}
+use Rattle.theory_spaces.proofs.Traces.{left_linear, right_linear, trace-add, trace-zero, trace-comb, trace-nilpotent}
 
 module _ {K : Type 0} (F : FieldOn K) where
   infixl 65 ◌⊕◌

@@ -1,12 +1,12 @@
 -- Traces of linear maps and of elements: linear, the same for both orders of a product, and 0 where some power is 0.
 use Rattle.std.specs.Prelude.{◌≡◌, ℕ, zero, suc, ◌<◌}
-use Rattle.std.proofs.Common.{refl, sym, ◌∙◌, ap, subst, arith}
-use Rattle.theory_rings.specs.Ring.{RingOn, CommRingOn, FieldOn}
+use Rattle.std.proofs.Common.{refl, sym, ◌∙◌, ap, arith}
+use Rattle.theory_rings.specs.Ring.{CommRingOn, FieldOn}
 use Rattle.theory_rings.specs.Sum.{sum}
 use Rattle.theory_rings.proofs.RingLaws.{zero-mul}
-use Rattle.theory_rings.proofs.Sums.{sum_congr, sum_eq_zero, sum-add, sum_comm, map-sum, mul-sum}
+use Rattle.theory_rings.proofs.Sums.{sum_congr, sum_eq_zero, sum-add, map-sum, mul-sum}
 use Rattle.theory_spaces.specs.Module.{ModuleOn, AlgebraOn, module_of}
-use Rattle.theory_spaces.specs.Linear.{comb, InSpan, Independent, Basis, IsLinear}
+use Rattle.theory_spaces.specs.Linear.{comb, Independent, Basis, IsLinear}
 use Rattle.theory_spaces.specs.Algebra.{map_trace, iterate, power, IsNilpotent, trace}
 use Rattle.theory_spaces.proofs.Modules.{scale-zero, comb_congr_right, comb-comb, comb_injective, map-comb, rows_of, independent_none}
 use Rattle.theory_spaces.proofs.Matrices.{mat_trace_comm}

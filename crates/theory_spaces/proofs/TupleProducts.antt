@@ -1,17 +1,17 @@
 -- Products of tuples by structure constants: linear in each factor, and associative where the basis is.
 use Rattle.std.specs.Prelude.{◌≡◌, ℕ, ◌+◌, ◌*◌, ◌<◌, List}
 use Rattle.std.specs.List.{All}
-use Rattle.std.proofs.Common.{refl, sym, ◌∙◌, ap, ap₂}
+use Rattle.std.proofs.Common.{sym, ◌∙◌, ap, ap₂}
 use Rattle.theory_rings.specs.Ring.{FieldOn}
 use Rattle.theory_rings.specs.Ops.{Ops, IsElem, FieldLaws}
 use Rattle.theory_rings.specs.Elements.{Elem, elements}
-use Rattle.theory_rings.specs.Sum.{sum, sum_of, table, at}
+use Rattle.theory_rings.specs.Sum.{sum, sum_of, table}
 use Rattle.theory_spaces.specs.Module.{ModuleOn, AlgebraOn, module_of}
 use Rattle.theory_spaces.specs.Linear.{Basis}
 use Rattle.theory_spaces.specs.Space.{SpaceOn, ProductOn, sum2}
 use Rattle.theory_spaces.specs.Tuples.{IsTuple, Tuple, tuple_add, tuple_scale, basis, constant, product, AssociativeTable, IsTableOne, IsTableAlgebra}
 use Rattle.theory_spaces.proofs.Tables.{unit, in_units, space_basis, table_mul, coord-unit_mul, table_on, associative_of_basis, one-mul_of_basis, mul-one_of_basis, central_of_basis, algebra_of}
-use Rattle.theory_spaces.proofs.Tuples.{IsTuple-is_tuple, is_tuple-IsTuple, IsTuple-table, IsTuple-ext, at-table, table_congr, at-elem, sum_of-elements, sum_of_congr, make, Tuple-path, tuples, tuple_space, tuples-zero, tuples-add, tuples-neg, tuples-scale, unit-basis}
+use Rattle.theory_spaces.proofs.Tuples.{IsTuple-is_tuple, is_tuple-IsTuple, IsTuple-table, IsTuple-ext, at-table, table_congr, at-elem, sum_of-elements, sum_of_congr, Tuple-path, tuples, tuple_space, tuples-zero, tuples-add, tuples-neg, tuples-scale, unit-basis}
 
 module _ {E : Type 0} (o : Ops E) (L : FieldLaws o) (n : ℕ) (cs : List E) (constants : All (IsElem o) cs) where
   abbrev K : FieldOn (Elem o)

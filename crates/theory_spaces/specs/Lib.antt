@@ -8,3 +8,4 @@ pub mod Tuples
 pub mod Space
 pub mod Quotient
 pub mod Valuation
+pub mod Subspaces

@@ -37,6 +37,11 @@ module _ {K V : Type 0} {R : RingOn K} (M : ModuleOn R V) where
     pub coord-scale : (a : K) (x : V) (j : ℕ) → coord (M.◌•◌ a x) j ≡ R.◌⊗◌ a (coord x j)
     pub expand : (x : V) → x ≡ comb n (coord x) vec
 
+  -- a basis that begins with the k vectors u
+  pub record Extension (k : ℕ) (u : ℕ → V) (n : ℕ) : Type 0 where
+    pub basis : Basis n
+    pub starts : (i : ℕ) → i < k → basis.vec i ≡ u i
+
   -- a set of vectors that is closed under sums and multiples
   pub record IsSubmodule (S : V → Type 0) : Type 0 where
     pub zero-in : S M.zero
