@@ -4,7 +4,7 @@ use Rattle.std.proofs.Common.{refl, sym, ◌∙◌, ap, ap₂, arith}
 use Rattle.theory_rings.specs.Ring.{CommRingOn, ZeroTest}
 use Rattle.theory_rings.specs.Polynomial.{Poly, coefficient, degree, convolution, constant_coefficients}
 use Rattle.theory_rings.specs.Homomorphism.{IsRingHom}
-use Rattle.theory_rings.specs.Evaluation.{power}
+use Rattle.theory_rings.specs.Power.{power}
 use Rattle.theory_rings.proofs.RingLaws.{add-zero, zero-mul, mul-zero}
 use Rattle.theory_rings.proofs.Series.{shift, tail, constant-convolution, convolution_congr, convolution-zero, convolution-suc}
 use Rattle.theory_rings.proofs.PolynomialRing.{series_prepend, Poly-path, polynomials, coefficient-zero, coefficient-one, coefficient-add, coefficient-mul, constant, coefficient-constant, prepend, coefficient-prepend}
@@ -107,7 +107,7 @@ module _ {K : Type 0} (R : CommRingOn K) {is_zero : K → Bool} (Z : ZeroTest R.
       → coefficient R (power P.ring variable n) k ≡ shift R.zero n (constant_coefficients R.zero R.one) k
   coefficient-power_variable zero k = coefficient-one R Z k
   coefficient-power_variable (suc n) k =
-      ap (λ a. coefficient R a k) (P.mul_comm (power P.ring variable n) variable ∙ prepend-zero (power P.ring variable n))
+      ap (λ a. coefficient R a k) (prepend-zero (power P.ring variable n))
       ∙ coefficient-prepend R Z R.zero (power P.ring variable n) k ∙ each k (coefficient-power_variable n)
     where
       each : (k : ℕ) → ((k : ℕ) → coefficient R (power P.ring variable n) k ≡ shift R.zero n (constant_coefficients R.zero R.one) k)

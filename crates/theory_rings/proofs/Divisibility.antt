@@ -1,10 +1,10 @@
--- Divisors of numbers, remainders, and how large powers are.
-use Rattle.std.specs.Prelude.{◌≡◌, ℕ, zero, suc, ◌-◌, ◌*◌, ◌+◌, ◌/◌, ◌%◌, ◌^◌, ◌<◌, ◌≤◌, ◌⊎◌}
+-- Divisors of numbers, and remainders.
+use Rattle.std.specs.Prelude.{◌≡◌, ℕ, ◌-◌, ◌*◌, ◌+◌, ◌/◌, ◌%◌, ◌<◌, ◌≤◌, ◌⊎◌}
 use Rattle.std.specs.Int.{◌∣◌}
-use Rattle.std.proofs.Common.{sym, ◌∙◌, ap, subst, arith, inl, inr, ⊎_elim, mul-le-mul_right, one-mul}
+use Rattle.std.proofs.Common.{sym, ◌∙◌, ap, subst, arith, inl, inr, ⊎_elim}
 use Rattle.std.proofs.lemmas.Bool.{cases_lt}
 use Rattle.std.proofs.lemmas.Nat.Gcd.{dvd_of_mod-eq-zero, mod-eq-zero_of_dvd}
-use Rattle.std.proofs.Math.Nat.{div-add-mod, mul-sub, add-mul-mod_self_left, dvd-mul_right, mul-div_cancel', pow-zero, pow-succ'}
+use Rattle.std.proofs.Math.Nat.{div-add-mod, mul-sub, add-mul-mod_self_left, dvd-mul_right, mul-div_cancel'}
 
 -- a number divides another or not
 pub dvd_or_not : (a b : ℕ) → (a ∣ b) ⊎ (a ∣ b → ⊥)
@@ -31,12 +31,3 @@ mod-eq_of_dvd-sub n x y c d = ⊎_elim
     (λ (l : x < y). mod-eq_of_dvd-sub_le n x y (omega arith) d)
     (λ (l : y ≤ x). sym (mod-eq_of_dvd-sub_le n y x l c))
     (cases_lt x y)
-
--- powers of a number from 1 on, and from 2 on
-pub pow-pos : (p i : ℕ) → 0 < p → 0 < p ^ i
-pow-pos p zero h = subst (λ n. 0 < n) (sym (pow-zero p)) (omega arith)
-pow-pos p (suc i) h = let a = mul-le-mul_right (p ^ i) h in let b = pow-pos p i h in let e = pow-succ' p i in let o = one-mul (p ^ i) in omega arith
-
-pub lt-pow : (p i : ℕ) → 2 ≤ p → i < p ^ i
-lt-pow p zero h = pow-pos p zero (omega arith)
-lt-pow p (suc i) h = let a = mul-le-mul_right (p ^ i) h in let b = lt-pow p i h in let e = pow-succ' p i in omega arith

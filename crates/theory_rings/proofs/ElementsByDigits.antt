@@ -1,21 +1,22 @@
 -- The field of the numbers below p ^ d: its elements are numbered, its p is prime and is 0 in it. The integers modulo p are
 -- the case of one digit.
 use Rattle.std.specs.Prelude.{◌≡◌, ◌≢◌, ℕ, zero, suc, ◌+◌, ◌-◌, ◌*◌, ◌/◌, ◌%◌, ◌^◌, ◌<◌, ◌≤◌, Bool, true, false, List, [], ◌∷◌, length, nat_lt, slice_index}
-use Prim.Native.Nat.{◌∣◌}
+use Rattle.std.specs.Int.{◌∣◌}
 use Rattle.std.proofs.Common.{refl, sym, ◌∙◌, ap, ap₂, subst, arith, ⊎_elim, inl, inr}
-use Rattle.std.proofs.Math.Nat.{zero-mod, mod-add-mod, add-mod-mod, mod_self, le_of_dvd, eq-zero_of_zero-dvd, mul-div_cancel', lt_of_lt_of_le, pow-suc, pow-zero, one-mul}
+use Rattle.std.proofs.Math.Nat.{zero-mod, mod-add-mod, add-mod-mod, mod_self, mod-eq-zero_of_dvd, dvd_of_mod-eq-zero, lt_of_lt_of_le, pow-suc, pow-zero, one-mul}
 use Rattle.std.proofs.Math.Bool.{true≢false}
-use Rattle.std.proofs.lemmas.Bool.{cases_eq, ltb-true, lt-ltb}
-use Rattle.std.proofs.lemmas.Nat.{mod_below}
+use Rattle.std.proofs.lemmas.Bool.{ltb-true, lt-ltb}
+use Rattle.std.proofs.lemmas.Nat.{mod_below, mul-mod}
 use Rattle.theory_rings.specs.Ring.{FieldOn}
 use Rattle.theory_rings.specs.Ops.{Ops, IsElem, FieldLaws}
 use Rattle.theory_rings.specs.Elements.{Elem, Elem-path, elements}
 use Rattle.theory_rings.specs.IntegersMod.{mod_ops, IsInverseTable}
 use Rattle.theory_rings.specs.Prime.{IsPrime}
-use Rattle.theory_rings.specs.Binomial.{multiple}
+use Rattle.theory_rings.specs.Power.{times_of}
 use Rattle.theory_rings.specs.Enumerated.{Enumerated}
 use Rattle.theory_rings.specs.FieldByDigits.{size_by_digits, IsSumByDigits, IsProductByDigits, IsFieldByDigits, FieldByDigitsLaw, OneDigitLaw}
-use Rattle.theory_rings.proofs.Fields.{field_mul-ne-zero}
+use Rattle.theory_rings.proofs.Fields.{eq-zero_of_mul-eq-zero}
+use Rattle.theory_rings.proofs.Primes.{IsPrime_of_dvd-mul}
 use Rattle.theory_rings.proofs.Digits.{le_pow_self}
 use Rattle.theory_rings.proofs.FieldByDigits.{sum-constants, sum_unique, product_unique}
 use Rattle.theory_rings.proofs.ProductSteps.{product-constants}
@@ -81,47 +82,37 @@ module _ (p : ℕ) (two_le : 2 ≤ p) (m : List ℕ) (d : 1 ≤ length m) (o : O
   mul-constants a b la lb = product_unique p two_le m a b (o.mul a b) ((a * b) % p)
       (F.mul a b (constant_lt a la) (constant_lt b lb)) (product-constants p two_le m a b d la lb)
 
-  value-multiple : (n : ℕ) → (multiple field_by_digits.monoid n field_by_digits.one).0 ≡ n % p
-  value-multiple zero = F.zero ∙ sym (zero-mod p)
-  value-multiple (suc n) =
-      ap₂ o.add (value-multiple n) F.one ∙ add-constants (n % p) 1 (mod_below n p (omega arith)) (omega arith)
+  times_of-one : (n : ℕ) → times_of o n o.one ≡ n % p
+  times_of-one zero = F.zero ∙ sym (zero-mod p)
+  times_of-one (suc n) =
+      ap₂ o.add (times_of-one n) F.one ∙ add-constants (n % p) 1 (mod_below n p (omega arith)) (omega arith)
       ∙ mod-add-mod n p 1 ∙ ap (λ x. x % p) (omega arith)
 
   -- p is 0 in it
-  pub characteristic_by_digits : multiple field_by_digits.monoid p field_by_digits.one ≡ field_by_digits.zero
-  characteristic_by_digits =
-      Elem-path o (multiple field_by_digits.monoid p field_by_digits.one) field_by_digits.zero (value-multiple p ∙ mod_self p ∙ sym F.zero)
+  pub characteristic_by_digits : times_of o p o.one ≡ o.zero
+  characteristic_by_digits = times_of-one p ∙ mod_self p ∙ sym F.zero
 
-  -- and prime
+  -- the remainder of a number, as an element
+  constant : ℕ → Elem o
+  constant a = (a % p, lt_elem (a % p) (constant_lt (a % p) (mod_below a p (omega arith))))
+
+  dvd_of_constant : (a : ℕ) → constant a ≡ field_by_digits.zero → p ∣ a
+  unfolding constant
+  dvd_of_constant a z = dvd_of_mod-eq-zero p (ap (λ x. x.0) z ∙ F.zero)
+
+  constant-mul_of_dvd : (a b : ℕ) → p ∣ a * b → field_by_digits.◌⊗◌ (constant a) (constant b) ≡ field_by_digits.zero
+  unfolding constant
+  constant-mul_of_dvd a b h =
+      Elem-path o (field_by_digits.◌⊗◌ (constant a) (constant b)) field_by_digits.zero
+      (mul-constants (a % p) (b % p) (mod_below a p (omega arith)) (mod_below b p (omega arith)) ∙ sym (mul-mod a b p)
+      ∙ mod-eq-zero_of_dvd p h ∙ sym F.zero)
+
+  -- and prime, as a product in a field is 0 only by a factor
   pub prime_by_digits : IsPrime p
-  prime_by_digits = record {
-    two_le = two_le;
-    divisors = λ a h. ⊎_elim (λ (e : a ≡ p). inr e) (λ (n : a ≢ p). inl (proper a h n)) (cases_eq a p);
-  }
-    where
-      factors : (a b : ℕ) → a < p → b < p → 0 < a → 0 < b → a * b ≡ p → ⊥
-      factors a b la lb pa pb e =
-          let x : Elem o = (a, lt_elem a (constant_lt a la)) in
-          let y : Elem o = (b, lt_elem b (constant_lt b lb)) in
-          field_mul-ne-zero field_by_digits x y (λ z. nonzero a pa (ap (λ w. w.0) z)) (λ z. nonzero b pb (ap (λ w. w.0) z))
-          (Elem-path o (field_by_digits.◌⊗◌ x y) field_by_digits.zero
-          (mul-constants a b la lb ∙ ap (λ w. w % p) e ∙ mod_self p ∙ sym F.zero))
-        where
-          nonzero : (a : ℕ) → 0 < a → a ≡ o.zero → ⊥
-          nonzero a l z = let w : a ≡ 0 = z ∙ F.zero in omega arith
-
-      proper : (a : ℕ) → a ∣ p → a ≢ p → a ≡ 1
-      proper a h n =
-          let pos : a ≢ 0 = λ z. let w = eq-zero_of_zero-dvd (subst (λ x. x ∣ p) z h) in omega arith in
-          let le = le_of_dvd (omega arith) h in
-          let s = mul-div_cancel' a h in
-          decide a (p / a) s (omega arith) (omega arith)
-        where
-          decide : (a b : ℕ) → a * b ≡ p → 0 < a → a < p → a ≡ 1
-          decide a zero s pa la = absurd (omega arith)
-          decide zero (suc b) s pa la = absurd (omega arith)
-          decide (suc zero) (suc b) s pa la = refl
-          decide (suc (suc a)) (suc b) s pa la = absurd (factors (suc (suc a)) (suc b) la (omega arith) pa (omega arith) s)
+  prime_by_digits = IsPrime_of_dvd-mul p two_le (λ a b h. ⊎_elim
+      (λ (z : constant a ≡ field_by_digits.zero). inl (dvd_of_constant a z))
+      (λ (z : constant b ≡ field_by_digits.zero). inr (dvd_of_constant b z))
+      (eq-zero_of_mul-eq-zero field_by_digits (constant a) (constant b) (constant-mul_of_dvd a b h)))
 
 -- the integers modulo p are the field of one digit, whatever the modulus
 module _ (p : ℕ) (two_le : 2 ≤ p) (c : ℕ) (inverses : List ℕ) (T : IsInverseTable p inverses) where

@@ -5,7 +5,8 @@ use Rattle.theory_rings.specs.Ring.{CommRingOn, ZeroTest}
 use Rattle.theory_rings.specs.Sum.{sum}
 use Rattle.theory_rings.specs.Polynomial.{IsTrimmed, Poly, coefficient}
 use Rattle.theory_rings.specs.Homomorphism.{IsRingHom}
-use Rattle.theory_rings.specs.Evaluation.{power, evaluate}
+use Rattle.theory_rings.specs.Power.{power}
+use Rattle.theory_rings.specs.Evaluation.{evaluate}
 use Rattle.theory_rings.proofs.RingLaws.{add-zero, zero-mul}
 use Rattle.theory_rings.proofs.Sums.{sum_congr, sum_eq_zero, sum-add, sum-split, sum_first, mul-sum}
 use Rattle.theory_rings.proofs.Solver.{◌⊞◌, ◌⊠◌, ring3, ring4}
@@ -78,7 +79,7 @@ module _ {K L : Type 0} (R : CommRingOn K) {is_zero : K → Bool} (Z : ZeroTest 
       ∙ ap₂ S.◌⊕◌ (S.mul-one (h (coefficient R (prepend R Z c a) 0)) ∙ ap h (coefficient-prepend R Z c a 0))
       (sum_congr S.monoid n (λ k. term (coefficient R (prepend R Z c a)) (suc k)) (λ k. S.◌⊗◌ x (term (coefficient R a) k))
       (λ k l. ap (λ b. S.◌⊗◌ (h b) (power S.ring x (suc k))) (coefficient-prepend R Z c a (suc k))
-      ∙ ring3 S (λ b p x. (b ⊠ (p ⊠ x), x ⊠ (b ⊠ p))) refl (h (coefficient R a k)) (power S.ring x k) x)
+      ∙ ring3 S (λ b p x. (b ⊠ (x ⊠ p), x ⊠ (b ⊠ p))) refl (h (coefficient R a k)) (power S.ring x k) x)
       ∙ sym (mul-sum S.ring n x (term (coefficient R a)))
       ∙ ap (S.◌⊗◌ x) (sym (evaluate_long a n (omega arith))))
 

@@ -1,12 +1,12 @@
--- Fermat's little theorem, and powers modulo a number.
+-- Powers modulo a number, Fermat's little theorem, and inverses modulo a prime.
 use Rattle.std.specs.Prelude.{◌≡◌, ℕ, zero, suc, ◌+◌, ◌-◌, ◌*◌, ◌%◌, ◌^◌, ◌<◌, ◌≤◌}
 use Rattle.std.proofs.Common.{sym, ◌∙◌, ap, ap₂, arith}
 use Rattle.std.proofs.Math.Nat as nat
-use Rattle.std.proofs.lemmas.Nat.{mul-mod_second}
-use Rattle.theory_rings.specs.Prime.{IsPrime}
+use Rattle.std.proofs.lemmas.Nat.{mod_below, mul-mod_second}
+use Rattle.theory_rings.specs.Prime.{IsPrime, HasInversesMod, PrimeLaw}
 use Rattle.theory_rings.specs.Power.{power_by_ops}
 use Rattle.theory_rings.proofs.NaturalSums.{sum_const}
-use Rattle.theory_rings.proofs.Primes.{IsPrime-not_dvd, IsPrime-mul_mod_cancel}
+use Rattle.theory_rings.proofs.Primes.{IsPrime-not_dvd, IsPrime-mul_mod_cancel, IsPrime_of_inverses}
 use Rattle.theory_rings.proofs.Semirings.{naturals, power_in-one, power-naturals}
 use Rattle.theory_rings.proofs.FrobeniusMap.{add-power_prime}
 
@@ -28,7 +28,7 @@ module _ (p : ℕ) (prime : IsPrime p) where
 
   -- Fermat's little theorem
   pub fermat : (a : ℕ) → a ^ p % p ≡ a % p
-  fermat zero = ap (λ x. x % p) (nothing p prime.least)
+  fermat zero = ap (λ x. x % p) (nothing p prime.two_le)
     where
       nothing : (k : ℕ) → 2 ≤ k → 0 ^ k ≡ 0
       nothing zero l = absurd (omega arith)
@@ -42,10 +42,21 @@ module _ (p : ℕ) (prime : IsPrime p) where
   -- so the (p - 2)-th power of a number that p does not divide is its inverse modulo p
   pub fermat_inverse : (a : ℕ) → 0 < a → a < p → (a * a ^ (p - 2)) % p ≡ 1
   fermat_inverse a h l =
-      let least = prime.least in
+      let two_le = prime.two_le in
       let e : p ≡ suc (suc (p - 2)) = omega arith in
       let whole : a * (a * a ^ (p - 2)) ≡ a ^ p =
       ap (λ x. a * x) (sym (nat.pow-succ' a (p - 2))) ∙ sym (nat.pow-succ' a (suc (p - 2))) ∙ ap (λ k. a ^ k) (sym e) in
       IsPrime-mul_mod_cancel p prime a (a * a ^ (p - 2)) 1 (IsPrime-not_dvd p prime a h l)
       (ap (λ x. x % p) whole ∙ fermat a ∙ ap (λ x. x % p) (sym (nat.mul-one a)))
-      ∙ nat.mod-eq_of_lt least
+      ∙ nat.mod-eq_of_lt two_le
+
+-- modulo a prime each number but 0 has an inverse
+pub inverses_of_prime : (p : ℕ) → IsPrime p → HasInversesMod p
+inverses_of_prime p prime a h l = (
+  a ^ (p - 2) % p,
+  mod_below (a ^ (p - 2)) p (omega arith),
+  mul-mod_second a (a ^ (p - 2)) p ∙ fermat_inverse p prime a h l,
+)
+
+pub prime_law : PrimeLaw
+prime_law n = (inverses_of_prime n, λ two_le inverses. IsPrime_of_inverses n two_le (λ a h l. let i = inverses a h l in (i.0, i.2)))

@@ -5,15 +5,14 @@ use Rattle.std.proofs.Common.{refl, sym, ◌∙◌, ap, ap₂, subst, arith, ⊎
 use Rattle.std.proofs.Math.Nat.{div-mul_cancel}
 use Rattle.theory_rings.specs.Ring.{AddCommMonoidOn, FieldOn}
 use Rattle.theory_rings.specs.Sum.{sum}
-use Rattle.theory_rings.specs.Evaluation.{power}
+use Rattle.theory_rings.specs.Power.{power}
 use Rattle.theory_rings.specs.Enumerated.{Enumerated, PowerOfSize, RootByPower}
-use Rattle.std.proofs.lemmas.Bool.{false_from_ne_true}
 use Rattle.theory_rings.proofs.RingLaws.{mul-zero}
-use Rattle.theory_rings.proofs.Fields.{field_mul-ne-zero}
-use Rattle.theory_rings.proofs.ZeroTests.{eq_zero_or}
+use Rattle.theory_rings.proofs.Fields.{field_mul-ne-zero, mul_left_cancel}
+use Rattle.theory_rings.proofs.ZeroTests.{is_zero-false, eq_zero_or}
 use Rattle.theory_rings.proofs.Sums.{bump, bump-apart, bump-lt, sum_congr, sum-add, sum_take_out}
 use Rattle.theory_rings.proofs.Reindex.{sum_reindex}
-use Rattle.theory_rings.proofs.Powers.{power-mul, zero-power}
+use Rattle.theory_rings.proofs.Powers.{power-zero, power-power, power_last}
 
 module _ {K : Type 0} (F : FieldOn K) where
   infixl 70 ◌⊗◌
@@ -30,21 +29,13 @@ module _ {K : Type 0} (F : FieldOn K) where
 
   product_const : (n : ℕ) (a : K) → sum products n (λ _. a) ≡ power ring a n
   product_const zero a = refl
-  product_const (suc n) a = ap (λ x. x ⊗ a) (product_const n a)
-
-  mul_cancel_left : (a x y : K) → a ≢ F.zero → a ⊗ x ≡ a ⊗ y → x ≡ y
-  mul_cancel_left a x y h e =
-      sym (F.one-mul x) ∙ ap (λ u. u ⊗ x) (sym (F.inv-mul a h)) ∙ F.mul_assoc (inv a) a x ∙ ap (λ u. inv a ⊗ u) e
-      ∙ sym (F.mul_assoc (inv a) a y) ∙ ap (λ u. u ⊗ y) (F.inv-mul a h) ∙ F.one-mul y
+  product_const (suc n) a = ap (λ x. x ⊗ a) (product_const n a) ∙ sym (power_last ring a n)
 
   is_zero-mul : (a x : K) → a ≢ F.zero → F.is_zero (a ⊗ x) ≡ F.is_zero x
   is_zero-mul a x h = ⊎_elim
       (λ (e : x ≡ F.zero). ap F.is_zero (ap (λ u. a ⊗ u) e ∙ mul-zero ring a ∙ sym e))
-      (λ (n : x ≢ F.zero). is_zero-false (a ⊗ x) (field_mul-ne-zero F a x h n) ∙ sym (is_zero-false x n))
+      (λ (n : x ≢ F.zero). is_zero-false F.zero_test (a ⊗ x) (field_mul-ne-zero F a x h n) ∙ sym (is_zero-false F.zero_test x n))
       (eq_zero_or F.zero_test x)
-    where
-      is_zero-false : (y : K) → y ≢ F.zero → F.is_zero y ≡ false
-      is_zero-false y n = false_from_ne_true (F.is_zero y) (λ t. n (F.is_zero-sound y t))
 
   -- a, but 1 at x = 0
   abbrev or_one : K → K → K
@@ -61,7 +52,7 @@ module _ {K : Type 0} (F : FieldOn K) where
   or_one-zero x a e = ap (λ b. cond b one a) (ap F.is_zero e ∙ F.is_zero-zero)
 
   or_one-nonzero : (x a : K) → x ≢ F.zero → or_one x a ≡ a
-  or_one-nonzero x a n = ap (λ b. cond b one a) (false_from_ne_true (F.is_zero x) (λ t. n (F.is_zero-sound x t)))
+  or_one-nonzero x a n = ap (λ b. cond b one a) (is_zero-false F.zero_test x n)
 
   or_one_ne_zero : (x : K) → or_one x x ≢ F.zero
   or_one_ne_zero x = ⊎_elim
@@ -87,13 +78,13 @@ module _ {K : Type 0} (F : FieldOn K) where
         apart : (i j : ℕ) → i < E.size → j < E.size → place i ≡ place j → i ≡ j
         apart i j li lj e =
             sym (E.number-member i li)
-            ∙ ap E.number (mul_cancel_left a (E.member i) (E.member j) h
+            ∙ ap E.number (mul_left_cancel F a (E.member i) (E.member j) h
             (sym (E.member-number (a ⊗ E.member i)) ∙ ap E.member e ∙ E.member-number (a ⊗ E.member j)))
             ∙ E.number-member j lj
 
     -- so the product of a, once for each of them, is 1
     factors : (a : K) → a ≢ F.zero → sum products E.size (λ i. or_one (E.member i) a) ≡ one
-    factors a h = mul_cancel_left all (sum products E.size (λ i. or_one (E.member i) a)) one
+    factors a h = mul_left_cancel F all (sum products E.size (λ i. or_one (E.member i) a)) one
         (product_ne_zero E.size (λ i. or_one (E.member i) (E.member i)) (λ i l. or_one_ne_zero (E.member i)))
         (F.mul_comm all (sum products E.size (λ i. or_one (E.member i) a))
         ∙ sym (sum-add products E.size (λ i. or_one (E.member i) a) (λ i. or_one (E.member i) (E.member i)))
@@ -123,12 +114,12 @@ module _ {K : Type 0} (F : FieldOn K) where
     -- the power to the number of elements
     pub power_size : PowerOfSize F E
     power_size a = let s = size_suc E.size refl in ⊎_elim
-        (λ (z : a ≡ F.zero). ap (λ x. power ring x E.size) z ∙ zero-power ring E.size (let e = s.1 in omega arith) ∙ sym z)
+        (λ (z : a ≡ F.zero). ap (λ x. power ring x E.size) z ∙ power-zero ring E.size (let e = s.1 in omega arith) ∙ sym z)
         (λ (n : a ≢ F.zero).
-        ap (power ring a) s.1
+        ap (power ring a) s.1 ∙ power_last ring a s.0
         ∙ ap (λ x. x ⊗ a) (sym (count_factors s.0 a s.1) ∙ ap (λ k. sum products k (λ i. or_one (E.member i) a)) (sym s.1) ∙ factors a n)
         ∙ F.one-mul a)
         (eq_zero_or F.zero_test a)
 
     pub root_by_power : RootByPower F E
-    root_by_power p a d = sym (power-mul ring a (E.size / p) p) ∙ ap (power ring a) (div-mul_cancel p d) ∙ power_size a
+    root_by_power p a d = power-power ring a (E.size / p) p ∙ ap (power ring a) (div-mul_cancel p d) ∙ power_size a

@@ -1,7 +1,7 @@
 -- The Frobenius map x ↦ x^p, where p is prime and p times 1 is 0: it keeps sums, and in a field it is one to one.
 use Rattle.std.specs.Prelude.{◌≡◌, ℕ, zero, suc, ◌-◌, ◌/◌, ◌^◌, ◌<◌}
 use Rattle.std.proofs.Common.{sym, ◌∙◌, ap, ap₂, arith}
-use Rattle.std.proofs.Math.Nat.{mul-div_cancel', pow-zero, pow-suc}
+use Rattle.std.proofs.Math.Nat.{mul-div_cancel', pow-zero, pow-suc, one-le-pow}
 use Rattle.theory_rings.specs.Ring.{CommRingOn, FieldOn}
 use Rattle.theory_rings.specs.Homomorphism.{IsRingHom}
 use Rattle.theory_rings.specs.Prime.{IsPrime}
@@ -12,7 +12,6 @@ use Rattle.theory_rings.proofs.RingLaws.{add-zero, add_cancel_left}
 use Rattle.theory_rings.proofs.Sums.{sum_congr, sum_first, map-sum}
 use Rattle.theory_rings.proofs.Powers.{power-one, power-mul, power_first, power-zero, power-power, power_only_zero}
 use Rattle.theory_rings.proofs.Times.{one-times, mul-times, times-sum, times_char}
-use Rattle.theory_rings.proofs.Divisibility.{pow-pos}
 use Rattle.theory_rings.proofs.Semirings.{CommSemiringOn, semiring, power_in}
 use Rattle.theory_rings.proofs.Binomial.{binomial_term, add-power, choose_self, IsPrime-dvd-choose}
 
@@ -61,7 +60,7 @@ module _ {K : Type 0} (S : CommSemiringOn K) (a b : K) where
   -- in any commutative semiring the p-th power of a sum is the sum of the p-th powers and a multiple of p
   pub add-power_prime : (p : ℕ) → IsPrime p
       → (c : K) × (power_in S (a ⊕ b) p ≡ power_in S a p ⊕ power_in S b p ⊕ times monoid p c)
-  add-power_prime zero prime = let h = prime.least in absurd (omega arith)
+  add-power_prime zero prime = let h = prime.two_le in absurd (omega arith)
   add-power_prime (suc n) prime = (sum monoid n (part n prime), add-power_suc n prime)
 
 module _ {K : Type 0} (C : CommRingOn K) (p : ℕ) (prime : IsPrime p) (char : times C.monoid p C.one ≡ C.zero) where
@@ -97,8 +96,9 @@ module _ {K : Type 0} (C : CommRingOn K) (p : ℕ) (prime : IsPrime p) (char : t
 
   pub frobenius_iterate-sum : (i n : ℕ) (f : ℕ → K) → power ring (sum monoid n f) (p ^ i) ≡ sum monoid n (λ k. power ring (f k) (p ^ i))
   frobenius_iterate-sum i n f =
-      let h = prime.least in
-      map-sum monoid monoid (λ x. power ring x (p ^ i)) (power-zero ring (p ^ i) (pow-pos p i (omega arith))) (frobenius_iterate-add i) n f
+      let h = prime.two_le in
+      let l = one-le-pow i p (omega arith) in
+      map-sum monoid monoid (λ x. power ring x (p ^ i)) (power-zero ring (p ^ i) (omega arith)) (frobenius_iterate-add i) n f
 
 module _ {K : Type 0} (F : FieldOn K) (p : ℕ) (prime : IsPrime p) (char : times F.monoid p F.one ≡ F.zero) where
   infixl 65 ◌⊕◌

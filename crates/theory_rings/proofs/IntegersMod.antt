@@ -10,7 +10,7 @@ use Rattle.theory_rings.specs.Ops.{FieldLaws}
 use Rattle.theory_rings.specs.Sum.{sum}
 use Rattle.theory_rings.specs.Naturals.{nat_monoid}
 use Rattle.theory_rings.proofs.Sums.{map-sum}
-use Rattle.theory_rings.specs.IntegersMod.{Fin, Fin-path, value-lt, residue, residue_is_zero, integers_mod, IntegersModLaw, FieldModLaw, mod_ops, mod-elem, zero-elem, one-elem, add_assoc_mod, add_comm_mod, zero-add_mod, neg-add_mod, mul_assoc_mod, mul_comm_mod, one-mul_mod, mul-add_mod}
+use Rattle.theory_rings.specs.IntegersMod.{Fin, Fin-path, value-lt, residue, residue_is_zero, integers_mod, IntegersModLaw, FieldModLaw, IsInverseTable, mod_ops, mod-elem, zero-elem, one-elem, add_assoc_mod, add_comm_mod, zero-add_mod, neg-add_mod, mul_assoc_mod, mul_comm_mod, one-mul_mod, mul-add_mod}
 
 module _ (n : ℕ) (two_le : 2 ≤ n) where
   infixl 65 ◌⊕◌

@@ -37,12 +37,8 @@ pub mod Fractions
 pub mod Lowest
 pub mod Evaluation
 pub mod RingPaths
-pub mod FieldProducts
 pub mod FrobeniusMap
 pub mod PolynomialLaws
-pub mod Primes
-pub mod Powers
-pub mod Binomials
 pub mod Reindex
 pub mod FiniteFields
 pub mod ElementsByDigits

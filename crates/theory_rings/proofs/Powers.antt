@@ -4,7 +4,7 @@ use Rattle.std.proofs.Common.{refl, sym, ◌∙◌, ap, arith, ⊎_elim}
 use Rattle.theory_rings.specs.Ring.{RingOn, FieldOn}
 use Rattle.theory_rings.specs.Power.{power}
 use Rattle.theory_rings.proofs.RingLaws.{zero-mul}
-use Rattle.theory_rings.proofs.FieldProducts.{eq-zero_of_mul-eq-zero}
+use Rattle.theory_rings.proofs.Fields.{eq-zero_of_mul-eq-zero}
 
 module _ {K : Type 0} (R : RingOn K) where
   infixl 70 ◌⊗◌

@@ -20,7 +20,7 @@ IsPrime-one_mem p prime S closed sp a sa n =
     ⊎_elim
     (λ (e : c.divisor ≡ 1). subst S e c.member)
     (λ (e : c.divisor ≡ p). absurd (n (subst (λ d. d ∣ a) e c.right)))
-    (prime.only c.divisor c.left)
+    (prime.divisors c.divisor c.left)
 
 -- Euclid's lemma: a prime that divides a product divides a factor
 pub IsPrime-dvd-mul : (p : ℕ) → IsPrime p → (a b : ℕ) → p ∣ a * b → (p ∣ a) ⊎ (p ∣ b)
@@ -37,15 +37,15 @@ IsPrime-dvd-mul p prime a b d = ⊎_elim
 
 -- its converse: from 2 on, what divides a factor of each product that it divides is prime
 pub IsPrime_of_dvd-mul : (p : ℕ) → 2 ≤ p → ((a b : ℕ) → p ∣ a * b → (p ∣ a) ⊎ (p ∣ b)) → IsPrime p
-IsPrime_of_dvd-mul p least euclid = record { least = least; only = only }
+IsPrime_of_dvd-mul p two_le euclid = record { two_le = two_le; divisors = divisors }
   where
     cancelled : (d : ℕ) → d * p ≡ p → d ≡ 1
     cancelled zero e = omega arith
     cancelled (suc zero) e = refl
     cancelled (suc (suc d)) e = omega arith
 
-    only : (d : ℕ) → d ∣ p → (d ≡ 1) ⊎ (d ≡ p)
-    only d h =
+    divisors : (d : ℕ) → d ∣ p → (d ≡ 1) ⊎ (d ≡ p)
+    divisors d h =
         let e : d * (p / d) ≡ p = mul-div_cancel' d h in
         ⊎_elim
         (λ (a : p ∣ d). inr (dvd_antisymm h a))
@@ -57,10 +57,10 @@ IsPrime_of_dvd-mul p least euclid = record { least = least; only = only }
 
 -- a number modulo which all but 0 have inverses is prime
 pub IsPrime_of_inverses : (p : ℕ) → 2 ≤ p → ((a : ℕ) → 0 < a → a < p → (b : ℕ) × ((a * b) % p ≡ 1)) → IsPrime p
-IsPrime_of_inverses p least inverse = record { least = least; only = only }
+IsPrime_of_inverses p two_le inverse = record { two_le = two_le; divisors = divisors }
   where
-    only : (d : ℕ) → d ∣ p → (d ≡ 1) ⊎ (d ≡ p)
-    only d h =
+    divisors : (d : ℕ) → d ∣ p → (d ≡ 1) ⊎ (d ≡ p)
+    divisors d h =
         let pos : 0 < d = pos_of_dvd_of_pos h (omega arith) in
         let le : d ≤ p = le_of_dvd (omega arith) h in
         ⊎_elim

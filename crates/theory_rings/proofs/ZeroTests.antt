@@ -2,6 +2,7 @@
 use Rattle.std.specs.Prelude.{◌≡◌, ◌≢◌, Bool, true, false, ◌⊎◌}
 use Rattle.std.proofs.Common.{refl, sym, ◌∙◌, ap, inl, inr}
 use Rattle.std.proofs.Math.Bool.{true≢false}
+use Rattle.std.proofs.lemmas.Bool.{false_from_ne_true}
 use mathlib.Core.HLevel.{Discrete, hedberg}
 use Rattle.theory_rings.specs.Ring.{AddCommGroupOn, ZeroTest}
 use Rattle.theory_rings.proofs.RingLaws.{add-zero, add-neg}
@@ -10,6 +11,10 @@ module _ {X : Type 0} {nought : X} {is_zero : X → Bool} (Z : ZeroTest nought i
   -- what fails the test is not 0
   pub is_zero-complete : (a : X) → is_zero a ≡ false → a ≢ nought
   is_zero-complete a f e = true≢false (sym Z.is_zero-zero ∙ ap is_zero (sym e) ∙ f)
+
+  -- and what is not 0 fails it
+  pub is_zero-false : (a : X) → a ≢ nought → is_zero a ≡ false
+  is_zero-false a n = false_from_ne_true (is_zero a) (λ t. n (Z.is_zero-sound a t))
 
   pub eq_zero_or : (a : X) → (a ≡ nought) ⊎ (a ≢ nought)
   eq_zero_or a = go (is_zero a) refl

@@ -1,8 +1,8 @@
 -- Finite sets, their members numbered.
 use Rattle.std.specs.Prelude.{◌≡◌, ℕ, ◌<◌, ◌/◌}
-use Prim.Native.Nat.{◌∣◌}
+use Rattle.std.specs.Int.{◌∣◌}
 use Rattle.theory_rings.specs.Ring.{FieldOn}
-use Rattle.theory_rings.specs.Evaluation.{power}
+use Rattle.theory_rings.specs.Power.{power}
 
 -- the members are those of the numbers below the size
 pub record Enumerated (X : Type 0) : Type 0 where

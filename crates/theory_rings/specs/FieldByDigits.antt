@@ -4,9 +4,9 @@
 use Rattle.std.specs.Prelude.{◌≡◌, ◌≢◌, ℕ, suc, ◌+◌, ◌-◌, ◌*◌, ◌%◌, ◌^◌, ◌<◌, ◌≤◌, List, [], ◌∷◌, ◌++◌, length, get_or, nat_lt, nat_eq}
 use Rattle.theory_rings.specs.Ring.{CommRingOn}
 use Rattle.theory_rings.specs.Ops.{Ops, FieldLaws}
-use Rattle.theory_rings.specs.Elements.{Elem, elements}
+use Rattle.theory_rings.specs.Elements.{Elem}
 use Rattle.theory_rings.specs.Prime.{IsPrime}
-use Rattle.theory_rings.specs.Binomial.{multiple}
+use Rattle.theory_rings.specs.Power.{times_of}
 use Rattle.theory_rings.specs.Enumerated.{Enumerated}
 use Rattle.theory_rings.specs.Homomorphism.{IsRingHom}
 use Rattle.theory_rings.specs.IntegersMod.{Fin, integers_mod, residue, mod_ops, IsInverseTable}
@@ -92,7 +92,7 @@ DigitsAreRemaindersLaw = (p : ℕ) (two_le : 2 ≤ p) (m : List ℕ) → 1 ≤ l
 pub record IsFiniteField (p d : ℕ) (o : Ops ℕ) : Type 0 where
   pub laws : FieldLaws o
   pub prime : IsPrime p
-  pub characteristic : multiple (elements o laws).monoid p (elements o laws).one ≡ (elements o laws).zero
+  pub characteristic : times_of o p o.one ≡ o.zero
   pub members : Enumerated (Elem o)
   pub size : members.size ≡ p ^ d
 

@@ -4,12 +4,10 @@
 // does nothing, and its contract is a law.
 //
 // Read `specs/Ring.antt` first, which says what a ring and a field are, then `specs/Polynomial.antt`, and then the laws in
-// `polynomials`, `numbers` and `frobenius`. The lemmas stand in `proofs/`, by notion.
-// `numbers`, `polynomials` and `power_laws`. The lemmas stand in `proofs/`, by notion.
+// `number_laws`, `power_laws` and `polynomial_laws`. The lemmas stand in `proofs/`, by notion.
 #![tactic(auto)]
 
-pub mod frobenius;
-pub mod numbers;
-pub mod polynomials;
+pub mod number_laws;
+pub mod polynomial_laws;
 pub mod power_laws;
 pub mod structures;

@@ -1,23 +1,24 @@
 // The laws of powers in rings and finite fields: each is the contract of a function that does nothing.
-ghost use Rattle.theory_rings.specs.Prime.{PrimeLaw};
-ghost use Rattle.theory_rings.specs.Binomial.{BinomialTheorem, FrobeniusIsAdditive};
+ghost use Rattle.theory_rings.specs.Binomial.{BinomialLaw};
+ghost use Rattle.theory_rings.specs.Frobenius.{FrobeniusLaw, FrobeniusRootsLaw};
 ghost use Rattle.theory_rings.specs.Enumerated.{Enumerated, PowerOfSize, RootByPower};
 
 use crate::structures::{CommutativeRing, FieldStructure};
 
-/// A number is prime just where each smaller number but 0 has an inverse modulo it.
-pub fn prime_law()
-    ensures { PrimeLaw }
-{}
-
 /// The binomial theorem.
 pub fn binomial_law<R: CommutativeRing>()
-    ensures { BinomialTheorem R.ring }
+    ensures { BinomialLaw R.ring }
 {}
 
-/// In characteristic p the p-th power of a sum is the sum of the p-th powers.
+/// The p-th power of a sum is the sum of the p-th powers, where p is prime and p times 1 is 0.
 pub fn frobenius_law<R: CommutativeRing>()
-    ensures { FrobeniusIsAdditive R.ring }
+    ensures { FrobeniusLaw R.ring }
+{}
+
+/// In a program's field whose elements are the numbers below q, where p is prime and p times 1 is 0, each element is
+/// the p-th power of exactly one.
+pub fn frobenius_roots_law()
+    ensures { FrobeniusRootsLaw }
 {}
 
 /// In a field of q elements the q-th power of each is itself.

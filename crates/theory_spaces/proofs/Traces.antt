@@ -4,10 +4,11 @@ use Rattle.std.proofs.Common.{refl, sym, ◌∙◌, ap, arith}
 use Rattle.theory_rings.specs.Ring.{CommRingOn, FieldOn}
 use Rattle.theory_rings.specs.Sum.{sum}
 use Rattle.theory_rings.proofs.RingLaws.{zero-mul}
+use Rattle.theory_rings.proofs.Powers.{power_last}
 use Rattle.theory_rings.proofs.Sums.{sum_congr, sum_eq_zero, sum-add, map-sum, mul-sum}
 use Rattle.theory_spaces.specs.Module.{ModuleOn, AlgebraOn, module_of}
 use Rattle.theory_spaces.specs.Linear.{comb, Independent, Basis, IsLinear}
-use Rattle.theory_spaces.specs.Algebra.{map_trace, iterate, power, IsNilpotent, trace}
+use Rattle.theory_spaces.specs.Algebra.{map_trace, iterate, IsNilpotent, trace}
 use Rattle.theory_spaces.proofs.Modules.{scale-zero, comb_congr_right, comb-comb, comb_injective, map-comb, rows_of, independent_none}
 use Rattle.theory_spaces.proofs.Matrices.{mat_trace_comm}
 use Rattle.theory_spaces.proofs.Families.{choose}
@@ -151,7 +152,7 @@ module _ {K V : Type 0} (C : CommRingOn K) (A : AlgebraOn C.ring V) (m : ℕ) (B
 
   iterate-power : (a x : V) (e : ℕ) → iterate (λ y. a ⊗ y) e x ≡ power A.ring a e ⊗ x
   iterate-power a x zero = sym (A.one-mul x)
-  iterate-power a x (suc e) = iterate-power a (a ⊗ x) e ∙ sym (A.mul_assoc (power A.ring a e) a x)
+  iterate-power a x (suc e) = iterate-power a (a ⊗ x) e ∙ sym (A.mul_assoc (power A.ring a e) a x) ∙ ap (λ y. y ⊗ x) (sym (power_last A.ring a e))
 
 -- a nilpotent element has trace 0
 pub trace-nilpotent : {K V : Type 0} (F : FieldOn K) (A : AlgebraOn F.ring V) (m : ℕ) (B : Basis (module_of A) m) (a : V)

@@ -1,5 +1,0 @@
-use Rattle.theory_rings.proofs.Binomial.{binomial_theorem}
-use Rattle.theory_rings.proofs.frobenius.binomial_law.Goals as goal
-
-pub returns : goal.returns
-returns g c = binomial_theorem g.R.CommutativeRing.ring

@@ -1,5 +1,0 @@
-use Rattle.theory_rings.proofs.Fermat.{fermat}
-use Rattle.theory_rings.proofs.frobenius.fermat_law.Goals as goal
-
-pub returns : goal.returns
-returns c = fermat

@@ -1,5 +1,0 @@
-use Rattle.theory_rings.proofs.FrobeniusMap.{frobenius-add}
-use Rattle.theory_rings.proofs.frobenius.frobenius_law.Goals as goal
-
-pub returns : goal.returns
-returns g c = frobenius-add g.R.CommutativeRing.ring

@@ -1,5 +1,0 @@
-use Rattle.theory_rings.proofs.Digits.{digits_law}
-use Rattle.theory_rings.proofs.numbers.digits_law.Goals as goal
-
-pub returns : goal.returns
-returns c = digits_law

@@ -1,5 +1,0 @@
-use Rattle.theory_rings.proofs.ElementsByDigits.{one_digit_law}
-use Rattle.theory_rings.proofs.numbers.one_digit_law.Goals as goal
-
-pub returns : goal.returns
-returns c = one_digit_law

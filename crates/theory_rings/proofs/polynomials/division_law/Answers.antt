@@ -1,5 +1,0 @@
-use Rattle.theory_rings.proofs.PolynomialLaws.{has_division}
-use Rattle.theory_rings.proofs.polynomials.division_law.Goals as goal
-
-pub returns : goal.returns
-returns g c = has_division g.R.CommutativeRing.ring g.R.CommutativeRing.zero_test

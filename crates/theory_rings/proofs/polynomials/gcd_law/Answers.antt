@@ -1,5 +1,0 @@
-use Rattle.theory_rings.proofs.PolynomialLaws.{has_gcd}
-use Rattle.theory_rings.proofs.polynomials.gcd_law.Goals as goal
-
-pub returns : goal.returns
-returns g c = has_gcd g.F.FieldStructure.field

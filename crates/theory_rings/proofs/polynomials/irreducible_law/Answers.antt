@@ -1,5 +1,0 @@
-use Rattle.theory_rings.proofs.PolynomialLaws.{irreducible_is_prime}
-use Rattle.theory_rings.proofs.polynomials.irreducible_law.Goals as goal
-
-pub returns : goal.returns
-returns g c = irreducible_is_prime g.F.FieldStructure.field

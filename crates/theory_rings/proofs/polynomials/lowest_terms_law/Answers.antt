@@ -1,5 +1,0 @@
-use Rattle.theory_rings.proofs.PolynomialLaws.{has_lowest_terms}
-use Rattle.theory_rings.proofs.polynomials.lowest_terms_law.Goals as goal
-
-pub returns : goal.returns
-returns g c = has_lowest_terms g.F.FieldStructure.field

@@ -1,5 +1,0 @@
-use Rattle.theory_rings.proofs.PolynomialLaws.{has_remainder_fields}
-use Rattle.theory_rings.proofs.polynomials.remainder_field_law.Goals as goal
-
-pub returns : goal.returns
-returns g c = has_remainder_fields g.F.FieldStructure.field

@@ -1,5 +1,0 @@
-use Rattle.theory_rings.proofs.PolynomialLaws.{has_remainder_rings}
-use Rattle.theory_rings.proofs.polynomials.remainder_ring_law.Goals as goal
-
-pub returns : goal.returns
-returns g c = has_remainder_rings g.R.CommutativeRing.ring g.R.CommutativeRing.zero_test
