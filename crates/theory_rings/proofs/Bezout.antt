@@ -5,7 +5,7 @@ use Rattle.std.proofs.Common.{refl, sym, ◌∙◌, ap, ap₂, arith, inl, inr}
 use Rattle.theory_rings.specs.Ring.{FieldOn, CommRingOn}
 use Rattle.theory_rings.specs.Polynomial.{Poly, coefficient, lead, degree}
 use Rattle.theory_rings.specs.Division.{Divides, IsDivision, IsGcd, IsCoprime}
-use Rattle.theory_rings.proofs.RingLaws.{mul-zero, zero-mul, add-zero, add-neg}
+use Rattle.theory_rings.proofs.RingLaws.{mul-zero, zero-mul, add-zero, add-neg, left_ne_zero_of_mul, right_ne_zero_of_mul}
 use Rattle.theory_rings.proofs.ZeroTests.{eq_of_sub_eq_zero}
 use Rattle.theory_rings.proofs.Solver.{◌⊞◌, ◌⊠◌, minus, ring3, ring4, ring5}
 use Rattle.theory_rings.proofs.PolynomialRing.{polynomials, coefficient-zero, coefficient-one, constant}
@@ -52,13 +52,6 @@ module _ {K : Type 0} (F : FieldOn K) where
       go (inl z) = z
       go (inr n) = absurd (poly_mul-ne-zero a (P.◌⊕◌ b (P.neg c)) h n null)
 
-  -- the factors of what is not 0 are not 0
-  pub left_ne_zero_of_mul : (a b : Poly R) → P.◌⊗◌ a b ≢ P.zero → a ≢ P.zero
-  left_ne_zero_of_mul a b h e = h (ap (λ x. P.◌⊗◌ x b) e ∙ zero-mul P.ring b)
-
-  pub right_ne_zero_of_mul : (a b : Poly R) → P.◌⊗◌ a b ≢ P.zero → b ≢ P.zero
-  right_ne_zero_of_mul a b h e = h (ap (P.◌⊗◌ a) e ∙ mul-zero P.ring a)
-
   pub poly_one-ne-zero : P.one ≢ P.zero
   poly_one-ne-zero e = F.one-nonzero (sym (coefficient-one R F.zero_test 0) ∙ ap (λ x. coefficient R x 0) e ∙ coefficient-zero R F.zero_test 0)
 
@@ -69,9 +62,9 @@ module _ {K : Type 0} (F : FieldOn K) where
   pub degree_of_divides_one : (g : Poly R) → Divides P g P.one → degree g.0 ≡ 0
   degree_of_divides_one g d =
       let h : P.◌⊗◌ d.0 g ≢ P.zero = λ e. poly_one-ne-zero (d.1 ∙ e) in
-      omega (arith, field_degree-mul d.0 g (left_ne_zero_of_mul d.0 g h) (right_ne_zero_of_mul d.0 g h), ap (λ x. degree x.0) d.1, degree-one)
+      omega (arith, field_degree-mul d.0 g (left_ne_zero_of_mul P.ring d.0 g h) (right_ne_zero_of_mul P.ring d.0 g h), ap (λ x. degree x.0) d.1, degree-one)
 
-  constant_inverse : (c : K) → c ≢ F.zero → P.◌⊗◌ (constant R F.zero_test (F.inv c)) (constant R F.zero_test c) ≡ P.one
+  pub constant_inverse : (c : K) → c ≢ F.zero → P.◌⊗◌ (constant R F.zero_test (F.inv c)) (constant R F.zero_test c) ≡ P.one
   constant_inverse c h =
       let H = constant_hom R F.zero_test in
       sym (H.map-mul (F.inv c) c) ∙ ap (constant R F.zero_test) (F.inv-mul c h) ∙ H.map-one
@@ -131,29 +124,24 @@ module _ {K : Type 0} (F : FieldOn K) where
       λ x d. (P.zero, d.1 ∙ ap (P.◌⊗◌ d.0) z ∙ mul-zero P.ring d.0 ∙ sym (zero-mul P.ring t)) in
       omega (arith, degree-variable R F.zero_test F.one-nonzero, c t (null a e.left) (null b e.right))
 
+  -- where a greatest common divisor is a constant, 1 is a combination
+  pub combination_one : (a b g : Poly R) (e : IsGcd P a b g) → g ≢ P.zero → degree g.0 ≡ 0
+      → (let k : Poly R = constant R F.zero_test (F.inv (lead R g)) in P.◌⊕◌ (P.◌⊗◌ (P.◌⊗◌ k e.s) a) (P.◌⊗◌ (P.◌⊗◌ k e.t) b) ≡ P.one)
+  combination_one a b g e h d =
+      let k : Poly R = constant R F.zero_test (F.inv (lead R g)) in
+      ring5 P (λ k s a t b. ((k ⊠ s) ⊠ a ⊞ (k ⊠ t) ⊠ b, k ⊠ (s ⊠ a ⊞ t ⊠ b))) refl k e.s a e.t b
+      ∙ ap (P.◌⊗◌ k) (sym e.combined) ∙ degree_zero_inverse g h d
+
   -- 1 is a combination of coprime polynomials
   pub bezout : (a b : Poly R) → IsCoprime R P a b → (s : Poly R) × (t : Poly R) × (P.◌⊕◌ (P.◌⊗◌ s a) (P.◌⊗◌ t b) ≡ P.one)
-  bezout a b c = go (gcd a b)
-    where
-      go : (g : Poly R) × IsGcd P a b g → (s : Poly R) × (t : Poly R) × (P.◌⊕◌ (P.◌⊗◌ s a) (P.◌⊗◌ t b) ≡ P.one)
-      go p = (P.◌⊗◌ k e.s, P.◌⊗◌ k e.t, unit)
-        where
-          g : Poly R
-          g = p.0
+  bezout a b c =
+      let p = gcd a b in
+      let e = p.1 in
+      let k : Poly R = constant R F.zero_test (F.inv (lead R p.0)) in
+      (P.◌⊗◌ k e.s, P.◌⊗◌ k e.t, combination_one a b p.0 e (coprime_gcd-ne-zero a b p.0 c e) (c p.0 e.left e.right))
 
-          e : IsGcd P a b g
-          e = p.1
-
-          nonzero : g ≢ P.zero
-          nonzero = coprime_gcd-ne-zero a b g c e
-
-          k : Poly R
-          k = constant R F.zero_test (F.inv (lead R g))
-
-          unit : P.◌⊕◌ (P.◌⊗◌ (P.◌⊗◌ k e.s) a) (P.◌⊗◌ (P.◌⊗◌ k e.t) b) ≡ P.one
-          unit =
-              ring5 P (λ k s a t b. ((k ⊠ s) ⊠ a ⊞ (k ⊠ t) ⊠ b, k ⊠ (s ⊠ a ⊞ t ⊠ b))) refl k e.s a e.t b
-              ∙ ap (P.◌⊗◌ k) (sym e.combined) ∙ degree_zero_inverse g nonzero (c g e.left e.right)
+  pub coprime_comm : (a b : Poly R) → IsCoprime R P a b → IsCoprime R P b a
+  coprime_comm a b c g da db = c g db da
 
   -- and polynomials of which 1 is a combination are coprime
   pub coprime_of_bezout : (a b s t : Poly R) → P.◌⊕◌ (P.◌⊗◌ s a) (P.◌⊗◌ t b) ≡ P.one → IsCoprime R P a b

@@ -19,64 +19,64 @@ module _ (p : ℕ) (two_le : 2 ≤ p) where
   pos : 0 < p
   pos = omega arith
 
-  abbrev pub residues : CommRingOn (Fin p)
-  residues = integers_mod p two_le
+  abbrev R : CommRingOn (Fin p)
+  R = integers_mod p two_le
 
   abbrev pub DigitPoly : Type 0
-  DigitPoly = Poly residues
+  DigitPoly = Poly R
 
   -- the ring of the polynomials over the integers modulo p
   abbrev pub digit_polynomials : CommRingOn DigitPoly
-  digit_polynomials = polynomials residues (residue_zero_test p two_le)
+  digit_polynomials = polynomials R (residue_zero_test p two_le)
 
   -- the polynomial whose coefficients are the residues of n numbers
   pub residues_polynomial : ℕ → (ℕ → ℕ) → DigitPoly
-  residues_polynomial n f = polynomial residues (residue_zero_test p two_le) n (λ k. residue p two_le (f k))
+  residues_polynomial n f = polynomial R (residue_zero_test p two_le) n (λ k. residue p two_le (f k))
 
   pub coefficient-residues : (n : ℕ) (f : ℕ → ℕ) → ((k : ℕ) → n ≤ k → f k ≡ 0) → (k : ℕ)
-      → coefficient residues (residues_polynomial n f) k ≡ residue p two_le (f k)
+      → coefficient R (residues_polynomial n f) k ≡ residue p two_le (f k)
   unfolding residues_polynomial
   coefficient-residues n f h k =
-      coefficient-polynomial residues (residue_zero_test p two_le) n (λ k. residue p two_le (f k))
+      coefficient-polynomial R (residue_zero_test p two_le) n (λ k. residue p two_le (f k))
       (λ k l. ap (residue p two_le) (h k l) ∙ residue-zero p two_le) k
 
   -- the polynomial whose coefficients are the digits of a
   pub polynomial_of : ℕ → DigitPoly
   polynomial_of a = residues_polynomial a (digit p a)
 
-  pub coefficient-polynomial_of : (a k : ℕ) → coefficient residues (polynomial_of a) k ≡ residue p two_le (digit p a k)
+  pub coefficient-polynomial_of : (a k : ℕ) → coefficient R (polynomial_of a) k ≡ residue p two_le (digit p a k)
   unfolding polynomial_of
   coefficient-polynomial_of a k = coefficient-residues a (digit p a) (λ k l. digit_past p pos a a k (lt_pow_self p a two_le) l) k
 
   -- the number whose digits are the coefficients of f
   pub number_of : DigitPoly → ℕ
-  number_of f = of_digits p (length f.0) (λ k. (coefficient residues f k).0)
+  number_of f = of_digits p (length f.0) (λ k. (coefficient R f k).0)
 
   number_of_lt_length : (f : DigitPoly) → number_of f < p ^ length f.0
   unfolding number_of
   number_of_lt_length f =
-      of_digits_lt p pos (length f.0) (λ k. (coefficient residues f k).0) (λ k l. value-lt p (coefficient residues f k))
+      of_digits_lt p pos (length f.0) (λ k. (coefficient R f k).0) (λ k l. value-lt p (coefficient R f k))
 
-  pub digit-number_of : (f : DigitPoly) (k : ℕ) → digit p (number_of f) k ≡ (coefficient residues f k).0
+  pub digit-number_of : (f : DigitPoly) (k : ℕ) → digit p (number_of f) k ≡ (coefficient R f k).0
   unfolding number_of
   digit-number_of f k = ⊎_elim within past (cases_lt k (length f.0))
     where
-      within : k < length f.0 → digit p (number_of f) k ≡ (coefficient residues f k).0
+      within : k < length f.0 → digit p (number_of f) k ≡ (coefficient R f k).0
       within l =
-          digit-of_digits p pos (length f.0) (λ k. (coefficient residues f k).0) (λ k l. value-lt p (coefficient residues f k)) k l
+          digit-of_digits p pos (length f.0) (λ k. (coefficient R f k).0) (λ k l. value-lt p (coefficient R f k)) k l
 
-      past : length f.0 ≤ k → digit p (number_of f) k ≡ (coefficient residues f k).0
+      past : length f.0 ≤ k → digit p (number_of f) k ≡ (coefficient R f k).0
       past l =
           digit_past p pos (length f.0) (number_of f) k (number_of_lt_length f) l
-          ∙ sym (ap (λ x. x.0) (coefficient_past residues f k l))
+          ∙ sym (ap (λ x. x.0) (coefficient_past R f k l))
 
   pub polynomial_of-number_of : (f : DigitPoly) → polynomial_of (number_of f) ≡ f
-  polynomial_of-number_of f = Poly-path residues (polynomial_of (number_of f)) f
+  polynomial_of-number_of f = Poly-path R (polynomial_of (number_of f)) f
       (λ k. coefficient-polynomial_of (number_of f) k ∙ ap (residue p two_le) (digit-number_of f k)
-      ∙ residue-value p two_le (coefficient residues f k))
+      ∙ residue-value p two_le (coefficient R f k))
 
   -- the digits of a number, from its polynomial
-  pub value-coefficient : (a k : ℕ) → (coefficient residues (polynomial_of a) k).0 ≡ digit p a k
+  pub value-coefficient : (a k : ℕ) → (coefficient R (polynomial_of a) k).0 ≡ digit p a k
   value-coefficient a k = ap (λ x. x.0) (coefficient-polynomial_of a k) ∙ mod-eq_of_lt (digit_lt p pos a k)
 
   pub number_of-polynomial_of : (a : ℕ) → number_of (polynomial_of a) ≡ a
@@ -90,7 +90,7 @@ module _ (p : ℕ) (two_le : 2 ≤ p) where
 
   -- the numbers below p ^ d are the polynomials of degree below d
   pub length-polynomial_of : (d a : ℕ) → a < p ^ d → length (polynomial_of a).0 ≤ d
-  length-polynomial_of d a l = length_le residues (polynomial_of a) d
+  length-polynomial_of d a l = length_le R (polynomial_of a) d
       (λ k h. coefficient-polynomial_of a k ∙ ap (residue p two_le) (digit_past p pos d a k l h) ∙ residue-zero p two_le)
 
   pub number_of_lt : (d : ℕ) (f : DigitPoly) → length f.0 ≤ d → number_of f < p ^ d
@@ -98,45 +98,45 @@ module _ (p : ℕ) (two_le : 2 ≤ p) where
 
   pub residue-product_coefficient : (f g : ℕ → ℕ) (k : ℕ)
       → residue p two_le (product_coefficient f g k)
-      ≡ convolution residues.ring (λ i. residue p two_le (f i)) (λ i. residue p two_le (g i)) k
+      ≡ convolution R.ring (λ i. residue p two_le (f i)) (λ i. residue p two_le (g i)) k
   residue-product_coefficient f g k =
       residue-sum p two_le (suc k) (λ i. f i * g (k - i))
-      ∙ sum_congr residues.monoid (suc k) (λ i. residue p two_le (f i * g (k - i)))
-      (λ i. residues.◌⊗◌ (residue p two_le (f i)) (residue p two_le (g (k - i))))
+      ∙ sum_congr R.monoid (suc k) (λ i. residue p two_le (f i * g (k - i)))
+      (λ i. R.◌⊗◌ (residue p two_le (f i)) (residue p two_le (g (k - i))))
       (λ i l. residue-mul p two_le (f i) (g (k - i)))
 
   pub polynomial_of-injective : (a b : ℕ) → polynomial_of a ≡ polynomial_of b → a ≡ b
   polynomial_of-injective a b e = sym (number_of-polynomial_of a) ∙ ap number_of e ∙ number_of-polynomial_of b
 
   pub polynomial_of-zero : polynomial_of 0 ≡ digit_polynomials.zero
-  polynomial_of-zero = Poly-path residues (polynomial_of 0) digit_polynomials.zero
+  polynomial_of-zero = Poly-path R (polynomial_of 0) digit_polynomials.zero
       (λ k. coefficient-polynomial_of 0 k ∙ ap (residue p two_le) (zero-digit p k) ∙ residue-zero p two_le
-      ∙ sym (coefficient-zero residues (residue_zero_test p two_le) k))
+      ∙ sym (coefficient-zero R (residue_zero_test p two_le) k))
 
   -- a number below p is a constant
-  pub polynomial_of-constant : (a : ℕ) → a < p → polynomial_of a ≡ constant residues (residue_zero_test p two_le) (residue p two_le a)
-  polynomial_of-constant a l = Poly-path residues (polynomial_of a) (constant residues (residue_zero_test p two_le) (residue p two_le a))
-      (λ k. coefficient-polynomial_of a k ∙ each k ∙ sym (coefficient-constant residues (residue_zero_test p two_le) (residue p two_le a) k))
+  pub polynomial_of-constant : (a : ℕ) → a < p → polynomial_of a ≡ constant R (residue_zero_test p two_le) (residue p two_le a)
+  polynomial_of-constant a l = Poly-path R (polynomial_of a) (constant R (residue_zero_test p two_le) (residue p two_le a))
+      (λ k. coefficient-polynomial_of a k ∙ each k ∙ sym (coefficient-constant R (residue_zero_test p two_le) (residue p two_le a) k))
     where
-      each : (k : ℕ) → residue p two_le (digit p a k) ≡ constant_coefficients residues.zero (residue p two_le a) k
+      each : (k : ℕ) → residue p two_le (digit p a k) ≡ constant_coefficients R.zero (residue p two_le a) k
       each zero = ap (residue p two_le) (digit-zero p a ∙ mod-eq_of_lt l)
       each (suc k) = ap (residue p two_le) (digit-suc_of_lt p a k l) ∙ residue-zero p two_le
 
   pub polynomial_of-one : polynomial_of 1 ≡ digit_polynomials.one
-  polynomial_of-one = Poly-path residues (polynomial_of 1) digit_polynomials.one
-      (λ k. ap (λ f. coefficient residues f k) (polynomial_of-constant 1 (omega arith))
-      ∙ coefficient-constant residues (residue_zero_test p two_le) (residue p two_le 1) k
-      ∙ ap (λ x. constant_coefficients residues.zero x k) (residue-one p two_le)
-      ∙ sym (coefficient-one residues (residue_zero_test p two_le) k))
+  polynomial_of-one = Poly-path R (polynomial_of 1) digit_polynomials.one
+      (λ k. ap (λ f. coefficient R f k) (polynomial_of-constant 1 (omega arith))
+      ∙ coefficient-constant R (residue_zero_test p two_le) (residue p two_le 1) k
+      ∙ ap (λ x. constant_coefficients R.zero x k) (residue-one p two_le)
+      ∙ sym (coefficient-one R (residue_zero_test p two_le) k))
 
   -- p · b + c is c + t · b
-  pub polynomial_of-prepend : (b c : ℕ) → c < p → polynomial_of (p * b + c) ≡ prepend residues (residue_zero_test p two_le) (residue p two_le c) (polynomial_of b)
+  pub polynomial_of-prepend : (b c : ℕ) → c < p → polynomial_of (p * b + c) ≡ prepend R (residue_zero_test p two_le) (residue p two_le c) (polynomial_of b)
   polynomial_of-prepend b c l =
-      Poly-path residues (polynomial_of (p * b + c)) (prepend residues (residue_zero_test p two_le) (residue p two_le c) (polynomial_of b))
+      Poly-path R (polynomial_of (p * b + c)) (prepend R (residue_zero_test p two_le) (residue p two_le c) (polynomial_of b))
       (λ k. coefficient-polynomial_of (p * b + c) k ∙ each k
-      ∙ sym (coefficient-prepend residues (residue_zero_test p two_le) (residue p two_le c) (polynomial_of b) k))
+      ∙ sym (coefficient-prepend R (residue_zero_test p two_le) (residue p two_le c) (polynomial_of b) k))
     where
-      each : (k : ℕ) → residue p two_le (digit p (p * b + c) k) ≡ series_prepend (residue p two_le c) (coefficient residues (polynomial_of b)) k
+      each : (k : ℕ) → residue p two_le (digit p (p * b + c) k) ≡ series_prepend (residue p two_le c) (coefficient R (polynomial_of b)) k
       each zero = ap (residue p two_le) (digit-zero p (p * b + c) ∙ mul-add-mod_self_left p b c ∙ mod-eq_of_lt l)
       each (suc k) =
           ap (residue p two_le) (digit-suc p (p * b + c) k ∙ ap (λ x. digit p x k) (mul-add-div (omega arith) b c ∙ ap (λ x. b + x) (div-eq_of_lt l) ∙ omega arith))

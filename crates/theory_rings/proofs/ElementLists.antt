@@ -10,6 +10,7 @@ use Rattle.theory_rings.specs.Ops.{Ops, IsElem, FieldLaws}
 use Rattle.theory_rings.specs.Elements.{Elem, Elem-path, elements}
 use Rattle.theory_rings.specs.Sum.{sum, sum_of, at}
 use Rattle.theory_rings.specs.Polynomial.{IsTrimmed, Poly, coefficient, convolution, convolution_of}
+use Rattle.theory_rings.proofs.Elements.{at-elem, sum_of-elements}
 use Rattle.theory_rings.proofs.Series.{convolution_congr}
 use Rattle.theory_rings.proofs.PolynomialRing.{Poly-path, coefficient-add, coefficient-mul}
 use Rattle.theory_rings.proofs.Bezout.{field_polynomials}
@@ -47,19 +48,8 @@ module _ {E : Type 0} (o : Ops E) (L : FieldLaws o) where
   IsTrimmed-elements_of (x ∷ []) h t = λ e. t (ap (λ a. a.0) e)
   IsTrimmed-elements_of (x ∷ y ∷ ys) h t = IsTrimmed-elements_of (y ∷ ys) (All-tail (IsElem o) x (y ∷ ys) h) t
 
-  -- items are elements, past the end too
-  pub at-elem : (xs : List E) → All (IsElem o) xs → (k : ℕ) → IsElem o (at o xs k)
-  at-elem xs h k =
-      ⊎_elim (λ l. All-get_or (IsElem o) xs k o.zero l h)
-      (λ l. subst (IsElem o) (sym (get_or_past xs k o.zero l)) L.zero-elem)
-      (cases_lt k (length xs))
-
-  pub sum_of-elements : (n : ℕ) (f : ℕ → Elem o) → sum_of o n (λ i. (f i).0) ≡ (sum F.monoid n f).0
-  sum_of-elements zero f = refl
-  sum_of-elements (suc n) f = ap (λ x. o.add x (f n).0) (sum_of-elements n f)
-
   pub convolution_of-elements : (f g : ℕ → Elem o) (k : ℕ) → convolution_of o (λ i. (f i).0) (λ i. (g i).0) k ≡ (convolution F.ring f g k).0
-  convolution_of-elements f g k = sum_of-elements (suc k) (λ i. F.◌⊗◌ (f i) (g (k - i)))
+  convolution_of-elements f g k = sum_of-elements o L (suc k) (λ i. F.◌⊗◌ (f i) (g (k - i)))
 
   abbrev P : CommRingOn (Poly F.cring)
   P = field_polynomials F
@@ -97,8 +87,8 @@ module _ {E : Type 0} (o : Ops E) (L : FieldLaws o) where
       let a : Poly F.cring = poly_of xs hx tx in
       let b : Poly F.cring = poly_of ys hy ty in
       let c : Poly F.cring = poly_of zs hz tz in
-      let x : ℕ → Elem o = λ k. (at o xs k, at-elem xs hx k) in
-      let y : ℕ → Elem o = λ k. (at o ys k, at-elem ys hy k) in
+      let x : ℕ → Elem o = λ k. (at o xs k, at-elem o L xs hx k) in
+      let y : ℕ → Elem o = λ k. (at o ys k, at-elem o L ys hy k) in
       Poly-path F.cring c (P.◌⊗◌ a b) (λ k.
       Elem-path o (coefficient F.cring c k) (convolution F.ring x y k) (coefficient-poly_of zs hz tz k ∙ e k ∙ convolution_of-elements x y k)
       ∙ convolution_congr F.ring x y (coefficient F.cring a) (coefficient F.cring b)

@@ -10,7 +10,7 @@ use Rattle.std.proofs.lemmas.Nat.{mod_below, mul-mod}
 use Rattle.theory_rings.specs.Ring.{FieldOn}
 use Rattle.theory_rings.specs.Ops.{Ops, IsElem, FieldLaws}
 use Rattle.theory_rings.specs.Elements.{Elem, Elem-path, elements}
-use Rattle.theory_rings.specs.IntegersMod.{mod_ops, IsInverseTable}
+use Rattle.theory_rings.specs.IntegersMod.{mod_ops, IsInverseTable, add-neg_mod}
 use Rattle.theory_rings.specs.Prime.{IsPrime}
 use Rattle.theory_rings.specs.Power.{times_of}
 use Rattle.theory_rings.specs.Enumerated.{Enumerated}
@@ -20,7 +20,7 @@ use Rattle.theory_rings.proofs.Primes.{IsPrime_of_dvd-mul}
 use Rattle.theory_rings.proofs.Digits.{le_pow_self}
 use Rattle.theory_rings.proofs.FieldByDigits.{sum-constants, sum_unique, product_unique}
 use Rattle.theory_rings.proofs.ProductSteps.{product-constants}
-use Rattle.theory_rings.proofs.RingByDigits.{field_by_digits_laws}
+use Rattle.theory_rings.proofs.RingByDigits.{elem_lt, lt_elem, field_by_digits_laws}
 
 -- a program's field of the numbers below n
 module _ (o : Ops ℕ) (L : FieldLaws o) (n : ℕ) (below : (a : ℕ) → IsElem o a → a < n) (elem : (a : ℕ) → a < n → IsElem o a) where
@@ -57,19 +57,13 @@ module _ (p : ℕ) (two_le : 2 ≤ p) (m : List ℕ) (d : 1 ≤ length m) (o : O
   abbrev q : ℕ
   q = size_by_digits p m
 
-  elem_lt : (a : ℕ) → IsElem o a → a < q
-  elem_lt a h = ltb-true a q (sym (F.is_elem a) ∙ h)
-
-  lt_elem : (a : ℕ) → a < q → IsElem o a
-  lt_elem a l = F.is_elem a ∙ lt-ltb a q l
-
   -- the field has p ^ d elements
   pub enumerated_by_digits : Enumerated (Elem o)
-  enumerated_by_digits = numbers_enumerated o laws q elem_lt lt_elem
+  enumerated_by_digits = numbers_enumerated o laws q (elem_lt p two_le m d o F) (lt_elem p two_le m d o F)
 
   pub size-by_digits : enumerated_by_digits.size ≡ p ^ length m
   unfolding enumerated_by_digits
-  size-by_digits = size-numbers o laws q elem_lt lt_elem
+  size-by_digits = size-numbers o laws q (elem_lt p two_le m d o F) (lt_elem p two_le m d o F)
 
   constant_lt : (a : ℕ) → a < p → a < q
   constant_lt a l = lt_of_lt_of_le l (le_pow_self p (length m) d)
@@ -94,7 +88,7 @@ module _ (p : ℕ) (two_le : 2 ≤ p) (m : List ℕ) (d : 1 ≤ length m) (o : O
 
   -- the remainder of a number, as an element
   constant : ℕ → Elem o
-  constant a = (a % p, lt_elem (a % p) (constant_lt (a % p) (mod_below a p (omega arith))))
+  constant a = (a % p, lt_elem p two_le m d o F (a % p) (constant_lt (a % p) (mod_below a p (omega arith))))
 
   dvd_of_constant : (a : ℕ) → constant a ≡ field_by_digits.zero → p ∣ a
   unfolding constant
@@ -125,12 +119,6 @@ module _ (p : ℕ) (two_le : 2 ≤ p) (c : ℕ) (inverses : List ℕ) (T : IsInv
   small_mod : (a : ℕ) → a % p < size_by_digits p (c ∷ [])
   small_mod a = let e = size_one in let l = mod_below a p (omega arith) in omega arith
 
-  cancels : (a : ℕ) → a < p → (a + (p - a) % p) % p ≡ 0
-  cancels a l = add-mod-mod a (p - a) p ∙ ap (λ x. x % p) whole ∙ mod_self p
-    where
-      whole : a + (p - a) ≡ p
-      whole = omega arith
-
   pub mod_ops_by_digits : IsFieldByDigits p (c ∷ []) (mod_ops p inverses)
   mod_ops_by_digits = record {
     is_elem = λ a. ap (nat_lt a) (sym size_one);
@@ -139,7 +127,7 @@ module _ (p : ℕ) (two_le : 2 ≤ p) (c : ℕ) (inverses : List ℕ) (T : IsInv
     one = refl;
     add = λ a b la lb. sum-constants p two_le (c ∷ []) a b (omega arith) (small a la) (small b lb);
     neg = λ a la. small_mod (p - a);
-    add-neg = λ a la. subst (IsSumByDigits p (c ∷ []) a ((p - a) % p)) (cancels a (small a la))
+    add-neg = λ a la. subst (IsSumByDigits p (c ∷ []) a ((p - a) % p)) (add-neg_mod p a (small a la))
         (sum-constants p two_le (c ∷ []) a ((p - a) % p) (omega arith) (small a la) (small ((p - a) % p) (small_mod (p - a))));
     mul = λ a b la lb. product-constants p two_le (c ∷ []) a b (omega arith) (small a la) (small b lb);
     inv = λ a la. subst (λ n. slice_index inverses a < n) (sym size_one) (T.below a (small a la));

@@ -6,7 +6,7 @@ use Rattle.std.proofs.lemmas.Bool.{cases_lt}
 use Rattle.std.proofs.lemmas.List.{get_or_past, get_or_push}
 use Rattle.std.proofs.lemmas.Nat.{mod_below}
 use Rattle.theory_rings.specs.Ring.{CommRingOn}
-use Rattle.theory_rings.specs.IntegersMod.{Fin, residue}
+use Rattle.theory_rings.specs.IntegersMod.{integers_mod, Fin, residue, add-neg_mod}
 use Rattle.theory_rings.specs.Digits.{digit, of_digits}
 use Rattle.theory_rings.specs.Polynomial.{coefficient, lead, degree, IsMonic}
 use Rattle.theory_rings.specs.Division.{IsDivision}
@@ -19,7 +19,7 @@ use Rattle.theory_rings.proofs.IntegersMod.{residue_zero_test}
 use Rattle.theory_rings.proofs.Degrees.{length_le, lt_length, length-degree}
 use Rattle.theory_rings.proofs.Division.{division_unique}
 use Rattle.theory_rings.proofs.Remainders.{quo, rem, rem-division}
-use Rattle.theory_rings.proofs.DigitPolynomials.{length-polynomial_of, number_of, number_of_lt, polynomial_of-number_of, polynomial_of-injective, residues, DigitPoly, digit_polynomials, residues_polynomial, coefficient-residues, polynomial_of, coefficient-polynomial_of, residue-product_coefficient}
+use Rattle.theory_rings.proofs.DigitPolynomials.{length-polynomial_of, number_of, number_of_lt, polynomial_of-number_of, polynomial_of-injective, DigitPoly, digit_polynomials, residues_polynomial, coefficient-residues, polynomial_of, coefficient-polynomial_of, residue-product_coefficient}
 
 module _ (p : ℕ) (two_le : 2 ≤ p) (m : List ℕ) where
   infixl 65 ◌⊕◌
@@ -30,7 +30,7 @@ module _ (p : ℕ) (two_le : 2 ≤ p) (m : List ℕ) where
   q = size_by_digits p m
 
   abbrev R : CommRingOn (Fin p)
-  R = residues p two_le
+  R = integers_mod p two_le
 
   -- the modulus as a polynomial
   pub modulus : DigitPoly p two_le
@@ -189,14 +189,8 @@ module _ (p : ℕ) (two_le : 2 ≤ p) (m : List ℕ) where
         below = let l = one-le-pow (length m) p (omega arith) in omega arith;
         each = λ k l. zero-digit p k ∙ sym
             (ap (λ x. (digit p a k + x) % p) (digit-of_digits p (omega arith) (length m) f small k l)
-            ∙ cancels (digit p a k) (digit_lt p (omega arith) a k));
+            ∙ add-neg_mod p (digit p a k) (digit_lt p (omega arith) a k));
       }
-    where
-      cancels : (x : ℕ) → x < p → (x + (p - x) % p) % p ≡ 0
-      cancels x l = add-mod-mod x (p - x) p ∙ ap (λ y. y % p) whole ∙ mod_self p
-        where
-          whole : x + (p - x) ≡ p
-          whole = omega arith
 
   -- the sum of numbers below p is that modulo p
   pub sum-constants : (a b : ℕ) → 1 ≤ length m → a < p → b < p → IsSumByDigits p m a b ((a + b) % p)

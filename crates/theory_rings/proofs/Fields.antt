@@ -18,6 +18,9 @@ module _ {K : Type 0} (F : FieldOn K) where
   pub inv-ne-zero : (a : K) → a ≢ zero → inv a ≢ zero
   inv-ne-zero a h e = F.one-nonzero (sym (mul-inv a h) ∙ ap (λ x. a ⊗ x) e ∙ mul-zero ring a)
 
+  pub inv_mul_cancel_right : (a b : K) → b ≢ zero → (a ⊗ inv b) ⊗ b ≡ a
+  inv_mul_cancel_right a b h = F.mul_assoc a (inv b) b ∙ ap (λ x. a ⊗ x) (F.inv-mul b h) ∙ F.mul-one a
+
   pub inv_mul_cancel_left : (a b : K) → a ≢ zero → inv a ⊗ (a ⊗ b) ≡ b
   inv_mul_cancel_left a b h = sym (F.mul_assoc (inv a) a b) ∙ ap (λ x. x ⊗ b) (F.inv-mul a h) ∙ F.one-mul b
 

@@ -8,9 +8,11 @@ use Rattle.theory_rings.specs.Sum.{sum}
 use Rattle.theory_rings.specs.Power.{power}
 use Rattle.theory_rings.specs.Enumerated.{Enumerated, PowerOfSize, RootByPower}
 use Rattle.theory_rings.proofs.RingLaws.{mul-zero}
+use Rattle.theory_rings.proofs.Semirings.{semiring, products}
 use Rattle.theory_rings.proofs.Fields.{field_mul-ne-zero, mul_left_cancel}
 use Rattle.theory_rings.proofs.ZeroTests.{is_zero-false, eq_zero_or}
-use Rattle.theory_rings.proofs.Sums.{bump, bump-apart, bump-lt, sum_congr, sum-add, sum_take_out}
+use Rattle.theory_rings.proofs.Bump.{bump, bump-apart, bump-lt}
+use Rattle.theory_rings.proofs.Sums.{sum_congr, sum-add, sum_take_out}
 use Rattle.theory_rings.proofs.Reindex.{sum_reindex}
 use Rattle.theory_rings.proofs.Powers.{power-zero, power-power, power_last}
 
@@ -18,16 +20,16 @@ module _ {K : Type 0} (F : FieldOn K) where
   infixl 70 ◌⊗◌
   open F use {ring, one, ◌⊗◌, inv}
 
-  -- the monoid of the products
-  abbrev products : AddCommMonoidOn K
-  products = record { zero = one; ◌⊕◌ = F.◌⊗◌; add_assoc = F.mul_assoc; add_comm = F.mul_comm; zero-add = F.one-mul }
+  -- products are sums in the monoid of the products
+  abbrev M : AddCommMonoidOn K
+  M = products (semiring F.cring)
 
-  product_ne_zero : (n : ℕ) (f : ℕ → K) → ((i : ℕ) → i < n → f i ≢ F.zero) → sum products n f ≢ F.zero
+  product_ne_zero : (n : ℕ) (f : ℕ → K) → ((i : ℕ) → i < n → f i ≢ F.zero) → sum M n f ≢ F.zero
   product_ne_zero zero f h = F.one-nonzero
   product_ne_zero (suc n) f h =
-      field_mul-ne-zero F (sum products n f) (f n) (product_ne_zero n f (λ i l. h i (omega arith))) (h n (omega arith))
+      field_mul-ne-zero F (sum M n f) (f n) (product_ne_zero n f (λ i l. h i (omega arith))) (h n (omega arith))
 
-  product_const : (n : ℕ) (a : K) → sum products n (λ _. a) ≡ power ring a n
+  product_const : (n : ℕ) (a : K) → sum M n (λ _. a) ≡ power ring a n
   product_const zero a = refl
   product_const (suc n) a = ap (λ x. x ⊗ a) (product_const n a) ∙ sym (power_last ring a n)
 
@@ -63,14 +65,14 @@ module _ {K : Type 0} (F : FieldOn K) where
   module _ (E : Enumerated K) where
     -- the product of all elements but 0
     abbrev all : K
-    all = sum products E.size (λ i. or_one (E.member i) (E.member i))
+    all = sum M E.size (λ i. or_one (E.member i) (E.member i))
 
     -- multiplication by a permutes them
-    moved : (a : K) → a ≢ F.zero → sum products E.size (λ i. or_one (a ⊗ E.member i) (a ⊗ E.member i)) ≡ all
+    moved : (a : K) → a ≢ F.zero → sum M E.size (λ i. or_one (a ⊗ E.member i) (a ⊗ E.member i)) ≡ all
     moved a h =
-        sum_congr products E.size (λ i. or_one (a ⊗ E.member i) (a ⊗ E.member i)) (λ i. or_one (E.member (place i)) (E.member (place i)))
+        sum_congr M E.size (λ i. or_one (a ⊗ E.member i) (a ⊗ E.member i)) (λ i. or_one (E.member (place i)) (E.member (place i)))
         (λ i l. ap (λ x. or_one x x) (sym (E.member-number (a ⊗ E.member i))))
-        ∙ sum_reindex products E.size place (λ i. or_one (E.member i) (E.member i)) (λ i l. E.number-lt (a ⊗ E.member i)) apart
+        ∙ sum_reindex M E.size place (λ i. or_one (E.member i) (E.member i)) (λ i l. E.number-lt (a ⊗ E.member i)) apart
       where
         place : ℕ → ℕ
         place i = E.number (a ⊗ E.member i)
@@ -83,20 +85,20 @@ module _ {K : Type 0} (F : FieldOn K) where
             ∙ E.number-member j lj
 
     -- so the product of a, once for each of them, is 1
-    factors : (a : K) → a ≢ F.zero → sum products E.size (λ i. or_one (E.member i) a) ≡ one
-    factors a h = mul_left_cancel F all (sum products E.size (λ i. or_one (E.member i) a)) one
+    factors : (a : K) → a ≢ F.zero → sum M E.size (λ i. or_one (E.member i) a) ≡ one
+    factors a h = mul_left_cancel F all (sum M E.size (λ i. or_one (E.member i) a)) one
         (product_ne_zero E.size (λ i. or_one (E.member i) (E.member i)) (λ i l. or_one_ne_zero (E.member i)))
-        (F.mul_comm all (sum products E.size (λ i. or_one (E.member i) a))
-        ∙ sym (sum-add products E.size (λ i. or_one (E.member i) a) (λ i. or_one (E.member i) (E.member i)))
-        ∙ sum_congr products E.size (λ i. or_one (E.member i) a ⊗ or_one (E.member i) (E.member i)) (λ i. or_one (a ⊗ E.member i) (a ⊗ E.member i))
+        (F.mul_comm all (sum M E.size (λ i. or_one (E.member i) a))
+        ∙ sym (sum-add M E.size (λ i. or_one (E.member i) a) (λ i. or_one (E.member i) (E.member i)))
+        ∙ sum_congr M E.size (λ i. or_one (E.member i) a ⊗ or_one (E.member i) (E.member i)) (λ i. or_one (a ⊗ E.member i) (a ⊗ E.member i))
         (λ i l. sym (or_one-mul a (E.member i) h))
         ∙ moved a h ∙ sym (F.mul-one all))
 
-    count_factors : (n : ℕ) (a : K) → E.size ≡ suc n → sum products (suc n) (λ i. or_one (E.member i) a) ≡ power ring a n
+    count_factors : (n : ℕ) (a : K) → E.size ≡ suc n → sum M (suc n) (λ i. or_one (E.member i) a) ≡ power ring a n
     count_factors n a e =
-        sum_take_out products n origin (λ i. or_one (E.member i) a) (subst (λ k. origin < k) e (E.number-lt F.zero))
+        sum_take_out M n origin (λ i. or_one (E.member i) a) (subst (λ k. origin < k) e (E.number-lt F.zero))
         ∙ ap₂ (λ x y. x ⊗ y) (or_one-zero (E.member origin) a (E.member-number F.zero))
-        (sum_congr products n (λ i. or_one (E.member (bump origin i)) a) (λ _. a) (λ i l. or_one-nonzero (E.member (bump origin i)) a (other i l))
+        (sum_congr M n (λ i. or_one (E.member (bump origin i)) a) (λ _. a) (λ i l. or_one-nonzero (E.member (bump origin i)) a (other i l))
         ∙ product_const n a)
         ∙ F.one-mul (power ring a n)
       where
@@ -117,7 +119,7 @@ module _ {K : Type 0} (F : FieldOn K) where
         (λ (z : a ≡ F.zero). ap (λ x. power ring x E.size) z ∙ power-zero ring E.size (let e = s.1 in omega arith) ∙ sym z)
         (λ (n : a ≢ F.zero).
         ap (power ring a) s.1 ∙ power_last ring a s.0
-        ∙ ap (λ x. x ⊗ a) (sym (count_factors s.0 a s.1) ∙ ap (λ k. sum products k (λ i. or_one (E.member i) a)) (sym s.1) ∙ factors a n)
+        ∙ ap (λ x. x ⊗ a) (sym (count_factors s.0 a s.1) ∙ ap (λ k. sum M k (λ i. or_one (E.member i) a)) (sym s.1) ∙ factors a n)
         ∙ F.one-mul a)
         (eq_zero_or F.zero_test a)
 

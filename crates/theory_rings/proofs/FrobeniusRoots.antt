@@ -6,7 +6,7 @@ use Rattle.theory_rings.specs.Ops.{Ops, IsElem, FieldLaws}
 use Rattle.theory_rings.specs.Elements.{Elem, Elem-path, elements}
 use Rattle.theory_rings.specs.Prime.{IsPrime}
 use Rattle.theory_rings.specs.Power.{power, power_of, times, times_of}
-use Rattle.theory_rings.proofs.ElementPowers.{value-power, value-times, power_of-elem}
+use Rattle.theory_rings.proofs.Elements.{times_of-elements, power_of-elements, power_of-elem}
 use Rattle.theory_rings.proofs.FrobeniusMap.{frobenius_injective}
 use Rattle.theory_rings.proofs.Pigeonhole.{surjective_of_injective}
 
@@ -17,9 +17,9 @@ frobenius_of_injective {E} o L p prime char a b ea eb e =
     let F = elements o L in
     let x : Elem o = (a, ea) in
     let y : Elem o = (b, eb) in
-    let unit : times F.monoid p F.one ≡ F.zero = Elem-path o (times F.monoid p F.one) F.zero (value-times o L p F.one ∙ char) in
+    let unit : times F.monoid p F.one ≡ F.zero = Elem-path o (times F.monoid p F.one) F.zero (sym (times_of-elements o L p F.one) ∙ char) in
     let same : power F.ring x p ≡ power F.ring y p =
-    Elem-path o (power F.ring x p) (power F.ring y p) (value-power o L x p ∙ e ∙ sym (value-power o L y p)) in
+    Elem-path o (power F.ring x p) (power F.ring y p) (sym (power_of-elements o L x p) ∙ e ∙ power_of-elements o L y p) in
     ap (λ (z : Elem o). z.0) (frobenius_injective F p prime unit x y same)
 
 module _ (o : Ops ℕ) (L : FieldLaws o) (q : ℕ) (is_elem-lt : (a : ℕ) → IsElem o a ↔ (a < q))

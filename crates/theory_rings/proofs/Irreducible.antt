@@ -7,15 +7,15 @@ use Rattle.theory_rings.specs.Ring.{FieldOn, CommRingOn}
 use Rattle.theory_rings.specs.Polynomial.{Poly, lead, degree, IsMonic}
 use Rattle.theory_rings.specs.Division.{Divides, Congruent, IsDivision, IsGcd, IsCoprime, IsIrreducible}
 use Rattle.theory_rings.specs.Remainder.{Remainder}
-use Rattle.theory_rings.proofs.RingLaws.{mul-zero, add-zero}
+use Rattle.theory_rings.proofs.RingLaws.{mul-zero, add-zero, left_ne_zero_of_mul, right_ne_zero_of_mul}
 use Rattle.theory_rings.proofs.Solver.{◌⊞◌, ◌⊠◌, minus, ring3, ring4, ring5}
 use Rattle.theory_rings.proofs.PolynomialRing.{constant}
 use Rattle.theory_rings.proofs.Degrees.{degree_le_length, poly_eq_zero_or, lead-ne-zero, length_pos, length-degree_of_ne_zero, ne_zero_of_length}
 use Rattle.theory_rings.proofs.Division.{divide}
-use Rattle.theory_rings.proofs.Residues.{congruent_of_eq}
+use Rattle.theory_rings.proofs.Congruences.{congruent_of_eq}
 use Rattle.theory_rings.proofs.Remainders.{remainders, remainder, remainder_hom, remainder-small, remainder_eq, Remainder-path, remainders-zero_poly, remainders-one_poly, is_zero_remainder, zero_remainder_test}
 use Rattle.theory_rings.proofs.Fields.{mul-inv}
-use Rattle.theory_rings.proofs.Bezout.{field_polynomials, field_degree-mul, left_ne_zero_of_mul, right_ne_zero_of_mul, degree_zero_inverse, gcd, divides_of_coprime, poly_one-ne-zero}
+use Rattle.theory_rings.proofs.Bezout.{field_polynomials, field_degree-mul, degree_zero_inverse, gcd, combination_one, coprime_comm, divides_of_coprime, poly_one-ne-zero}
 
 module _ {K : Type 0} (F : FieldOn K) where
   abbrev R : CommRingOn K
@@ -28,7 +28,7 @@ module _ {K : Type 0} (F : FieldOn K) where
   pub degree_le_of_divides : (m a : Poly R) → Divides P m a → a ≢ P.zero → degree m.0 ≤ degree a.0
   degree_le_of_divides m a d h =
       let n : P.◌⊗◌ d.0 m ≢ P.zero = λ e. h (d.1 ∙ e) in
-      omega (arith, field_degree-mul F d.0 m (left_ne_zero_of_mul F d.0 m n) (right_ne_zero_of_mul F d.0 m n), ap (λ x. degree x.0) d.1)
+      omega (arith, field_degree-mul F d.0 m (left_ne_zero_of_mul P.ring d.0 m n) (right_ne_zero_of_mul P.ring d.0 m n), ap (λ x. degree x.0) d.1)
 
   -- divisibility is decided by the remainder
   pub divides_or : (m a : Poly R) → m ≢ P.zero → Divides P m a ⊎ (Divides P m a → ⊥)
@@ -73,10 +73,10 @@ module _ {K : Type 0} (F : FieldOn K) where
         product_ne_zero e = irreducible-ne-zero (dm.1 ∙ e)
 
         c_ne_zero : dm.0 ≢ P.zero
-        c_ne_zero = left_ne_zero_of_mul F dm.0 g product_ne_zero
+        c_ne_zero = left_ne_zero_of_mul P.ring dm.0 g product_ne_zero
 
         sum : degree m.0 ≡ degree dm.0.0 + degree g.0
-        sum = ap (λ x. degree x.0) dm.1 ∙ field_degree-mul F dm.0 g c_ne_zero (right_ne_zero_of_mul F dm.0 g product_ne_zero)
+        sum = ap (λ x. degree x.0) dm.1 ∙ field_degree-mul F dm.0 g c_ne_zero (right_ne_zero_of_mul P.ring dm.0 g product_ne_zero)
 
         -- a divisor of the same degree is a multiple
         whole : degree dm.0.0 ≡ 0 → Divides P m a
@@ -99,12 +99,9 @@ module _ {K : Type 0} (F : FieldOn K) where
     pub irreducible_prime : (a b : Poly R) → Divides P m (P.◌⊗◌ a b) → Divides P m a ⊎ Divides P m b
     irreducible_prime a b d = go (divides_or m a irreducible-ne-zero)
       where
-        turned : (Divides P m a → ⊥) → IsCoprime R P m a
-        turned n g dm da = irreducible_coprime a n g da dm
-
         go : Divides P m a ⊎ (Divides P m a → ⊥) → Divides P m a ⊎ Divides P m b
         go (inl y) = inl y
-        go (inr n) = inr (divides_of_coprime F m a b (turned n) d)
+        go (inr n) = inr (divides_of_coprime F m a b (coprime_comm F a m (irreducible_coprime a n)) d)
 
   -- an inverse modulo m, where a has one
   pub inverse_mod : Poly R → Poly R → Poly R
@@ -119,9 +116,8 @@ module _ {K : Type 0} (F : FieldOn K) where
           let k : Poly R = constant R F.zero_test (F.inv (lead R g)) in
           let nonzero : g ≢ P.zero = λ z. h (e.left.1 ∙ ap (P.◌⊗◌ e.left.0) z ∙ mul-zero P.ring e.left.0) in (
             P.neg (P.◌⊗◌ k e.t),
-            ring5 P (λ k s a t m. (k ⊠ s ⊠ a, k ⊠ (s ⊠ a ⊞ t ⊠ m) ⊞ minus (k ⊠ t) ⊠ m)) refl k e.s a e.t m
-                ∙ ap (λ x. P.◌⊕◌ x (P.◌⊗◌ (P.neg (P.◌⊗◌ k e.t)) m))
-                (ap (P.◌⊗◌ k) (sym e.combined) ∙ degree_zero_inverse F g nonzero (c g e.left e.right)),
+            ring5 P (λ k s a t m. (k ⊠ s ⊠ a, (k ⊠ s ⊠ a ⊞ k ⊠ t ⊠ m) ⊞ minus (k ⊠ t) ⊠ m)) refl k e.s a e.t m
+                ∙ ap (λ x. P.◌⊕◌ x (P.◌⊗◌ (P.neg (P.◌⊗◌ k e.t)) m)) (combination_one F a m g e nonzero (c g e.left e.right)),
           )
 
   module _ (m : Poly R) (monic : IsMonic R m) (i : IsIrreducible R P m) where

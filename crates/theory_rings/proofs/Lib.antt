@@ -1,4 +1,5 @@
 pub mod RingLaws
+pub mod Bump
 pub mod Sums
 pub mod Solver
 pub mod IntegersMod
@@ -12,7 +13,7 @@ pub mod Pigeonhole
 pub mod Semirings
 pub mod Binomial
 pub mod Fermat
-pub mod ElementPowers
+pub mod Elements
 pub mod FrobeniusRoots
 pub mod NaturalSums
 pub mod Digits
@@ -27,7 +28,8 @@ pub mod FieldByDigits
 pub mod Division
 pub mod ProductSteps
 pub mod Homomorphisms
-pub mod Residues
+pub mod Congruences
+pub mod Representatives
 pub mod Remainders
 pub mod Constants
 pub mod Bezout

@@ -8,12 +8,13 @@ use Rattle.theory_rings.specs.Ring.{FieldOn, CommRingOn}
 use Rattle.theory_rings.specs.Polynomial.{Poly, coefficient, lead, degree, IsMonic}
 use Rattle.theory_rings.specs.Division.{Divides, IsGcd, IsCoprime}
 use Rattle.theory_rings.specs.Fraction.{SameFraction, Fraction, IsLowest, IsFractionField}
+use Rattle.theory_rings.proofs.RingLaws.{left_ne_zero_of_mul, right_ne_zero_of_mul}
 use Rattle.theory_rings.proofs.Solver.{◌⊞◌, ◌⊠◌, v0, v1, v2, v3, v4, var, ring4, ring5, by_sorted}
 use Rattle.theory_rings.proofs.PolynomialRing.{constant, is_zero_poly, zero_poly_test}
 use Rattle.theory_rings.proofs.Degrees.{length_pos, ne_zero_of_length, lead-ne-zero, lead-constant, eq_constant}
 use Rattle.theory_rings.proofs.Constants.{constant-one, constant_hom}
 use Rattle.theory_rings.proofs.Fields.{mul-inv, field_set}
-use Rattle.theory_rings.proofs.Bezout.{field_polynomials, field_degree-mul, field_lead-mul, poly_mul-ne-zero, poly_mul_cancel_left, left_ne_zero_of_mul, right_ne_zero_of_mul, poly_one-ne-zero, gcd, coprime_of_bezout, divides_of_coprime}
+use Rattle.theory_rings.proofs.Bezout.{field_polynomials, field_degree-mul, field_lead-mul, poly_mul-ne-zero, poly_mul_cancel_left, poly_one-ne-zero, constant_inverse, gcd, coprime_comm, coprime_of_bezout, divides_of_coprime}
 use Rattle.theory_rings.proofs.Fractions.{IsReduction, fraction_field, is_fraction_field}
 
 module _ {K : Type 0} (F : FieldOn K) where
@@ -49,12 +50,11 @@ module _ {K : Type 0} (F : FieldOn K) where
   normalizer-inverse : (v : Poly R) → v ≢ P.zero → P.◌⊗◌ (constant R F.zero_test (lead R v)) (normalizer v) ≡ P.one
   unfolding normalizer
   normalizer-inverse v h =
-      let H = constant_hom R F.zero_test in
-      sym (H.map-mul (lead R v) (F.inv (lead R v))) ∙ ap (constant R F.zero_test) (mul-inv F (lead R v) (lead-ne-zero R F.zero_test v h)) ∙ H.map-one
+      P.mul_comm (constant R F.zero_test (lead R v)) (normalizer v) ∙ constant_inverse F (lead R v) (lead-ne-zero R F.zero_test v h)
 
   normalizer-ne-zero : (v : Poly R) → v ≢ P.zero → normalizer v ≢ P.zero
   normalizer-ne-zero v h =
-      right_ne_zero_of_mul F (constant R F.zero_test (lead R v)) (normalizer v) (λ e. poly_one-ne-zero F (sym (normalizer-inverse v h) ∙ e))
+      right_ne_zero_of_mul P.ring (constant R F.zero_test (lead R v)) (normalizer v) (λ e. poly_one-ne-zero F (sym (normalizer-inverse v h) ∙ e))
 
   -- it does
   IsMonic-normalizer : (v : Poly R) → v ≢ P.zero → IsMonic R (P.◌⊗◌ (normalizer v) v)
@@ -91,7 +91,7 @@ module _ {K : Type 0} (F : FieldOn K) where
           product-ne-zero z = h (e.right.1 ∙ z)
 
           b-ne-zero : b ≢ P.zero
-          b-ne-zero = left_ne_zero_of_mul F b g product-ne-zero
+          b-ne-zero = left_ne_zero_of_mul P.ring b g product-ne-zero
 
           k : Poly R
           k = normalizer b
@@ -102,7 +102,7 @@ module _ {K : Type 0} (F : FieldOn K) where
           -- the cofactors are coprime, as g cancels
           cofactors : P.◌⊕◌ (P.◌⊗◌ e.s a) (P.◌⊗◌ e.t b) ≡ P.one
           cofactors =
-              poly_mul_cancel_left F g (P.◌⊕◌ (P.◌⊗◌ e.s a) (P.◌⊗◌ e.t b)) P.one (right_ne_zero_of_mul F b g product-ne-zero)
+              poly_mul_cancel_left F g (P.◌⊕◌ (P.◌⊗◌ e.s a) (P.◌⊗◌ e.t b)) P.one (right_ne_zero_of_mul P.ring b g product-ne-zero)
               (ring5 P (λ g s a t b. (g ⊠ (s ⊠ a ⊞ t ⊠ b), s ⊠ (a ⊠ g) ⊞ t ⊠ (b ⊠ g))) refl g e.s a e.t b
               ∙ ap₂ (λ x y. P.◌⊕◌ (P.◌⊗◌ e.s x) (P.◌⊗◌ e.t y)) (sym e.left.1) (sym e.right.1)
               ∙ sym e.combined ∙ sym (P.mul-one g))
@@ -127,7 +127,7 @@ module _ {K : Type 0} (F : FieldOn K) where
       c = d.0
 
       c-ne-zero : c ≢ P.zero
-      c-ne-zero = left_ne_zero_of_mul F c v (λ e. w-ne-zero (d.1 ∙ e))
+      c-ne-zero = left_ne_zero_of_mul P.ring c v (λ e. w-ne-zero (d.1 ∙ e))
 
       flat : degree c.0 ≡ 0
       flat = omega (
@@ -135,7 +135,7 @@ module _ {K : Type 0} (F : FieldOn K) where
         ap (λ x. degree x.0) d.1,
         ap (λ x. degree x.0) d'.1,
         field_degree-mul F c v c-ne-zero v-ne-zero,
-        field_degree-mul F d'.0 w (left_ne_zero_of_mul F d'.0 w (λ e. v-ne-zero (d'.1 ∙ e))) w-ne-zero,
+        field_degree-mul F d'.0 w (left_ne_zero_of_mul P.ring d'.0 w (λ e. v-ne-zero (d'.1 ∙ e))) w-ne-zero,
       )
 
       lead_one : lead R c ≡ F.one
@@ -152,14 +152,11 @@ module _ {K : Type 0} (F : FieldOn K) where
   pub lowest_terms_unique : (u v u' v' : Poly R) → Lowest u v → Lowest u' v' → SameFraction P u v u' v' → (u ≡ u') × (v ≡ v')
   lowest_terms_unique u v u' v' h h' e = (numerators, denominators)
     where
-      turned : (a b : Poly R) → IsCoprime R P a b → IsCoprime R P b a
-      turned a b c g da db = c g db da
-
       divides : Divides P v v'
-      divides = divides_of_coprime F v u v' (turned u v h.coprime) (u', e)
+      divides = divides_of_coprime F v u v' (coprime_comm F u v h.coprime) (u', e)
 
       divides' : Divides P v' v
-      divides' = divides_of_coprime F v' u' v (turned u' v' h'.coprime) (u, sym e)
+      divides' = divides_of_coprime F v' u' v (coprime_comm F u' v' h'.coprime) (u, sym e)
 
       denominators : v ≡ v'
       denominators = monic_eq_of_divides v v' h.monic h'.monic divides divides'

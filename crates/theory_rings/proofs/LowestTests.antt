@@ -1,27 +1,15 @@
 -- Tests that decide whether polynomials over a field are coprime, and whether a fraction is in lowest terms.
-use Rattle.std.specs.Prelude.{◌≡◌, suc, Bool, true, false, ◌&&◌, eqb, length}
-use Rattle.std.proofs.Common.{refl, sym, ◌∙◌, ap, ap₂, arith}
-use Rattle.std.proofs.lemmas.Bool.{eqb-true, eq-eqb}
+use Rattle.std.specs.Prelude.{◌≡◌, suc, Bool, true, ◌&&◌, eqb, length}
+use Rattle.std.proofs.Common.{refl, sym, ◌∙◌, ap, arith}
+use Rattle.std.proofs.lemmas.Bool.{eqb-true, eq-eqb, and_from, and_parts}
 use Rattle.theory_rings.specs.Ring.{FieldOn, CommRingOn}
 use Rattle.theory_rings.specs.Polynomial.{Poly, lead, degree, IsMonic}
 use Rattle.theory_rings.specs.Division.{IsCoprime, IsGcd}
 use Rattle.theory_rings.proofs.ZeroTests.{eq_of_sub_eq_zero, sub_eq_zero_of_eq}
-use Rattle.theory_rings.proofs.Solver.{◌⊞◌, ◌⊠◌, ring5}
 use Rattle.theory_rings.proofs.PolynomialRing.{constant}
 use Rattle.theory_rings.proofs.Degrees.{length-degree, ne_zero_of_length, length-degree_of_ne_zero}
-use Rattle.theory_rings.proofs.Bezout.{field_polynomials, gcd, degree_zero_inverse, coprime_of_bezout, coprime_gcd-ne-zero}
+use Rattle.theory_rings.proofs.Bezout.{field_polynomials, gcd, combination_one, coprime_of_bezout, coprime_gcd-ne-zero}
 use Rattle.theory_rings.proofs.Lowest.{Lowest}
-
-and_both : (a b : Bool) → a ≡ true → b ≡ true → a && b ≡ true
-and_both a b e f = ap₂ (λ x y. x && y) e f
-
-and_left : (a b : Bool) → a && b ≡ true → a ≡ true
-and_left true b e = refl
-and_left false b e = e
-
-and_right : (a b : Bool) → a && b ≡ true → b ≡ true
-and_right true b e = e
-and_right false b e = cc
 
 module _ {K : Type 0} (F : FieldOn K) where
   abbrev R : CommRingOn K
@@ -43,9 +31,7 @@ module _ {K : Type 0} (F : FieldOn K) where
           let k : Poly R = constant R F.zero_test (F.inv (lead R g)) in
           let flat : degree g.0 ≡ 0 = omega (arith, length-degree R g (omega arith)) in
           coprime_of_bezout F a b (P.◌⊗◌ k d.s) (P.◌⊗◌ k d.t)
-          (ring5 P (λ k s a t b. ((k ⊠ s) ⊠ a ⊞ (k ⊠ t) ⊠ b, k ⊠ (s ⊠ a ⊞ t ⊠ b))) refl k d.s a d.t b
-          ∙ ap (P.◌⊗◌ k) (sym d.combined)
-          ∙ degree_zero_inverse F g (ne_zero_of_length R F.zero_test g (omega arith)) flat)
+          (combination_one F a b g d (ne_zero_of_length R F.zero_test g (omega arith)) flat)
 
   pub is_coprime-complete : (a b : Poly R) → IsCoprime R P a b → is_coprime a b ≡ true
   unfolding is_coprime
@@ -64,14 +50,14 @@ module _ {K : Type 0} (F : FieldOn K) where
       let a : Bool = eqb (length v.0) (suc (degree v.0)) in
       let b : Bool = F.is_zero (F.◌⊕◌ (lead R v) (F.neg F.one)) in
       record {
-        nonzero = omega (arith, eqb-true (length v.0) (suc (degree v.0)) (and_left a b e));
-        leading = eq_of_sub_eq_zero F.additive (lead R v) F.one (F.is_zero-sound (F.◌⊕◌ (lead R v) (F.neg F.one)) (and_right a b e));
+        nonzero = omega (arith, eqb-true (length v.0) (suc (degree v.0)) (and_parts a b e).0);
+        leading = eq_of_sub_eq_zero F.additive (lead R v) F.one (F.is_zero-sound (F.◌⊕◌ (lead R v) (F.neg F.one)) (and_parts a b e).1);
       }
 
   pub is_monic-complete : (v : Poly R) → IsMonic R v → is_monic v ≡ true
   unfolding is_monic
   is_monic-complete v h =
-      and_both (eqb (length v.0) (suc (degree v.0))) (F.is_zero (F.◌⊕◌ (lead R v) (F.neg F.one)))
+      and_from (eqb (length v.0) (suc (degree v.0))) (F.is_zero (F.◌⊕◌ (lead R v) (F.neg F.one)))
       (eq-eqb (length v.0) (suc (degree v.0)) (length-degree R v h.nonzero))
       (ap F.is_zero (sub_eq_zero_of_eq F.additive (lead R v) F.one h.leading) ∙ F.is_zero-zero)
 
@@ -81,10 +67,10 @@ module _ {K : Type 0} (F : FieldOn K) where
   pub is_lowest-sound : (u v : Poly R) → is_lowest u v ≡ true → Lowest F u v
   unfolding is_lowest
   is_lowest-sound u v e = record {
-    monic = is_monic-sound v (and_left (is_monic v) (is_coprime u v) e);
-    coprime = is_coprime-sound u v (and_right (is_monic v) (is_coprime u v) e);
+    monic = is_monic-sound v (and_parts (is_monic v) (is_coprime u v) e).0;
+    coprime = is_coprime-sound u v (and_parts (is_monic v) (is_coprime u v) e).1;
   }
 
   pub is_lowest-complete : (u v : Poly R) → Lowest F u v → is_lowest u v ≡ true
   unfolding is_lowest
-  is_lowest-complete u v h = and_both (is_monic v) (is_coprime u v) (is_monic-complete v h.monic) (is_coprime-complete u v h.coprime)
+  is_lowest-complete u v h = and_from (is_monic v) (is_coprime u v) (is_monic-complete v h.monic) (is_coprime-complete u v h.coprime)

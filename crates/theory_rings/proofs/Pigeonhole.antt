@@ -1,81 +1,42 @@
--- The pigeonhole principle: a one-to-one map of the numbers below n to themselves is onto.
-use Rattle.std.specs.Prelude.{◌≡◌, ℕ, zero, suc, ◌<◌, cond, eqb}
-use Rattle.std.proofs.Common.{refl, sym, ◌∙◌, arith, ⊎_elim}
-use Rattle.std.proofs.lemmas.Bool.{cases_eq, eq-eqb, ne_eqb}
+-- The pigeonhole principle: a one-to-one map of the numbers below n to themselves is onto, as each number is met as often as
+-- it stands among them, once.
+use Rattle.std.specs.Prelude.{◌≡◌, ℕ, zero, suc, ◌+◌, ◌<◌, ◌≤◌, Bool, true, false, cond, eqb}
+use Rattle.std.proofs.Common.{refl, sym, ◌∙◌, ap, arith, ⊎_elim}
+use Rattle.std.proofs.lemmas.Bool.{cases_lt, cases_eq, eq-eqb, ne_eqb}
+use Rattle.theory_rings.specs.Sum.{sum}
+use Rattle.theory_rings.specs.Naturals.{nat_monoid}
+use Rattle.theory_rings.proofs.Sums.{sum_eq_single}
+use Rattle.theory_rings.proofs.Reindex.{sum_reindex}
 
--- the map that sends to m what f sends to n
-abbrev redirect : ℕ → ℕ → (ℕ → ℕ) → ℕ → ℕ
-redirect n m f a = cond (eqb (f a) n) m (f a)
+-- a sum that is not 0 has a term that is not 0
+pub term_pos_of_sum_pos : (n : ℕ) (f : ℕ → ℕ) → 0 < sum nat_monoid n f → (i : ℕ) × (i < n) × (0 < f i)
+term_pos_of_sum_pos zero f h = absurd (omega arith)
+term_pos_of_sum_pos (suc n) f h = ⊎_elim
+    (λ (l : 0 < f n). (n, omega arith, l))
+    (λ (l : f n ≤ 0). let r = term_pos_of_sum_pos n f (omega arith) in (r.0, omega arith, r.2))
+    (cases_lt 0 (f n))
 
-redirect-eq : (n m : ℕ) (f : ℕ → ℕ) (a : ℕ) → f a ≡ n → redirect n m f a ≡ m
-redirect-eq n m f a e = rw (eq-eqb (f a) n e) refl
+-- 1 at b, and else 0
+abbrev indicator : ℕ → ℕ → ℕ
+indicator b i = cond (eqb i b) 1 0
 
-redirect-ne : (n m : ℕ) (f : ℕ → ℕ) (a : ℕ) → (f a ≡ n → ⊥) → redirect n m f a ≡ f a
-redirect-ne n m f a e = rw (ne_eqb (f a) n e) refl
+indicator-same : (b : ℕ) → indicator b b ≡ 1
+indicator-same b = ap (λ t. cond t 1 0) (eq-eqb b b refl)
 
-module _ (n : ℕ) (f : ℕ → ℕ) (into : (a : ℕ) → a < suc n → f a < suc n)
-    (one : (a b : ℕ) → a < suc n → b < suc n → f a ≡ f b → a ≡ b) where
-  abbrev redirected : ℕ → ℕ
-  redirected = redirect n (f n) f
-
-  apart_last : (a : ℕ) → a < n → f a ≡ f n → ⊥
-  apart_last a l e = let h : a ≡ n = one a n (omega arith) (omega arith) e in omega arith
-
-  redirect-below : (a : ℕ) → a < n → redirected a < n
-  redirect-below a l = ⊎_elim
-      (λ (e : f a ≡ n).
-      let d = redirect-eq n (f n) f a e in
-      let h = into n (omega arith) in
-      let k : f n ≡ n → ⊥ = λ z. apart_last a l (e ∙ sym z) in
-      omega arith)
-      (λ (e : f a ≡ n → ⊥). let d = redirect-ne n (f n) f a e in let h = into a (omega arith) in omega arith)
-      (cases_eq (f a) n)
-
-  redirect-injective : (a b : ℕ) → a < n → b < n → redirected a ≡ redirected b → a ≡ b
-  redirect-injective a b la lb e = ⊎_elim
-      (λ (ea : f a ≡ n). ⊎_elim
-      (λ (eb : f b ≡ n). one a b (omega arith) (omega arith) (ea ∙ sym eb))
-      (λ (nb : f b ≡ n → ⊥). absurd (apart_last b lb (sym (redirect-ne n (f n) f b nb) ∙ sym e ∙ redirect-eq n (f n) f a ea)))
-      (cases_eq (f b) n))
-      (λ (na : f a ≡ n → ⊥). ⊎_elim
-      (λ (eb : f b ≡ n). absurd (apart_last a la (sym (redirect-ne n (f n) f a na) ∙ e ∙ redirect-eq n (f n) f b eb)))
-      (λ (nb : f b ≡ n → ⊥). one a b (omega arith) (omega arith) (sym (redirect-ne n (f n) f a na) ∙ e ∙ redirect-ne n (f n) f b nb))
-      (cases_eq (f b) n))
-      (cases_eq (f a) n)
-
-  -- what the redirected map reaches, f reaches
-  reached : ((b : ℕ) → b < n → (a : ℕ) × (a < n) × (redirected a ≡ b)) → (b : ℕ) → b < suc n → (a : ℕ) × (a < suc n) × (f a ≡ b)
-  reached onto b l = ⊎_elim
-      (λ (e : f n ≡ b). (n, omega arith, e))
-      (λ (d : f n ≡ b → ⊥). ⊎_elim (λ (e : b ≡ n). last d e) (λ (k : b ≡ n → ⊥). earlier d (omega arith)) (cases_eq b n))
-      (cases_eq (f n) b)
-    where
-      last : (f n ≡ b → ⊥) → b ≡ n → (a : ℕ) × (a < suc n) × (f a ≡ b)
-      last d e =
-          let h = into n (omega arith) in
-          let r = onto (f n) (omega arith) in (
-            r.0,
-            omega arith,
-            ⊎_elim
-                (λ (k : f r.0 ≡ n). k ∙ sym e)
-                (λ (k : f r.0 ≡ n → ⊥). absurd (apart_last r.0 r.1 (sym (redirect-ne n (f n) f r.0 k) ∙ r.2)))
-                (cases_eq (f r.0) n),
-          )
-
-      earlier : (f n ≡ b → ⊥) → b < n → (a : ℕ) × (a < suc n) × (f a ≡ b)
-      earlier d h =
-          let r = onto b h in (
-            r.0,
-            omega arith,
-            ⊎_elim
-                (λ (k : f r.0 ≡ n). absurd (d (sym (redirect-eq n (f n) f r.0 k) ∙ r.2)))
-                (λ (k : f r.0 ≡ n → ⊥). sym (redirect-ne n (f n) f r.0 k) ∙ r.2)
-                (cases_eq (f r.0) n),
-          )
+indicator-other : (b i : ℕ) → (i ≡ b → ⊥) → indicator b i ≡ 0
+indicator-other b i d = ap (λ t. cond t 1 0) (ne_eqb i b d)
 
 pub surjective_of_injective : (n : ℕ) (f : ℕ → ℕ) → ((a : ℕ) → a < n → f a < n)
     → ((a b : ℕ) → a < n → b < n → f a ≡ f b → a ≡ b) → (b : ℕ) → b < n → (a : ℕ) × (a < n) × (f a ≡ b)
-surjective_of_injective zero f into one b l = absurd (omega arith)
-surjective_of_injective (suc n) f into one b l =
-    reached n f into one
-    (surjective_of_injective n (redirect n (f n) f) (redirect-below n f into one) (redirect-injective n f into one)) b l
+surjective_of_injective n f into one b l =
+    let met : sum nat_monoid n (λ i. indicator b (f i)) ≡ 1 =
+    sum_reindex nat_monoid n f (indicator b) into one
+    ∙ sum_eq_single nat_monoid n b (indicator b) l (λ i _ d. indicator-other b i d) ∙ indicator-same b in
+    let r = term_pos_of_sum_pos n (λ i. indicator b (f i)) (omega arith) in (
+      r.0,
+      r.1,
+      ⊎_elim
+          (λ (e : f r.0 ≡ b). e)
+          (λ (d : f r.0 ≡ b → ⊥). let z = indicator-other b (f r.0) d in let p = r.2 in absurd (omega arith))
+          (cases_eq (f r.0) b),
+    )

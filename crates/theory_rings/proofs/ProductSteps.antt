@@ -7,7 +7,7 @@ use Rattle.std.proofs.Math.Nat.{mod-mod, one-le-pow, lt_of_lt_of_le, mul-div_can
 use Rattle.std.proofs.lemmas.Nat.{mod_below}
 use Rattle.std.proofs.lemmas.Bool.{cases_lt}
 use Rattle.theory_rings.specs.Ring.{CommRingOn, ZeroTest}
-use Rattle.theory_rings.specs.IntegersMod.{Fin, residue, residue_is_zero}
+use Rattle.theory_rings.specs.IntegersMod.{integers_mod, Fin, residue, residue_is_zero}
 use Rattle.theory_rings.specs.Digits.{digit}
 use Rattle.theory_rings.specs.Polynomial.{constant_coefficients}
 use Rattle.theory_rings.specs.FieldByDigits.{modulus_coefficient, size_by_digits, IsSumByDigits, IsProductByDigits}
@@ -17,7 +17,7 @@ use Rattle.theory_rings.proofs.IntegersMod.{residue_eq, residue-zero, residue-ad
 use Rattle.theory_rings.proofs.Digits.{digit-suc, digit_past, le_pow_self}
 use Rattle.theory_rings.proofs.PolynomialRing.{Poly-path, coefficient-add, constant, coefficient-constant, prepend}
 use Rattle.theory_rings.proofs.Constants.{variable, prepend-zero, coefficient-constant_mul}
-use Rattle.theory_rings.proofs.DigitPolynomials.{residues, DigitPoly, digit_polynomials, polynomial_of, coefficient-polynomial_of, polynomial_of-zero, polynomial_of-one, polynomial_of-constant, polynomial_of-prepend}
+use Rattle.theory_rings.proofs.DigitPolynomials.{DigitPoly, digit_polynomials, polynomial_of, coefficient-polynomial_of, polynomial_of-zero, polynomial_of-one, polynomial_of-constant, polynomial_of-prepend}
 use Rattle.theory_rings.proofs.FieldByDigits.{modulus, coefficient-modulus, polynomial_of-sum, polynomial_of-product, product_from_polynomial}
 
 module _ (p : ℕ) (two_le : 2 ≤ p) (m : List ℕ) where
@@ -26,7 +26,7 @@ module _ (p : ℕ) (two_le : 2 ≤ p) (m : List ℕ) where
   open digit_polynomials p two_le use {◌⊕◌, ◌⊗◌}
 
   abbrev R : CommRingOn (Fin p)
-  R = residues p two_le
+  R = integers_mod p two_le
 
   abbrev P : CommRingOn (DigitPoly p two_le)
   P = digit_polynomials p two_le

@@ -4,26 +4,8 @@ use Rattle.std.proofs.Common.{refl, sym, ◌∙◌, ap, arith, ⊎_elim}
 use Rattle.std.proofs.lemmas.Bool.{cases_lt, lt-ltb, le-ltb}
 use Rattle.theory_rings.specs.Ring.{AddCommMonoidOn}
 use Rattle.theory_rings.specs.Sum.{sum}
-use Rattle.theory_rings.proofs.Sums.{bump, bump-below, bump-above, sum_congr, sum_take_out}
-
--- the number before which k is left out
-abbrev unbump : ℕ → ℕ → ℕ
-unbump k j = cond (ltb j k) j (pred j)
-
-bump-unbump : (k j : ℕ) → (j ≡ k → ⊥) → bump k (unbump k j) ≡ j
-bump-unbump k j d = ⊎_elim
-    (λ (l : j < k). rw (lt-ltb j k l) (bump-below k j l))
-    (λ (l : k ≤ j). rw (le-ltb j k l) (⊎_elim (λ (g : k < j). bump-above k (pred j) (omega arith) ∙ omega arith) (λ (g : j ≤ k). absurd (d (omega arith))) (cases_lt k j)))
-    (cases_lt j k)
-
-unbump-lt : (n k j : ℕ) → k < suc n → j < suc n → (j ≡ k → ⊥) → unbump k j < n
-unbump-lt n k j a b d = ⊎_elim
-    (λ (l : j < k). rw (lt-ltb j k l) (omega arith))
-    (λ (l : k ≤ j). rw (le-ltb j k l) (⊎_elim (λ (g : k < j). pred_smaller n k j a b g) (λ (g : j ≤ k). absurd (d (omega arith))) (cases_lt k j)))
-    (cases_lt j k)
-  where
-    pred_smaller : (n k j : ℕ) → k < suc n → j < suc n → k < j → pred j < n
-    pred_smaller n k j a b g = omega arith
+use Rattle.theory_rings.proofs.Bump.{bump, unbump, bump-unbump, unbump-lt}
+use Rattle.theory_rings.proofs.Sums.{sum_congr, sum_take_out}
 
 module _ {V : Type 0} (M : AddCommMonoidOn V) where
   infixl 65 ◌⊕◌

@@ -11,7 +11,8 @@ use Rattle.theory_rings.proofs.RingLaws.{zero-mul}
 use Rattle.theory_rings.proofs.PolynomialRing.{polynomials, coefficient-one, constant_past, is_zero_poly, zero_poly_test}
 use Rattle.theory_rings.proofs.Degrees.{length_le, zero-length, length-add_le, length-neg_le, length-degree}
 use Rattle.theory_rings.proofs.Division.{divide, division_unique}
-use Rattle.theory_rings.proofs.Residues.{residues-zero, residues-one, residues-add, residues-neg, residues-mul, IsResidueSystem, residues, residue, residue_hom, residue_eq, residue-small, congruent_of_residue, Residue-path, congruent_of_eq, congruent_sym}
+use Rattle.theory_rings.proofs.Congruences.{congruent_of_eq, congruent_sym}
+use Rattle.theory_rings.proofs.Representatives.{representatives-zero, representatives-one, representatives-add, representatives-neg, representatives-mul, IsRepresentativeSystem, representatives, representative, representative_hom, representative_eq, representative-small, congruent_of_representative, Representative-path}
 
 module _ {K : Type 0} (R : CommRingOn K) {is_zero : K → Bool} (Z : ZeroTest R.zero is_zero) (m : Poly R) (monic : IsMonic R m) where
   abbrev P : CommRingOn (Poly R)
@@ -34,8 +35,8 @@ module _ {K : Type 0} (R : CommRingOn K) {is_zero : K → Bool} (Z : ZeroTest R.
   unfolding quo rem
   rem-division a = let d = divide R Z m R.one lead_unit monic.nonzero a in d.2
 
-  pub is_residue_system : IsResidueSystem P m Small rem
-  is_residue_system = record {
+  pub is_representative_system : IsRepresentativeSystem P m Small rem
+  is_representative_system = record {
     small_prop = λ a. le_prop;
     rem-small = λ a. let d = rem-division a in d.smaller;
     rem-congruent = λ a. let d = rem-division a in (quo a, d.whole ∙ P.add_comm (P.◌⊗◌ (quo a) m) (rem a));
@@ -54,11 +55,11 @@ module _ {K : Type 0} (R : CommRingOn K) {is_zero : K → Bool} (Z : ZeroTest R.
 
   -- the ring of remainders
   pub remainders : CommRingOn (Remainder R m)
-  remainders = residues P m Small rem is_residue_system
+  remainders = representatives P m Small rem is_representative_system
 
   -- the remainder of a
   pub remainder : Poly R → Remainder R m
-  remainder a = residue P m Small rem is_residue_system a
+  remainder a = representative P m Small rem is_representative_system a
 
   pub remainder-rem : (a : Poly R) → (remainder a).0 ≡ rem a
   unfolding remainder
@@ -67,29 +68,29 @@ module _ {K : Type 0} (R : CommRingOn K) {is_zero : K → Bool} (Z : ZeroTest R.
   -- taking the remainder keeps 1, sums and products
   pub remainder_hom : IsRingHom P.ring remainders.ring remainder
   unfolding remainders remainder
-  remainder_hom = residue_hom P m Small rem is_residue_system
+  remainder_hom = representative_hom P m Small rem is_representative_system
 
   -- a remainder is its own remainder
   pub remainder-small : (a : Remainder R m) → remainder a.0 ≡ a
   unfolding remainder
-  remainder-small a = residue-small P m Small rem is_residue_system a
+  remainder-small a = representative-small P m Small rem is_representative_system a
 
   -- congruent polynomials have the same remainder
   pub remainder_eq : (a b : Poly R) → Congruent P m a b → remainder a ≡ remainder b
   unfolding remainder
-  remainder_eq a b s = residue_eq P m Small rem is_residue_system a b s
+  remainder_eq a b s = representative_eq P m Small rem is_representative_system a b s
 
   pub congruent_of_remainder : (a b : Poly R) → remainder a ≡ remainder b → Congruent P m a b
   unfolding remainder
-  congruent_of_remainder a b e = congruent_of_residue P m Small rem is_residue_system a b e
+  congruent_of_remainder a b e = congruent_of_representative P m Small rem is_representative_system a b e
 
   -- congruent remainders are one
   pub Remainder-path : (a b : Remainder R m) → Congruent P m a.0 b.0 → a ≡ b
-  Remainder-path a b s = Residue-path P m Small rem is_residue_system a b s
+  Remainder-path a b s = Representative-path P m Small rem is_representative_system a b s
 
   pub remainder_congruent : (a : Poly R) → Congruent P m (remainder a).0 a
   unfolding remainder
-  remainder_congruent a = congruent_sym P m a (rem a) (let S = is_residue_system in S.rem-congruent a)
+  remainder_congruent a = congruent_sym P m a (rem a) (let S = is_representative_system in S.rem-congruent a)
 
   pub remainder_of_small : (a : Poly R) (s : length a.0 < length m.0) → remainder a ≡ (a, s)
   remainder_of_small a s = remainder-small (a, s)
@@ -97,23 +98,23 @@ module _ {K : Type 0} (R : CommRingOn K) {is_zero : K → Bool} (Z : ZeroTest R.
   -- the operations: sums, opposites and 0 are those of polynomials, products are taken modulo m
   pub remainders-zero : remainders.zero ≡ remainder P.zero
   unfolding remainders remainder
-  remainders-zero = residues-zero P m Small rem is_residue_system
+  remainders-zero = representatives-zero P m Small rem is_representative_system
 
   pub remainders-one : remainders.one ≡ remainder P.one
   unfolding remainders remainder
-  remainders-one = residues-one P m Small rem is_residue_system
+  remainders-one = representatives-one P m Small rem is_representative_system
 
   pub remainders-add : (a b : Remainder R m) → remainders.◌⊕◌ a b ≡ remainder (P.◌⊕◌ a.0 b.0)
   unfolding remainders remainder
-  remainders-add a b = residues-add P m Small rem is_residue_system a b
+  remainders-add a b = representatives-add P m Small rem is_representative_system a b
 
   pub remainders-neg : (a : Remainder R m) → remainders.neg a ≡ remainder (P.neg a.0)
   unfolding remainders remainder
-  remainders-neg a = residues-neg P m Small rem is_residue_system a
+  remainders-neg a = representatives-neg P m Small rem is_representative_system a
 
   pub remainders-mul : (a b : Remainder R m) → remainders.◌⊗◌ a b ≡ remainder (P.◌⊗◌ a.0 b.0)
   unfolding remainders remainder
-  remainders-mul a b = residues-mul P m Small rem is_residue_system a b
+  remainders-mul a b = representatives-mul P m Small rem is_representative_system a b
 
   pub remainders-zero_poly : remainders.zero.0 ≡ P.zero
   remainders-zero_poly = ap (λ x. x.0) (remainders-zero ∙ remainder_of_small P.zero (omega (arith, zero-length R Z, monic.nonzero)))

@@ -9,7 +9,7 @@ use Rattle.theory_rings.specs.Ring.{CommRingOn, ZeroTest}
 use Rattle.theory_rings.specs.Ops.{Ops, IsElem, FieldLaws}
 use Rattle.theory_rings.specs.Elements.{Elem}
 use Rattle.theory_rings.specs.Homomorphism.{IsRingHom}
-use Rattle.theory_rings.specs.IntegersMod.{Fin, Fin-path, value-lt, residue, residue_is_zero}
+use Rattle.theory_rings.specs.IntegersMod.{integers_mod, Fin, Fin-path, value-lt, residue, residue_is_zero}
 use Rattle.theory_rings.specs.Digits.{digit, of_digits}
 use Rattle.theory_rings.specs.Polynomial.{coefficient}
 use Rattle.theory_rings.specs.Remainder.{Remainder}
@@ -20,12 +20,12 @@ use Rattle.theory_rings.proofs.Digits.{le_pow_self}
 use Rattle.theory_rings.proofs.Embedding.{RingEmbedding, embedded_comm_ring, FieldEmbedding, embedded_field}
 use Rattle.theory_rings.proofs.PolynomialRing.{is_polynomial_ring}
 use Rattle.theory_rings.proofs.Remainders.{remainders, remainder_eq, remainder_of_small, remainders-zero_poly, remainders-one_poly, remainders-add_poly, remainders-mul, is_remainder_ring}
-use Rattle.theory_rings.proofs.DigitPolynomials.{DigitPoly, residues, digit_polynomials, polynomial_of, coefficient-polynomial_of, number_of, number_of_lt, polynomial_of-number_of, polynomial_of-injective, length-polynomial_of, polynomial_of-zero, polynomial_of-one}
+use Rattle.theory_rings.proofs.DigitPolynomials.{DigitPoly, digit_polynomials, polynomial_of, coefficient-polynomial_of, number_of, number_of_lt, polynomial_of-number_of, polynomial_of-injective, length-polynomial_of, polynomial_of-zero, polynomial_of-one}
 use Rattle.theory_rings.proofs.FieldByDigits.{modulus, coefficient-modulus, length-modulus, degree-modulus, modulus_monic, polynomial_of-sum, polynomial_of-product, sum_by_digits, sum_unique, product_exists, product_unique}
 
 module _ (p : ℕ) (two_le : 2 ≤ p) (m : List ℕ) where
   abbrev R : CommRingOn (Fin p)
-  R = residues p two_le
+  R = integers_mod p two_le
 
   abbrev Z : ZeroTest R.zero (residue_is_zero p two_le)
   Z = residue_zero_test p two_le
@@ -211,10 +211,10 @@ module _ (p : ℕ) (two_le : 2 ≤ p) (m : List ℕ) where
 
     -- a program's operations that are these, with inverses, are a field
     module _ (o : Ops ℕ) (F : IsFieldByDigits p m o) where
-      elem_lt : (a : ℕ) → IsElem o a → a < q
+      pub elem_lt : (a : ℕ) → IsElem o a → a < q
       elem_lt a h = ltb-true a q (sym (F.is_elem a) ∙ h)
 
-      lt_elem : (a : ℕ) → a < q → IsElem o a
+      pub lt_elem : (a : ℕ) → a < q → IsElem o a
       lt_elem a l = F.is_elem a ∙ lt-ltb a q l
 
       abbrev image : Elem o → RemainderByDigits

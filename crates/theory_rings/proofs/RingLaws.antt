@@ -1,7 +1,7 @@
--- What follows from the laws of a monoid, a group, a ring and a commutative ring.
-use Rattle.std.specs.Prelude.{◌≡◌}
+-- What follows from the laws of a monoid, a group and a ring.
+use Rattle.std.specs.Prelude.{◌≡◌, ◌≢◌}
 use Rattle.std.proofs.Common.{sym, ◌∙◌, ap}
-use Rattle.theory_rings.specs.Ring.{AddCommMonoidOn, AddCommGroupOn, RingOn, CommRingOn}
+use Rattle.theory_rings.specs.Ring.{AddCommMonoidOn, AddCommGroupOn, RingOn}
 
 module _ {V : Type 0} (M : AddCommMonoidOn V) where
   infixl 65 ◌⊕◌
@@ -41,34 +41,41 @@ module _ {V : Type 0} (G : AddCommGroupOn V) where
   neg_add a b = sym (neg_unique (a ⊕ b) (neg a ⊕ neg b)
       (G.add_assoc a b (neg a ⊕ neg b) ∙ ap (λ x. a ⊕ x) (add_left_comm monoid b (neg a) (neg b) ∙ ap (λ x. neg a ⊕ x) (add-neg b) ∙ add-zero monoid (neg a)) ∙ add-neg a))
 
+-- a map that keeps sums keeps 0 and opposites
+module _ {V W : Type 0} (G : AddCommGroupOn V) (H : AddCommGroupOn W) (h : V → W)
+    (map-add : (a b : V) → h (G.◌⊕◌ a b) ≡ H.◌⊕◌ (h a) (h b)) where
+  pub additive-zero : h G.zero ≡ H.zero
+  additive-zero = add_cancel_left H (h G.zero) (h G.zero) H.zero
+      (sym (map-add G.zero G.zero) ∙ ap h (G.zero-add G.zero) ∙ sym (add-zero H.monoid (h G.zero)))
+
+  pub additive-neg : (a : V) → h (G.neg a) ≡ H.neg (h a)
+  additive-neg a = neg_unique H (h a) (h (G.neg a)) (sym (map-add a (G.neg a)) ∙ ap h (add-neg G a) ∙ additive-zero)
+
 module _ {K : Type 0} (R : RingOn K) where
   infixl 65 ◌⊕◌
   infixl 70 ◌⊗◌
   open R use {additive, monoid, zero, one, ◌⊕◌, ◌⊗◌, neg}
 
   pub mul-zero : (a : K) → a ⊗ zero ≡ zero
-  mul-zero a = add_cancel_left additive (a ⊗ zero) (a ⊗ zero) zero
-      (sym (R.mul-add a zero zero) ∙ ap (λ x. a ⊗ x) (R.zero-add zero) ∙ sym (add-zero monoid (a ⊗ zero)))
+  mul-zero a = additive-zero additive additive (λ x. a ⊗ x) (R.mul-add a)
 
   pub zero-mul : (a : K) → zero ⊗ a ≡ zero
-  zero-mul a = add_cancel_left additive (zero ⊗ a) (zero ⊗ a) zero
-      (sym (R.add-mul zero zero a) ∙ ap (λ x. x ⊗ a) (R.zero-add zero) ∙ sym (add-zero monoid (zero ⊗ a)))
+  zero-mul a = additive-zero additive additive (λ x. x ⊗ a) (λ x y. R.add-mul x y a)
 
   pub mul-neg : (a b : K) → a ⊗ neg b ≡ neg (a ⊗ b)
-  mul-neg a b = neg_unique additive (a ⊗ b) (a ⊗ neg b) (sym (R.mul-add a b (neg b)) ∙ ap (λ x. a ⊗ x) (add-neg additive b) ∙ mul-zero a)
+  mul-neg a b = additive-neg additive additive (λ x. a ⊗ x) (R.mul-add a) b
 
   pub neg-mul : (a b : K) → neg a ⊗ b ≡ neg (a ⊗ b)
-  neg-mul a b = neg_unique additive (a ⊗ b) (neg a ⊗ b) (sym (R.add-mul a (neg a) b) ∙ ap (λ x. x ⊗ b) (add-neg additive a) ∙ zero-mul b)
+  neg-mul a b = additive-neg additive additive (λ x. x ⊗ b) (λ x y. R.add-mul x y b) a
+
+  -- the factors of what is not 0 are not 0
+  pub left_ne_zero_of_mul : (a b : K) → a ⊗ b ≢ zero → a ≢ zero
+  left_ne_zero_of_mul a b h e = h (ap (λ x. x ⊗ b) e ∙ zero-mul b)
+
+  pub right_ne_zero_of_mul : (a b : K) → a ⊗ b ≢ zero → b ≢ zero
+  right_ne_zero_of_mul a b h e = h (ap (λ x. a ⊗ x) e ∙ mul-zero a)
 
   -- what a factor with an inverse makes 0 is 0
   pub eq_zero_of_mul-unit : (a b u : K) → b ⊗ u ≡ one → a ⊗ b ≡ zero → a ≡ zero
   eq_zero_of_mul-unit a b u i e =
       sym (R.mul-one a) ∙ ap (λ x. a ⊗ x) (sym i) ∙ sym (R.mul_assoc a b u) ∙ ap (λ x. x ⊗ u) e ∙ zero-mul u
-
-module _ {K : Type 0} (C : CommRingOn K) where
-  infixl 65 ◌⊕◌
-  infixl 70 ◌⊗◌
-  open C use {zero, one, ◌⊕◌, ◌⊗◌, neg}
-
-  pub mul_left_comm : (a b c : K) → a ⊗ (b ⊗ c) ≡ b ⊗ (a ⊗ c)
-  mul_left_comm a b c = sym (C.mul_assoc a b c) ∙ ap (λ x. x ⊗ c) (C.mul_comm a b) ∙ C.mul_assoc b a c

@@ -6,7 +6,7 @@ use Rattle.theory_rings.specs.Ring.{AddCommMonoidOn, CommRingOn}
 use Rattle.theory_rings.specs.Naturals.{nat_monoid}
 use Rattle.theory_rings.specs.Power.{power_by_ops, times}
 use Rattle.theory_rings.specs.Sum.{sum}
-use Rattle.theory_rings.proofs.RingLaws.{mul-zero}
+use Rattle.theory_rings.proofs.RingLaws.{add_left_comm, mul-zero}
 use Rattle.theory_rings.proofs.Sums.{map-sum}
 
 pub record CommSemiringOn (K : Type 0) : Type 0 where
@@ -58,8 +58,12 @@ module _ {K : Type 0} (S : CommSemiringOn K) where
   abbrev pub power_in : K → ℕ → K
   power_in x n = power_by_ops S.one S.◌⊗◌ x n
 
+  -- the products as a commutative monoid
+  abbrev pub products : AddCommMonoidOn K
+  products = record { zero = S.one; ◌⊕◌ = S.◌⊗◌; add_assoc = S.mul_assoc; add_comm = S.mul_comm; zero-add = S.one-mul }
+
   pub mul_left_comm : (a b c : K) → a ⊗ (b ⊗ c) ≡ b ⊗ (a ⊗ c)
-  mul_left_comm a b c = sym (S.mul_assoc a b c) ∙ ap (λ x. x ⊗ c) (S.mul_comm a b) ∙ S.mul_assoc b a c
+  mul_left_comm = add_left_comm products
 
   pub add-mul : (a b c : K) → (a ⊕ b) ⊗ c ≡ (a ⊗ c) ⊕ (b ⊗ c)
   add-mul a b c = S.mul_comm (a ⊕ b) c ∙ S.mul-add c a b ∙ ap₂ (λ x y. x ⊕ y) (S.mul_comm c a) (S.mul_comm c b)

@@ -2,7 +2,8 @@
 use Rattle.std.specs.Prelude.{◌≡◌, ℕ, zero, suc, List, [], ◌∷◌, ◌++◌, Bool, true, false, cond, eqb, ltb, ◌&&◌}
 use Rattle.std.proofs.Common.{T, refl, subst, sym, ◌∙◌, ap, ap₂, eqb→eq}
 use Rattle.theory_rings.specs.Ring.{RingOn, CommRingOn}
-use Rattle.theory_rings.proofs.RingLaws.{add-zero, add-neg, add_left_comm, mul_left_comm, mul-zero, zero-mul, mul-neg, neg-mul, neg_neg, neg_add, neg_zero}
+use Rattle.theory_rings.proofs.RingLaws.{add-zero, add-neg, add_left_comm, mul-zero, zero-mul, mul-neg, neg-mul, neg_neg, neg_add, neg_zero}
+use Rattle.theory_rings.proofs.Semirings.{semiring, mul_left_comm}
 
 infixl 65 ◌⊞◌
 infixl 70 ◌⊠◌
@@ -212,7 +213,7 @@ module _ {K : Type 0} (C : CommRingOn K) (env : List K) where
           ≡ C.◌⊗◌ (at_env C.ring env i) (C.◌⊗◌ (at_env C.ring env j) (word C.ring env w))
       go true ih =
           ap (λ x. C.◌⊗◌ (at_env C.ring env j) x) ih
-          ∙ mul_left_comm C (at_env C.ring env j) (at_env C.ring env i) (word C.ring env w)
+          ∙ mul_left_comm (semiring C) (at_env C.ring env j) (at_env C.ring env i) (word C.ring env w)
       go false ih = refl
 
   pub word-sorted : (w : List ℕ) → word C.ring env (sorted w) ≡ word C.ring env w

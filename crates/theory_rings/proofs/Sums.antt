@@ -3,34 +3,22 @@ use Rattle.std.specs.Prelude.{◌≡◌, ℕ, zero, suc, ◌+◌, ◌<◌, ◌�
 use Rattle.std.proofs.Common.{refl, sym, ◌∙◌, ap, ap₂, arith, ⊎_elim}
 use Rattle.std.proofs.lemmas.Bool.{cases_lt, lt-ltb, le-ltb}
 use Rattle.theory_rings.specs.Ring.{AddCommMonoidOn, AddCommGroupOn, RingOn}
-use Rattle.theory_rings.specs.Sum.{sum}
+use Rattle.theory_rings.specs.Sum.{sum_by_ops, sum}
+use Rattle.theory_rings.proofs.Bump.{bump, bump-below, bump-above, bump-lt, bump-apart}
 use Rattle.theory_rings.proofs.RingLaws.{add-zero, add_add_add_comm, mul-zero, zero-mul, neg_add, neg_zero}
 
--- the numbers without k, in order
-abbrev pub bump : ℕ → ℕ → ℕ
-bump k i = cond (ltb i k) i (suc i)
-
-pub bump-below : (k i : ℕ) → i < k → bump k i ≡ i
-bump-below k i h = rw (lt-ltb i k h) refl
-
-pub bump-above : (k i : ℕ) → k ≤ i → bump k i ≡ suc i
-bump-above k i h = rw (le-ltb i k h) refl
-
-pub bump-lt : (k i n : ℕ) → i < n → bump k i < suc n
-bump-lt k i n h =
-    ⊎_elim (λ l. rw (bump-below k i l) (omega arith)) (λ l. rw (bump-above k i l) (omega arith)) (cases_lt i k)
-
-pub bump-apart : (k i : ℕ) → bump k i ≡ k → ⊥
-bump-apart k i e =
-    ⊎_elim (λ l. let d = bump-below k i l in omega arith) (λ l. let d = bump-above k i l in omega arith) (cases_lt i k)
+-- sums with the same terms are the same, by whatever operations
+pub sum_by_ops_congr : {V : Type 0} (z : V) (plus : V → V → V) (n : ℕ) (f g : ℕ → V) → ((i : ℕ) → i < n → f i ≡ g i)
+    → sum_by_ops z plus n f ≡ sum_by_ops z plus n g
+sum_by_ops_congr z plus zero f g h = refl
+sum_by_ops_congr z plus (suc n) f g h = ap₂ plus (sum_by_ops_congr z plus n f g (λ i l. h i (omega arith))) (h n (omega arith))
 
 module _ {V : Type 0} (G : AddCommMonoidOn V) where
   infixl 65 ◌⊕◌
   open G use {◌⊕◌}
 
   pub sum_congr : (n : ℕ) (f g : ℕ → V) → ((i : ℕ) → i < n → f i ≡ g i) → sum G n f ≡ sum G n g
-  sum_congr zero f g h = refl
-  sum_congr (suc n) f g h = ap₂ (λ x y. x ⊕ y) (sum_congr n f g (λ i l. h i (omega arith))) (h n (omega arith))
+  sum_congr n f g h = sum_by_ops_congr G.zero G.◌⊕◌ n f g h
 
   pub sum_eq_zero : (n : ℕ) (f : ℕ → V) → ((i : ℕ) → i < n → f i ≡ G.zero) → sum G n f ≡ G.zero
   sum_eq_zero zero f h = refl
@@ -79,19 +67,14 @@ module _ {V : Type 0} (G : AddCommMonoidOn V) where
       ∙ ap (λ x. f k ⊕ x) (sum_eq_zero n (λ i. f (bump k i)) (λ i g. h (bump k i) (bump-lt k i n g) (bump-apart k i)))
       ∙ add-zero G (f k)
 
-module _ {V : Type 0} (G : AddCommGroupOn V) where
-  infixl 65 ◌⊕◌
-  open G use {◌⊕◌, neg}
-
-  pub sum-neg : (n : ℕ) (f : ℕ → V) → sum G.monoid n (λ i. neg (f i)) ≡ neg (sum G.monoid n f)
-  sum-neg zero f = sym (neg_zero G)
-  sum-neg (suc n) f = ap (λ x. x ⊕ neg (f n)) (sum-neg n f) ∙ sym (neg_add G (sum G.monoid n f) (f n))
-
 -- a map that keeps sums
 pub map-sum : {V W : Type 0} (G : AddCommMonoidOn V) (H : AddCommMonoidOn W) (h : V → W) → h G.zero ≡ H.zero
     → ((a b : V) → h (G.◌⊕◌ a b) ≡ H.◌⊕◌ (h a) (h b)) → (n : ℕ) (f : ℕ → V) → h (sum G n f) ≡ sum H n (λ i. h (f i))
 map-sum G H h z e zero f = z
 map-sum G H h z e (suc n) f = e (sum G n f) (f n) ∙ ap (λ x. H.◌⊕◌ x (h (f n))) (map-sum G H h z e n f)
+
+pub sum-neg : {V : Type 0} (G : AddCommGroupOn V) (n : ℕ) (f : ℕ → V) → sum G.monoid n (λ i. G.neg (f i)) ≡ G.neg (sum G.monoid n f)
+sum-neg G n f = sym (map-sum G.monoid G.monoid G.neg (neg_zero G) (neg_add G) n f)
 
 module _ {K : Type 0} (R : RingOn K) where
   infixl 65 ◌⊕◌

@@ -5,7 +5,8 @@ use Rattle.std.proofs.lemmas.Bool.{cases_lt}
 use Rattle.theory_rings.specs.Ring.{RingOn, FieldOn}
 use Rattle.theory_rings.specs.Sum.{sum}
 use Rattle.theory_rings.proofs.RingLaws.{add-zero, mul-zero}
-use Rattle.theory_rings.proofs.Sums.{sum_congr, map-sum, bump, bump-below}
+use Rattle.theory_rings.proofs.Bump.{bump, bump-below}
+use Rattle.theory_rings.proofs.Sums.{sum_congr, map-sum}
 use Rattle.theory_rings.proofs.ZeroTests.{eq_zero_or}
 use Rattle.theory_spaces.specs.Module.{ModuleOn}
 use Rattle.theory_spaces.specs.Linear.{comb, InSpan, Independent, Coords, Basis, BasisOf, Extension}
