@@ -10,15 +10,13 @@ use Rattle.theory_rings.specs.Power.{times_of}
 use Rattle.theory_rings.specs.Enumerated.{Enumerated}
 use Rattle.theory_rings.specs.Homomorphism.{IsRingHom}
 use Rattle.theory_rings.specs.IntegersMod.{Fin, integers_mod, residue, mod_ops, IsInverseTable}
-use Rattle.theory_rings.specs.Polynomial.{Poly, coefficient, IsPolynomialRing}
+use Rattle.theory_rings.specs.Polynomial.{Poly, coefficient, convolution_by_ops, IsPolynomialRing}
 use Rattle.theory_rings.specs.Remainder.{Remainder, IsRemainderRing}
-use Rattle.theory_rings.specs.Sum.{sum}
-use Rattle.theory_rings.specs.Naturals.{nat_monoid}
 use Rattle.theory_rings.specs.Digits.{digit}
 
--- coefficient k of the product of two polynomials: the sum of f i · g (k − i) over i from 0 to k
+-- coefficient k of the product of two polynomials
 abbrev pub product_coefficient : (ℕ → ℕ) → (ℕ → ℕ) → ℕ → ℕ
-product_coefficient f g k = sum nat_monoid (suc k) (λ i. f i * g (k - i))
+product_coefficient f g k = convolution_by_ops 0 ◌+◌ ◌*◌ f g k
 
 -- coefficient k of t ^ d + m_(d − 1) t ^ (d − 1) + .. + m_0
 abbrev pub modulus_coefficient : List ℕ → ℕ → ℕ

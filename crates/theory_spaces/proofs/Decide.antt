@@ -4,12 +4,12 @@ use Rattle.std.proofs.Common.{refl, sym, ◌∙◌, ap, ap₂, arith, inl, inr, 
 use Rattle.std.proofs.lemmas.Bool.{cases_eq}
 use Rattle.theory_rings.specs.Ring.{FieldOn}
 use Rattle.theory_rings.specs.Sum.{sum}
-use Rattle.theory_rings.proofs.RingLaws.{add-neg, mul-zero, zero-mul, neg_zero, neg_unique, eq_zero_of_mul-unit}
-use Rattle.theory_rings.proofs.Fields.{mul-inv, inv_mul_cancel_right}
-use Rattle.theory_rings.proofs.Bump.{unbump, bump-unbump, unbump-lt, bump, bump-lt}
-use Rattle.theory_rings.proofs.Sums.{sum_congr, sum_eq_zero, sum_take_out, sum-mul}
-use Rattle.theory_rings.proofs.Solver.{var, nil, ◌⊞◌, ◌⊠◌, minus, by_sorted, ring1}
-use Rattle.theory_rings.proofs.ZeroTests.{eq_zero_or}
+use Rattle.theory_rings.proofs.Rings.RingLaws.{add-neg, mul-zero, zero-mul, neg_zero, neg_unique, eq_zero_of_mul-unit}
+use Rattle.theory_rings.proofs.Rings.Fields.{mul-inv, inv_mul_cancel_right}
+use Rattle.theory_rings.proofs.Sums.Bump.{unbump, bump-unbump, unbump-lt, bump, bump-lt}
+use Rattle.theory_rings.proofs.Sums.Sums.{sum_congr, sum_eq_zero, sum_take_out, sum-mul}
+use Rattle.theory_rings.proofs.Rings.Solver.{var, nil, ◌⊞◌, ◌⊠◌, minus, by_sorted, ring1}
+use Rattle.theory_rings.proofs.Rings.ZeroTests.{eq_zero_or}
 use Rattle.theory_spaces.proofs.Families.{push, push-below, push-at, put_at, put_at-here, put_at-bump, below_suc}
 
 module _ {K : Type 0} (F : FieldOn K) where

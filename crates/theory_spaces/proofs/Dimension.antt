@@ -4,10 +4,10 @@ use Rattle.std.proofs.Common.{sym, ◌∙◌, ap, subst, arith, ⊎_elim}
 use Rattle.std.proofs.lemmas.Bool.{cases_eq, cases_lt}
 use Rattle.theory_rings.specs.Ring.{FieldOn}
 use Rattle.theory_rings.specs.Sum.{sum}
-use Rattle.theory_rings.proofs.RingLaws.{neg_unique, neg_neg}
-use Rattle.theory_rings.proofs.Bump.{unbump, bump-unbump, unbump-lt, bump}
-use Rattle.theory_rings.proofs.Sums.{sum_take_out}
-use Rattle.theory_rings.proofs.ZeroTests.{eq_zero_or}
+use Rattle.theory_rings.proofs.Rings.RingLaws.{neg_unique, neg_neg}
+use Rattle.theory_rings.proofs.Sums.Bump.{unbump, bump-unbump, unbump-lt, bump}
+use Rattle.theory_rings.proofs.Sums.Sums.{sum_take_out}
+use Rattle.theory_rings.proofs.Rings.ZeroTests.{eq_zero_or}
 use Rattle.theory_spaces.specs.Module.{ModuleOn}
 use Rattle.theory_spaces.specs.Linear.{comb, InSpan, Independent, Basis, Exchange}
 use Rattle.theory_spaces.proofs.Modules.{scale-neg, neg-scale, comb_zero, comb_congr_right, comb-scale, comb-comb, rows_of, InSpan-member, InSpan_trans, independent_none, Independent-front}

@@ -3,7 +3,7 @@
 use Rattle.std.specs.Prelude.{◌≡◌, ℕ, suc, pred, ◌+◌, ◌-◌, ◌<◌, ◌≤◌, cond, ltb, ◌⊎◌}
 use Rattle.std.proofs.Common.{refl, sym, ◌∙◌, ap, subst, arith, inl, inr, ⊎_elim}
 use Rattle.std.proofs.lemmas.Bool.{cases_lt, lt-ltb, le-ltb}
-use Rattle.theory_rings.proofs.Bump.{bump, bump-below, bump-above}
+use Rattle.theory_rings.proofs.Sums.Bump.{bump, bump-below, bump-above}
 
 -- v below n, and x from there on
 abbrev pub push : {X : Type 0} → ℕ → X → (ℕ → X) → ℕ → X

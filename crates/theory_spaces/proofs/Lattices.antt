@@ -3,11 +3,11 @@ use Rattle.std.specs.Prelude.{◌≡◌, ℕ, zero, suc, ◌<◌, ◌≤◌, IsT
 use Rattle.std.proofs.Common.{sym, ◌∙◌, ap, ap₂, subst, arith, inl, inr, ⊎_elim}
 use Rattle.std.proofs.lemmas.Bool.{cases_eq, cases_lt}
 use Rattle.theory_rings.specs.Ring.{FieldOn}
-use Rattle.theory_rings.proofs.RingLaws.{add-zero, add-neg, mul-zero, zero-mul, neg-mul, eq_zero_of_mul-unit}
-use Rattle.theory_rings.proofs.Fields.{mul-inv, inv_mul_cancel_left, inv_mul_cancel_right}
-use Rattle.theory_rings.proofs.Bump.{unbump, bump-unbump, unbump-lt, bump, bump-lt}
-use Rattle.theory_rings.proofs.Sums.{sum_eq_zero}
-use Rattle.theory_rings.proofs.ZeroTests.{eq_zero_or}
+use Rattle.theory_rings.proofs.Rings.RingLaws.{add-zero, add-neg, mul-zero, zero-mul, neg-mul, eq_zero_of_mul-unit}
+use Rattle.theory_rings.proofs.Rings.Fields.{mul-inv, inv_mul_cancel_left, inv_mul_cancel_right}
+use Rattle.theory_rings.proofs.Sums.Bump.{unbump, bump-unbump, unbump-lt, bump, bump-lt}
+use Rattle.theory_rings.proofs.Sums.Sums.{sum_eq_zero}
+use Rattle.theory_rings.proofs.Rings.ZeroTests.{eq_zero_or}
 use Rattle.theory_spaces.specs.Module.{ModuleOn}
 use Rattle.theory_spaces.specs.Linear.{comb, InSpan, Coords}
 use Rattle.theory_spaces.specs.Valuation.{ValuationOn, Integer, integers, restrict, LatticeBasis}

@@ -6,8 +6,8 @@ use Rattle.std.proofs.Math.Path.{fun_ext}
 use mathlib.Core.HLevel.{Σ_prop_path, Π_prop}
 use Rattle.theory_rings.specs.Ring.{AddCommGroupOn, RingOn, CommRingOn}
 use Rattle.theory_rings.specs.Sum.{sum}
-use Rattle.theory_rings.proofs.RingLaws.{mul-zero, zero-mul, neg_zero}
-use Rattle.theory_rings.proofs.Sums.{sum_congr, sum_eq_zero, sum-add, sum_comm, sum_eq_single, mul-sum, sum-mul}
+use Rattle.theory_rings.proofs.Rings.RingLaws.{mul-zero, zero-mul, neg_zero}
+use Rattle.theory_rings.proofs.Sums.Sums.{sum_congr, sum_eq_zero, sum-add, sum_comm, sum_eq_single, mul-sum, sum-mul}
 use Rattle.theory_spaces.specs.Matrix.{Matrix, mat_mul, delta, mat_trace, Within, Mat}
 
 module _ {K : Type 0} (R : RingOn K) where

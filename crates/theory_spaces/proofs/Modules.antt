@@ -3,8 +3,8 @@ use Rattle.std.specs.Prelude.{◌≡◌, ℕ, zero, suc, ◌+◌, ◌-◌, ◌<�
 use Rattle.std.proofs.Common.{refl, sym, ◌∙◌, ap, ap₂, subst, arith}
 use Rattle.theory_rings.specs.Ring.{RingOn}
 use Rattle.theory_rings.specs.Sum.{sum}
-use Rattle.theory_rings.proofs.RingLaws.{add-zero, add-neg, add_cancel_left, neg-mul, additive-zero, additive-neg}
-use Rattle.theory_rings.proofs.Sums.{sum_congr, sum_eq_zero, sum-add, map-sum, sum_comm, sum-split, sum_eq_single}
+use Rattle.theory_rings.proofs.Rings.RingLaws.{add-zero, add-neg, add_cancel_left, neg-mul, additive-zero, additive-neg}
+use Rattle.theory_rings.proofs.Sums.Sums.{sum_congr, sum_eq_zero, sum-add, map-sum, sum_comm, sum-split, sum_eq_single}
 use Rattle.theory_spaces.specs.Module.{ModuleOn, AlgebraOn, module_of}
 pub use Rattle.theory_spaces.specs.ModuleLaws.{scale-zero, zero-scale, scale-neg, neg-scale, neg_one-scale}
 use Rattle.theory_spaces.specs.Linear.{comb, InSpan, Independent, IsSubmodule, IsLinear}

@@ -6,9 +6,9 @@ use Rattle.std.proofs.Math.Bool.{Bool-set}
 use mathlib.Core.HLevel.{Π_prop}
 use mathlib.Core.Quot.{ind, lift}
 use Rattle.theory_rings.specs.Ring.{AddCommGroupOn, RingOn, FieldOn}
-use Rattle.theory_rings.proofs.RingLaws.{add-zero, add-neg, neg_neg, neg_add, neg_zero, neg-mul, mul-zero}
-use Rattle.theory_rings.proofs.Sums.{sum-split}
-use Rattle.theory_rings.proofs.ZeroTests.{eq_of_sub_eq_zero, group_set}
+use Rattle.theory_rings.proofs.Rings.RingLaws.{add-zero, add-neg, neg_neg, neg_add, neg_zero, neg-mul, mul-zero}
+use Rattle.theory_rings.proofs.Sums.Sums.{sum-split}
+use Rattle.theory_rings.proofs.Rings.ZeroTests.{eq_of_sub_eq_zero, group_set}
 use Rattle.theory_spaces.specs.Module.{ModuleOn}
 use Rattle.theory_spaces.specs.Linear.{comb, Independent, Basis, BasisOf, Extension, IsLinear}
 use Rattle.theory_spaces.specs.Quotient.{SubgroupOn, SubmoduleOn, Near, Classes, cls, to_test, near-cls, subgroup_of, classes_set, ModuleClasses, module_cls, quotient_module}

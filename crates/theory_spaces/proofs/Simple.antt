@@ -4,11 +4,11 @@ use Rattle.std.proofs.Common.{refl, sym, ◌∙◌, ap, ap₂, subst, arith, inl
 use Rattle.std.proofs.lemmas.Bool.{cases_lt}
 use Rattle.theory_rings.specs.Ring.{FieldOn}
 use Rattle.theory_rings.specs.Sum.{sum}
-use Rattle.theory_rings.proofs.RingLaws.{add-zero, add-neg, mul-zero, zero-mul, neg-mul, neg_unique}
-use Rattle.theory_rings.proofs.Sums.{sum_congr, sum_eq_zero, mul-sum}
-use Rattle.theory_rings.proofs.Solver.{◌⊠◌, minus, ring2}
-use Rattle.theory_rings.proofs.Fields.{inv_mul_cancel_left}
-use Rattle.theory_rings.proofs.ZeroTests.{eq_zero_or, eq_of_sub_eq_zero}
+use Rattle.theory_rings.proofs.Rings.RingLaws.{add-zero, add-neg, mul-zero, zero-mul, neg-mul, neg_unique}
+use Rattle.theory_rings.proofs.Sums.Sums.{sum_congr, sum_eq_zero, mul-sum}
+use Rattle.theory_rings.proofs.Rings.Solver.{◌⊠◌, minus, ring2}
+use Rattle.theory_rings.proofs.Rings.Fields.{inv_mul_cancel_left}
+use Rattle.theory_rings.proofs.Rings.ZeroTests.{eq_zero_or, eq_of_sub_eq_zero}
 use Rattle.theory_spaces.specs.Module.{ModuleOn, AlgebraOn, module_of}
 use Rattle.theory_spaces.specs.Linear.{comb, InSpan, Independent, Basis}
 use Rattle.theory_spaces.specs.Algebra.{Central, CentralSimple, Nondegenerate, trace}

@@ -3,8 +3,8 @@ use Rattle.std.specs.Prelude.{◌≡◌, ℕ, zero, suc, ◌<◌}
 use Rattle.std.proofs.Common.{sym, ◌∙◌, ap, ap₂}
 use Rattle.theory_rings.specs.Ring.{RingOn, CommRingOn}
 use Rattle.theory_rings.specs.Sum.{sum}
-use Rattle.theory_rings.proofs.Semirings.{semiring, mul_left_comm}
-use Rattle.theory_rings.proofs.Sums.{sum_congr, sum-add, mul-sum}
+use Rattle.theory_rings.proofs.Rings.Semirings.{semiring, mul_left_comm}
+use Rattle.theory_rings.proofs.Sums.Sums.{sum_congr, sum-add, mul-sum}
 use Rattle.theory_spaces.specs.Module.{ModuleOn, AlgebraOn}
 use Rattle.theory_spaces.specs.Linear.{comb, InSpan, Independent, Basis, IsLinear}
 use Rattle.theory_spaces.specs.Matrix.{delta}

@@ -4,9 +4,9 @@ use Rattle.std.proofs.Common.{refl, sym, ◌∙◌, ap, arith}
 use Rattle.theory_rings.specs.Ring.{CommRingOn, FieldOn}
 use Rattle.theory_rings.specs.Sum.{sum}
 use Rattle.theory_rings.specs.Power.{power}
-use Rattle.theory_rings.proofs.RingLaws.{zero-mul, additive-zero, additive-neg}
-use Rattle.theory_rings.proofs.Powers.{power_last}
-use Rattle.theory_rings.proofs.Sums.{sum_congr, sum_eq_zero, sum-add, map-sum, mul-sum}
+use Rattle.theory_rings.proofs.Rings.RingLaws.{zero-mul, additive-zero, additive-neg}
+use Rattle.theory_rings.proofs.Powers.Powers.{power_last}
+use Rattle.theory_rings.proofs.Sums.Sums.{sum_congr, sum_eq_zero, sum-add, map-sum, mul-sum}
 use Rattle.theory_spaces.specs.Module.{ModuleOn, AlgebraOn, module_of}
 use Rattle.theory_spaces.specs.Linear.{comb, Independent, Basis, IsLinear}
 use Rattle.theory_spaces.specs.Algebra.{map_trace, iterate, IsNilpotent, trace}

@@ -6,8 +6,8 @@ use Rattle.theory_rings.specs.Ring.{FieldOn}
 use Rattle.theory_rings.specs.Ops.{Ops, IsElem, FieldLaws}
 use Rattle.theory_rings.specs.Elements.{Elem, elements}
 use Rattle.theory_rings.specs.Sum.{sum, sum_of, table}
-use Rattle.theory_rings.proofs.Lists.{table_congr}
-use Rattle.theory_rings.proofs.Elements.{at-elem, sum_of-elements, sum_of_congr}
+use Rattle.theory_rings.proofs.Sums.Lists.{table_congr}
+use Rattle.theory_rings.proofs.Rings.Elements.{at-elem, sum_of-elements, sum_of_congr}
 use Rattle.theory_spaces.specs.Module.{ModuleOn, AlgebraOn, module_of}
 use Rattle.theory_spaces.specs.Linear.{Basis}
 use Rattle.theory_spaces.specs.Space.{SpaceOn, ProductOn, sum2}

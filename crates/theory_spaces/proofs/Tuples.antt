@@ -12,8 +12,8 @@ use Rattle.theory_rings.specs.Ring.{FieldOn, AddCommGroupOn}
 use Rattle.theory_rings.specs.Ops.{Ops, IsElem, FieldLaws}
 use Rattle.theory_rings.specs.Elements.{Elem, Elem-path, elements}
 use Rattle.theory_rings.specs.Sum.{sum, sum_of, table, at}
-use Rattle.theory_rings.proofs.Lists.{length-table, get_or-table, table_congr, All-table}
-use Rattle.theory_rings.proofs.Elements.{at-elem}
+use Rattle.theory_rings.proofs.Sums.Lists.{length-table, get_or-table, table_congr, All-table}
+use Rattle.theory_rings.proofs.Rings.Elements.{at-elem}
 use Rattle.theory_spaces.specs.Module.{ModuleOn}
 use Rattle.theory_spaces.specs.Matrix.{delta}
 use Rattle.theory_spaces.specs.Space.{SpaceOn}

@@ -2,7 +2,7 @@
 use Rattle.std.specs.Prelude.{◌≡◌}
 use Rattle.std.proofs.Common.{◌∙◌, ap}
 use Rattle.theory_rings.specs.Ring.{RingOn}
-use Rattle.theory_rings.proofs.RingLaws.{additive-zero, additive-neg}
+use Rattle.theory_rings.proofs.Rings.RingLaws.{additive-zero, additive-neg}
 use Rattle.theory_spaces.specs.Module.{ModuleOn}
 
 module _ {K V : Type 0} {R : RingOn K} (M : ModuleOn R V) where
