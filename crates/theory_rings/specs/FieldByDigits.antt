@@ -1,7 +1,7 @@
 -- The numbers below p ^ d, read as d digits in base p, lowest first, with a modulus given by d numbers m_0, .., m_(d − 1).
 -- A number stands for the polynomial in t whose coefficients are its digits, over the integers modulo p, and the modulus
 -- is t ^ d + m_(d − 1) t ^ (d − 1) + .. + m_0.
-use Rattle.std.specs.Prelude.{◌≡◌, ◌≢◌, ℕ, suc, ◌+◌, ◌-◌, ◌*◌, ◌%◌, ◌^◌, ◌<◌, ◌≤◌, List, [], ◌∷◌, ◌++◌, length, get_or, nat_lt, nat_eq}
+use Rattle.std.specs.Prelude.{◌≡◌, ◌≢◌, ℕ, ◌+◌, ◌*◌, ◌%◌, ◌^◌, ◌<◌, ◌≤◌, List, [], ◌∷◌, ◌++◌, length, get_or, nat_lt, nat_eq}
 use Rattle.theory_rings.specs.Ring.{CommRingOn}
 use Rattle.theory_rings.specs.Ops.{Ops, FieldLaws}
 use Rattle.theory_rings.specs.Elements.{Elem}

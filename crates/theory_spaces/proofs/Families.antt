@@ -1,7 +1,7 @@
 -- Families, as functions from the numbers of which the first n count: one more member at the end, a member put in, two
 -- families one after the other, a choice of one member for each number.
 use Rattle.std.specs.Prelude.{◌≡◌, ℕ, suc, pred, ◌+◌, ◌-◌, ◌<◌, ◌≤◌, cond, ltb, ◌⊎◌}
-use Rattle.std.proofs.Common.{refl, sym, ◌∙◌, ap, subst, arith, inl, inr, ⊎_elim}
+use Rattle.std.proofs.Common.{refl, sym, ap, subst, arith, inl, inr, ⊎_elim}
 use Rattle.std.proofs.lemmas.Bool.{cases_lt, lt-ltb, le-ltb}
 use Rattle.theory_rings.proofs.Sums.Bump.{bump, bump-below, bump-above}
 

@@ -1,11 +1,10 @@
 -- The field of the numbers below p ^ d: its elements are numbered, its p is prime and is 0 in it. The integers modulo p are
 -- the case of one digit.
-use Rattle.std.specs.Prelude.{◌≡◌, ◌≢◌, ℕ, zero, suc, ◌+◌, ◌-◌, ◌*◌, ◌/◌, ◌%◌, ◌^◌, ◌<◌, ◌≤◌, Bool, true, false, List, [], ◌∷◌, length, nat_lt, slice_index}
+use Rattle.std.specs.Prelude.{◌≡◌, ℕ, zero, suc, ◌+◌, ◌-◌, ◌*◌, ◌%◌, ◌^◌, ◌<◌, ◌≤◌, Bool, true, false, List, [], ◌∷◌, length, nat_lt, slice_index}
 use Rattle.std.specs.Int.{◌∣◌}
 use Rattle.std.proofs.Common.{refl, sym, ◌∙◌, ap, ap₂, subst, arith, ⊎_elim, inl, inr}
-use Rattle.std.proofs.Math.Nat.{zero-mod, mod-add-mod, add-mod-mod, mod_self, mod-eq-zero_of_dvd, dvd_of_mod-eq-zero, lt_of_lt_of_le, pow-suc, pow-zero, one-mul}
+use Rattle.std.proofs.Math.Nat.{zero-mod, mod-add-mod, mod_self, mod-eq-zero_of_dvd, dvd_of_mod-eq-zero, lt_of_lt_of_le, pow-suc, pow-zero, one-mul}
 use Rattle.std.proofs.Math.Bool.{true≢false}
-use Rattle.std.proofs.lemmas.Bool.{ltb-true, lt-ltb}
 use Rattle.std.proofs.lemmas.Nat.{mod_below, mul-mod}
 use Rattle.theory_rings.specs.Ring.{FieldOn}
 use Rattle.theory_rings.specs.Ops.{Ops, IsElem, FieldLaws}

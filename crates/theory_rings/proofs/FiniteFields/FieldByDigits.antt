@@ -1,7 +1,7 @@
 -- The sum and the product of numbers by their digits are those of their polynomials modulo the modulus.
 use Rattle.std.specs.Prelude.{◌≡◌, ◌≢◌, ℕ, zero, suc, ◌+◌, ◌-◌, ◌%◌, ◌<◌, ◌≤◌, List, [], ◌∷◌, ◌++◌, length}
 use Rattle.std.proofs.Common.{refl, sym, ◌∙◌, ap, ap₂, arith, ⊎_elim, length-append}
-use Rattle.std.proofs.Math.Nat.{mod-mod, mod-eq_of_lt, zero-mod, add-mod-mod, mod_self, one-le-pow, lt_of_lt_of_le}
+use Rattle.std.proofs.Math.Nat.{mod-mod, mod-eq_of_lt, zero-mod, one-le-pow, lt_of_lt_of_le}
 use Rattle.std.proofs.lemmas.Bool.{cases_lt}
 use Rattle.std.proofs.lemmas.List.{get_or_past, get_or_push}
 use Rattle.std.proofs.lemmas.Nat.{mod_below}

@@ -6,14 +6,14 @@ use Rattle.std.proofs.Math.Bridge.{le_prop}
 use Rattle.std.proofs.Math.Nat.{ℕ_set}
 use Rattle.theory_rings.specs.Ring.{FieldOn, CommRingOn}
 use Rattle.theory_rings.specs.Polynomial.{Poly, coefficient, lead, degree, IsMonic}
-use Rattle.theory_rings.specs.Division.{Divides, IsGcd, IsCoprime}
+use Rattle.theory_rings.specs.Division.{Divides, IsGcd}
 use Rattle.theory_rings.specs.Fraction.{SameFraction, Fraction, IsLowest, IsFractionField}
 use Rattle.theory_rings.proofs.Rings.RingLaws.{left_ne_zero_of_mul, right_ne_zero_of_mul}
 use Rattle.theory_rings.proofs.Rings.Solver.{◌⊞◌, ◌⊠◌, v0, v1, v2, v3, v4, var, ring4, ring5, by_sorted}
 use Rattle.theory_rings.proofs.Polynomials.PolynomialRing.{constant, is_zero_poly, zero_poly_test}
 use Rattle.theory_rings.proofs.Polynomials.Degrees.{length_pos, ne_zero_of_length, lead-ne-zero, lead-constant, eq_constant}
-use Rattle.theory_rings.proofs.Polynomials.Constants.{constant-one, constant_hom}
-use Rattle.theory_rings.proofs.Rings.Fields.{mul-inv, field_set}
+use Rattle.theory_rings.proofs.Polynomials.Constants.{constant-one}
+use Rattle.theory_rings.proofs.Rings.Fields.{field_set}
 use Rattle.theory_rings.proofs.Polynomials.Bezout.{field_polynomials, field_degree-mul, field_lead-mul, poly_mul-ne-zero, poly_mul_cancel_left, poly_one-ne-zero, constant_inverse, gcd, coprime_comm, coprime_of_bezout, divides_of_coprime}
 use Rattle.theory_rings.proofs.Fractions.Fractions.{IsReduction, fraction_field, is_fraction_field}
 

@@ -1,6 +1,6 @@
 -- Tests that decide whether polynomials over a field are coprime, and whether a fraction is in lowest terms.
 use Rattle.std.specs.Prelude.{◌≡◌, suc, Bool, true, ◌&&◌, eqb, length}
-use Rattle.std.proofs.Common.{refl, sym, ◌∙◌, ap, arith}
+use Rattle.std.proofs.Common.{◌∙◌, ap, arith}
 use Rattle.std.proofs.lemmas.Bool.{eqb-true, eq-eqb, and_from, and_parts}
 use Rattle.theory_rings.specs.Ring.{FieldOn, CommRingOn}
 use Rattle.theory_rings.specs.Polynomial.{Poly, lead, degree, IsMonic}

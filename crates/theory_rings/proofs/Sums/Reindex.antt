@@ -1,7 +1,6 @@
 -- The terms of a sum may be taken in another order.
-use Rattle.std.specs.Prelude.{◌≡◌, ℕ, zero, suc, pred, ◌<◌, ◌≤◌, cond, ltb}
-use Rattle.std.proofs.Common.{refl, sym, ◌∙◌, ap, arith, ⊎_elim}
-use Rattle.std.proofs.lemmas.Bool.{cases_lt, lt-ltb, le-ltb}
+use Rattle.std.specs.Prelude.{◌≡◌, ℕ, zero, suc, ◌<◌}
+use Rattle.std.proofs.Common.{refl, sym, ◌∙◌, ap, arith}
 use Rattle.theory_rings.specs.Ring.{AddCommMonoidOn}
 use Rattle.theory_rings.specs.Sum.{sum}
 use Rattle.theory_rings.proofs.Sums.Bump.{bump, unbump, bump-unbump, unbump-lt}

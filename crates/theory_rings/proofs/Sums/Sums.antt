@@ -1,7 +1,7 @@
 -- Sums over an index range: congruence, exchange, splitting, a term taken out, a single term, maps.
-use Rattle.std.specs.Prelude.{◌≡◌, ℕ, zero, suc, ◌+◌, ◌<◌, ◌≤◌, cond, ltb}
+use Rattle.std.specs.Prelude.{◌≡◌, ℕ, zero, suc, ◌+◌, ◌<◌, ◌≤◌}
 use Rattle.std.proofs.Common.{refl, sym, ◌∙◌, ap, ap₂, arith, ⊎_elim}
-use Rattle.std.proofs.lemmas.Bool.{cases_lt, lt-ltb, le-ltb}
+use Rattle.std.proofs.lemmas.Bool.{cases_lt}
 use Rattle.theory_rings.specs.Ring.{AddCommMonoidOn, AddCommGroupOn, RingOn}
 use Rattle.theory_rings.specs.Sum.{sum_by_ops, sum}
 use Rattle.theory_rings.proofs.Sums.Bump.{bump, bump-below, bump-above, bump-lt, bump-apart}
