@@ -1,20 +1,22 @@
 -- The numbers below p ^ d, read as d digits in base p, lowest first, with a modulus given by d numbers m_0, .., m_(d − 1).
 -- A number stands for the polynomial in t whose coefficients are its digits, over the integers modulo p, and the modulus
 -- is t ^ d + m_(d − 1) t ^ (d − 1) + .. + m_0.
-use Rattle.std.specs.Prelude.{◌≡◌, ◌≢◌, ℕ, suc, ◌+◌, ◌-◌, ◌*◌, ◌%◌, ◌^◌, ◌<◌, ◌≤◌, List, [], ◌∷◌, ◌++◌, length, get_or, nat_lt, nat_eq}
+use Rattle.std.specs.Prelude.{◌≡◌, ◌≢◌, ℕ, ◌+◌, ◌*◌, ◌%◌, ◌^◌, ◌<◌, ◌≤◌, List, [], ◌∷◌, ◌++◌, length, get_or, nat_lt, nat_eq}
 use Rattle.theory_rings.specs.Ring.{CommRingOn}
 use Rattle.theory_rings.specs.Ops.{Ops, FieldLaws}
+use Rattle.theory_rings.specs.Elements.{Elem}
+use Rattle.theory_rings.specs.Prime.{IsPrime}
+use Rattle.theory_rings.specs.Power.{times_of}
+use Rattle.theory_rings.specs.Enumerated.{Enumerated}
 use Rattle.theory_rings.specs.Homomorphism.{IsRingHom}
-use Rattle.theory_rings.specs.IntegersMod.{Fin, integers_mod, residue}
-use Rattle.theory_rings.specs.Polynomial.{Poly, coefficient, IsPolynomialRing}
+use Rattle.theory_rings.specs.IntegersMod.{Fin, integers_mod, residue, mod_ops, IsInverseTable}
+use Rattle.theory_rings.specs.Polynomial.{Poly, coefficient, convolution_by_ops, IsPolynomialRing}
 use Rattle.theory_rings.specs.Remainder.{Remainder, IsRemainderRing}
-use Rattle.theory_rings.specs.Sum.{sum}
-use Rattle.theory_rings.specs.Naturals.{nat_monoid}
 use Rattle.theory_rings.specs.Digits.{digit}
 
--- coefficient k of the product of two polynomials: the sum of f i · g (k − i) over i from 0 to k
+-- coefficient k of the product of two polynomials
 abbrev pub product_coefficient : (ℕ → ℕ) → (ℕ → ℕ) → ℕ → ℕ
-product_coefficient f g k = sum nat_monoid (suc k) (λ i. f i * g (k - i))
+product_coefficient f g k = convolution_by_ops 0 ◌+◌ ◌*◌ f g k
 
 -- coefficient k of t ^ d + m_(d − 1) t ^ (d − 1) + .. + m_0
 abbrev pub modulus_coefficient : List ℕ → ℕ → ℕ
@@ -80,10 +82,22 @@ pub record DigitsAreRemainders (p : ℕ) (two_le : 2 ≤ p) (m : List ℕ) : Typ
   pub back-map : (a : Fin (size_by_digits p m)) → back (map a) ≡ a
   pub map-back : (f : Remainder (integers_mod p two_le) M) → map (back f) ≡ f
 
--- so it is for every p from 2 on, prime or not, and every modulus of degree 1 or more, irreducible or not
+-- they are, for every p from 2 on, prime or not, and every modulus of degree 1 or more, irreducible or not
 abbrev pub DigitsAreRemaindersLaw : Type 0
 DigitsAreRemaindersLaw = (p : ℕ) (two_le : 2 ≤ p) (m : List ℕ) → 1 ≤ length m → DigitsAreRemainders p two_le m
 
+-- o is a field of p ^ d elements, in which the prime p is 0
+pub record IsFiniteField (p d : ℕ) (o : Ops ℕ) : Type 0 where
+  pub laws : FieldLaws o
+  pub prime : IsPrime p
+  pub characteristic : times_of o p o.one ≡ o.zero
+  pub members : Enumerated (Elem o)
+  pub size : members.size ≡ p ^ d
+
 -- a program's operations that are these, with inverses, are a field
 abbrev pub FieldByDigitsLaw : Type 0
-FieldByDigitsLaw = (p : ℕ) → 2 ≤ p → (m : List ℕ) → 1 ≤ length m → (o : Ops ℕ) → IsFieldByDigits p m o → FieldLaws o
+FieldByDigitsLaw = (p : ℕ) → 2 ≤ p → (m : List ℕ) → 1 ≤ length m → (o : Ops ℕ) → IsFieldByDigits p m o → IsFiniteField p (length m) o
+
+-- the integers modulo p are the case of one digit, whatever the modulus
+abbrev pub OneDigitLaw : Type 0
+OneDigitLaw = (p c : ℕ) (inverses : List ℕ) → 2 ≤ p → IsInverseTable p inverses → IsFieldByDigits p (c ∷ []) (mod_ops p inverses)

@@ -1,5 +1,0 @@
-use Rattle.theory_rings.proofs.Digits.{digits_law}
-use Rattle.theory_rings.proofs.numbers.digits.Goals as goal
-
-pub returns : goal.returns
-returns c = digits_law

@@ -1,5 +1,0 @@
-use Rattle.theory_rings.proofs.RingByDigits.{digits_are_remainders_law}
-use Rattle.theory_rings.proofs.numbers.digits_are_remainders.Goals as goal
-
-pub returns : goal.returns
-returns c = digits_are_remainders_law

@@ -1,5 +1,0 @@
-use Rattle.theory_rings.proofs.RingByDigits.{field_by_digits_law}
-use Rattle.theory_rings.proofs.numbers.field_by_digits.Goals as goal
-
-pub returns : goal.returns
-returns c = field_by_digits_law

@@ -1,5 +1,0 @@
-use Rattle.theory_rings.proofs.IntegersMod.{field_mod_law}
-use Rattle.theory_rings.proofs.numbers.field_mod.Goals as goal
-
-pub returns : goal.returns
-returns c = field_mod_law

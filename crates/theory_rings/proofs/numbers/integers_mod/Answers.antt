@@ -1,5 +1,0 @@
-use Rattle.theory_rings.proofs.IntegersMod.{integers_mod_law}
-use Rattle.theory_rings.proofs.numbers.integers_mod.Goals as goal
-
-pub returns : goal.returns
-returns c = integers_mod_law
