@@ -1,4 +1,4 @@
--- Prime numbers, inverses modulo a prime, and powers to a prime.
+-- Prime numbers, inverses modulo a prime, and Fermat's little theorem.
 use Rattle.std.specs.Prelude.{◌≡◌, ℕ, ◌*◌, ◌%◌, ◌^◌, ◌<◌, ◌≤◌, ◌⊎◌}
 use Rattle.std.specs.Int.{◌∣◌}
 
