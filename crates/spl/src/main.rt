@@ -4,9 +4,8 @@
 use spl_cli::run::run;
 use spl_cli::words::Words;
 use spl_outside::streams::{StdSink, StdSource};
-use std::env;
-use std::io;
 use std::process::ExitCode;
+use std::{env, io};
 
 /// The exit status where there is no memory to collect the words.
 const NO_MEMORY: u8 = 6;

@@ -4,6 +4,6 @@
 #![tactic(auto)]
 
 #[cfg(test)]
-mod texts;
-#[cfg(test)]
 mod rows;
+#[cfg(test)]
+mod texts;

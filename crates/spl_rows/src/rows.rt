@@ -1,5 +1,7 @@
 // Whole runs of the program over memory and over std's streams.
-use crate::texts::{FAILED_TRIPLE, FAILED_TRIPLE_EVIDENCE, MATRIX_UNITS, NO_DEGREE, NO_FIELD, ZERO_PRODUCT};
+use crate::texts::{
+    FAILED_TRIPLE, FAILED_TRIPLE_EVIDENCE, MATRIX_UNITS, NO_DEGREE, NO_FIELD, ZERO_PRODUCT,
+};
 use spl_cli::run::run;
 use spl_cli::words::Words;
 use spl_outside::memory::{MemSink, MemSource};
@@ -17,7 +19,12 @@ fn words_of(alloc: Global, list: &[&str]) -> Result<Words, Fail> {
 }
 
 /// A run over memory: the exit status, and what is written.
-fn ran(alloc: Global, list: &[&str], source: MemSource, sink: MemSink) -> Result<(u8, Vec<u8>), Fail> {
+fn ran(
+    alloc: Global,
+    list: &[&str],
+    source: MemSource,
+    sink: MemSink,
+) -> Result<(u8, Vec<u8>), Fail> {
     let words = words_of(alloc, list)?;
     let mut source = source;
     let mut sink = sink;
@@ -71,7 +78,11 @@ fn refuses_too_long_an_input(rt: HostRuntime) -> Result<(), Fail> {
 fn tells_its_usage(rt: HostRuntime) -> Result<(), Fail> {
     let alloc = rt.alloc();
     let none: [&str; 0] = [];
-    for list in [none.as_slice(), ["decide", "extra"].as_slice(), ["Decide"].as_slice()] {
+    for list in [
+        none.as_slice(),
+        ["decide", "extra"].as_slice(),
+        ["Decide"].as_slice(),
+    ] {
         let (code, written) = ran_well(alloc, list, MATRIX_UNITS.as_bytes())?;
         assert_eq!(rt; code, 2);
         assert_eq!(rt; written.as_slice(), b"usage: spl decide\n".as_slice());
@@ -92,7 +103,11 @@ fn tells_a_fault_of_reading_or_writing(rt: HostRuntime) -> Result<(), Fail> {
 
     let mut third = Vec::new(alloc);
     third.push(3)?;
-    let source = MemSource::new(FAILED_TRIPLE.as_bytes().to_vec(alloc)?, 1000, Vec::new(alloc));
+    let source = MemSource::new(
+        FAILED_TRIPLE.as_bytes().to_vec(alloc)?,
+        1000,
+        Vec::new(alloc),
+    );
     let sink = MemSink::new(alloc, 32, 4, third)?;
     let (code, written) = ran(alloc, &["decide"], source, sink)?;
     assert_eq!(rt; code, 5);
@@ -108,6 +123,9 @@ fn runs_over_the_streams_of_std(rt: HostRuntime) -> Result<(), Fail> {
     let mut sink = StdSink::new(Vec::new(alloc));
     let code = run(alloc, &words, &mut source, &mut sink).code();
     assert_eq!(rt; code, 0);
-    assert_eq!(rt; sink.into_inner().as_slice(), FAILED_TRIPLE_EVIDENCE.as_bytes());
+    assert_eq!(rt;
+        sink.into_inner().as_slice(),
+        FAILED_TRIPLE_EVIDENCE.as_bytes()
+    );
     Ok(())
 }

@@ -32,15 +32,15 @@ module _ {E : Type 0} (o : Ops E) (A : Structure E) where
         first = λ x y z lx ly lz b. ⊎_elim
             (λ (l : x + 1 < i + 1). before x y (omega arith) ly z lz)
             (λ (e : (x + 1 ≡ i + 1) × ((y + 1 < j + 1) ⊎ ((y + 1 ≡ j + 1) × (z + 1 < k + 1)))).
-              let x_is = e.0 in
-              let same : i ≡ x = omega arith in
-              ⊎_elim
-              (λ (l : y + 1 < j + 1). at_places i y z x y z same (omega arith) (omega arith) (pair.before y (omega arith) z lz))
-              (λ (d : (y + 1 ≡ j + 1) × (z + 1 < k + 1)).
-                let y_is = d.0 in
-                let z_lt = d.1 in
-                let same_y : j ≡ y = omega arith in
-                at_places i j z x y z same same_y (omega arith) (third.before z (omega arith)))
-              e.1)
+            let x_is = e.0 in
+            let same : i ≡ x = omega arith in
+            ⊎_elim
+            (λ (l : y + 1 < j + 1). at_places i y z x y z same (omega arith) (omega arith) (pair.before y (omega arith) z lz))
+            (λ (d : (y + 1 ≡ j + 1) × (z + 1 < k + 1)).
+            let y_is = d.0 in
+            let z_lt = d.1 in
+            let same_y : j ≡ y = omega arith in
+            at_places i j z x y z same same_y (omega arith) (third.before z (omega arith)))
+            e.1)
             b;
       }
