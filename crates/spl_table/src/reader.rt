@@ -10,6 +10,8 @@ ghost use Rattle.spl_table.specs.declared.refusal.Refusal.{Refusal};
 mod constants;
 mod entries;
 mod head;
+#[cfg(test)]
+mod tests;
 mod words;
 
 use crate::reader::constants::constants_of;
