@@ -14,3 +14,6 @@ pub mod Lattices
 pub mod Corners
 pub mod Kernels
 pub mod Subspaces
+pub mod IndependentVectors
+pub mod Forms
+pub mod TraceForms

@@ -9,3 +9,4 @@ pub mod Space
 pub mod Quotient
 pub mod Valuation
 pub mod Subspaces
+pub mod Form

@@ -7,5 +7,6 @@
 #![tactic(auto)]
 
 pub mod algebra_laws;
+pub mod form_laws;
 pub mod space_laws;
 pub mod table_laws;
