@@ -5,7 +5,7 @@ use Rattle.std.proofs.Math.Nat as nat
 use Rattle.std.proofs.lemmas.List.{get_or-drop}
 use Rattle.theory_rings.specs.Ops.{Ops, IsElem, FieldLaws}
 use Rattle.theory_rings.specs.Sum.{at, sum_of, table}
-use Rattle.theory_rings.proofs.Lists.{length-table, get_or-table}
+use Rattle.theory_rings.proofs.Sums.Lists.{length-table, get_or-table}
 use Rattle.theory_spaces.specs.Tuples.{IsTuple, product}
 use Rattle.spl_algebra.specs.Products.{AddsEach, scaled_rows, sum_of_rows}
 use Rattle.spl_algebra.proofs.Terms.{add-zero, mul-zero, zero-mul, sum_of-next, sum_of_eq_zero}

@@ -6,7 +6,7 @@ use Rattle.std.proofs.lemmas.List.Elements.{All-set}
 use Rattle.std.proofs.Math.ListN.{set}
 use Rattle.theory_rings.specs.Ops.{Ops, IsElem, FieldLaws}
 use Rattle.theory_rings.specs.Sum.{at, sum_of, table}
-use Rattle.theory_rings.proofs.Lists.{length-table, get_or-table}
+use Rattle.theory_rings.proofs.Sums.Lists.{length-table, get_or-table}
 use Rattle.spl_algebra.specs.Products.{AddsEach, scaled_rows}
 use Rattle.spl_algebra.proofs.Terms.{add-zero, mul-zero, zero-mul, sum_of-next, sum_of_eq_zero}
 use Rattle.theory_spaces.proofs.Tuples.{at-elem, sum_of-elem}
