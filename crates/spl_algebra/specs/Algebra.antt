@@ -37,3 +37,7 @@ module _ {E : Type 0} (o : Ops E) (A : Structure E) where
   -- every three elements associate
   abbrev pub AllAssociate : Type 0
   AllAssociate = (a b c : List E) → IsElement a → IsElement b → IsElement c → product_of (product_of a b) c ≡ product_of a (product_of b c)
+
+-- an algebra that is associative at its basis is so everywhere
+abbrev pub AssociativeEverywhere : {E : Type 0} → Ops E → Type 0
+AssociativeEverywhere {E} o = (A : Structure E) → IsOver o A → IsAssociative o A → AllAssociate o A

@@ -1,8 +1,9 @@
 // Algebras by their structure constants.
-ghost use Rattle.std.specs.Prelude.{◌≡◌, ℕ, ◌*◌, ◌+◌, ◌^◌, ◌<◌, ◌≤◌, List, length, IfOk};
+ghost use Rattle.std.specs.Prelude.{◌≡◌, ℕ, ◌*◌, ◌+◌, ◌^◌, ◌<◌, ◌≤◌, ◌↔◌, List, length, IfOk, IsTrue};
 ghost use Rattle.theory_rings.specs.Ops.{Ops, IsElem};
-ghost use Rattle.spl_algebra.specs.Algebra.{Structure, IsOver, IsElement, IsAssociative, AllAssociate, product_of};
+ghost use Rattle.spl_algebra.specs.Algebra.{Structure, IsOver, IsElement, AssociatesAt, basis_of, product_of};
 
+use crate::basis::{associates, coordinates, row_of};
 use crate::products::product_of_slices;
 use spl_field::field::{Field, NoMemory};
 use spl_field::vector::Vector;
@@ -35,7 +36,12 @@ impl<F: Field> Model for Algebra<F> {
 
 impl<F: Field> Algebra<F> {
     /// The algebra of dimension m with these constants.
-    pub fn new(_alloc: Global, f: &F, m: usize, constants: Constants<F>) -> Result<Algebra<F>, NoMemory>
+    pub fn new(
+        _alloc: Global,
+        f: &F,
+        m: usize,
+        constants: Constants<F>,
+    ) -> Result<Algebra<F>, NoMemory>
         requires positive { 1 ≤ m }
         requires over { IsOver (F.ops f.now) (record { dim = m; constants = constants }) }
         ensures dim { IfOk result (λ a. a.dim ≡ m) }
@@ -55,13 +61,64 @@ impl<F: Field> Algebra<F> {
     }
 
     /// The product of a and b.
-    pub fn mul(&self, alloc: Global, f: &F, a: &Vector<F>, b: &Vector<F>) -> Result<Vector<F>, NoMemory>
+    pub fn mul(
+        &self,
+        alloc: Global,
+        f: &F,
+        a: &Vector<F>,
+        b: &Vector<F>,
+    ) -> Result<Vector<F>, NoMemory>
         requires over { IsOver (F.ops f.now) self.now }
         requires left { IsElement (F.ops f.now) self.now a.now }
         requires right { IsElement (F.ops f.now) self.now b.now }
         ensures elem { IfOk result (IsElement (F.ops f.now) self.now) }
         ensures value { IfOk result (λ r. r ≡ product_of (F.ops f.now) self.now a.now b.now) }
     {
-        product_of_slices(alloc, f, self.dim, self.constants.as_slice(), a.as_slice(), b.as_slice())
+        product_of_slices(
+            alloc,
+            f,
+            self.dim,
+            self.constants.as_slice(),
+            a.as_slice(),
+            b.as_slice(),
+        )
+    }
+    /// The basis element i.
+    pub fn basis_element(&self, alloc: Global, f: &F, i: usize) -> Result<Vector<F>, NoMemory>
+        requires { i < self.now.dim }
+        ensures elem { IfOk result (IsElement (F.ops f.now) self.now) }
+        ensures value { IfOk result (λ r. r ≡ basis_of (F.ops f.now) self.now i) }
+    {
+        coordinates(alloc, f, self.dim, i)
+    }
+
+    /// The product of the basis elements i and j. It takes no memory, since it is a row of the constants.
+    pub fn basis_product(&self, f: &F, i: usize, j: usize) -> &[F::Elem]
+        requires over { IsOver (F.ops f.now) self.now }
+        requires left { i < self.now.dim }
+        requires right { j < self.now.dim }
+        ensures elem { IsElement (F.ops f.now) self.now result.now }
+        ensures value { result.now ≡ product_of (F.ops f.now) self.now
+            (basis_of (F.ops f.now) self.now i) (basis_of (F.ops f.now) self.now j) }
+    {
+        row_of(f, self.dim, self.constants.as_slice(), i, j)
+    }
+
+    /// Whether (b_i·b_j)·b_k and b_i·(b_j·b_k) are the same, where b_i is the basis element i.
+    pub fn associates_at(
+        &self,
+        alloc: Global,
+        f: &F,
+        i: usize,
+        j: usize,
+        k: usize,
+    ) -> Result<bool, NoMemory>
+        requires over { IsOver (F.ops f.now) self.now }
+        requires first { i < self.now.dim }
+        requires second { j < self.now.dim }
+        requires third { k < self.now.dim }
+        ensures { IfOk result (λ b. IsTrue b ↔ AssociatesAt (F.ops f.now) self.now i j k) }
+    {
+        associates(alloc, f, self.dim, self.constants.as_slice(), i, j, k)
     }
 }

@@ -4,4 +4,8 @@
 #![tactic(auto)]
 
 pub mod algebra;
+mod basis;
+pub mod laws;
 mod products;
+#[cfg(test)]
+mod tests;

@@ -1,8 +1,9 @@
 // Products of lists of coordinates by structure constants.
-ghost use Rattle.std.specs.Prelude.{◌≡◌, ℕ, ◌*◌, ◌+◌, ◌^◌, ◌<◌, ◌≤◌, List, length, IfOk, OnOk};
+ghost use Rattle.std.specs.Prelude.{◌≡◌, ℕ, ◌*◌, ◌+◌, ◌^◌, ◌<◌, ◌≤◌, ◌↔◌, length, IfOk, IsTrue, OnOk, All};
 ghost use Rattle.theory_rings.specs.Ops.{IsElem};
-ghost use Rattle.theory_rings.specs.Sum.{at, sum_of};
+ghost use Rattle.theory_rings.specs.Sum.{table, at};
 ghost use Rattle.theory_spaces.specs.Tuples.{IsTuple, product};
+ghost use Rattle.spl_algebra.specs.Products.{AddsEach, scaled_rows, sum_of_rows};
 
 use spl_field::field::{Field, NoMemory};
 use spl_field::vector::Vector;
@@ -16,7 +17,14 @@ fn add_multiple<F: Field>(
     sums: &mut [F::Elem],
     c: &F::Elem,
     row: &[F::Elem],
-) -> Result<(), NoMemory> {
+) -> Result<(), NoMemory>
+    requires zero { zero.now ≡ (F.ops f.now).zero }
+    requires sums { All (IsElem (F.ops f.now)) sums.old }
+    requires factor { IsElem (F.ops f.now) c.now }
+    requires row { IsTuple (F.ops f.now) (length sums.old) row.now }
+    ensures { OnOk result (AddsEach (F.ops f.now) sums.old sums.new
+        (λ k. (F.ops f.now).mul c.now (at (F.ops f.now) row.now k))) }
+{
     for k in 0..sums.len() {
         if !f.eq(&row[k], zero) {
             let term = f.mul(alloc, c, &row[k])?;
@@ -26,8 +34,9 @@ fn add_multiple<F: Field>(
     Ok(())
 }
 
-/// Adds to each sum k the sum over j of x·b_j·row_jk. A zero of b costs no row.
-fn add_products<F: Field>(
+/// Adds to each sum k the sum over l of x·b_l times item k of row l, where a row begins each stride items. A zero of b
+/// costs no row.
+fn add_rows<F: Field>(
     alloc: Global,
     f: &F,
     zero: &F::Elem,
@@ -35,15 +44,38 @@ fn add_products<F: Field>(
     x: &F::Elem,
     b: &[F::Elem],
     rows: &[F::Elem],
-) -> Result<(), NoMemory> {
+    stride: usize,
+) -> Result<(), NoMemory>
+    requires zero { zero.now ≡ (F.ops f.now).zero }
+    requires sums { All (IsElem (F.ops f.now)) sums.old }
+    requires factor { IsElem (F.ops f.now) x.now }
+    requires coordinates { IsTuple (F.ops f.now) (length sums.old) b.now }
+    requires rows { All (IsElem (F.ops f.now)) rows.now }
+    requires within { (l : ℕ) → l < length sums.old → l * stride + length sums.old ≤ length rows.now }
+    ensures { OnOk result (AddsEach (F.ops f.now) sums.old sums.new
+        (scaled_rows (F.ops f.now) (length sums.old) x.now b.now rows.now stride)) }
+{
     let m = sums.len();
-    for j in 0..m {
-        if !f.eq(&b[j], zero) {
-            let c = f.mul(alloc, x, &b[j])?;
-            add_multiple(alloc, f, zero, sums, &c, &rows[j * m..(j + 1) * m])?;
+    for l in 0..m {
+        if !f.eq(&b[l], zero) {
+            let c = f.mul(alloc, x, &b[l])?;
+            let start = l * stride;
+            add_multiple(alloc, f, zero, sums, &c, &rows[start..start + m])?;
         }
     }
     Ok(())
+}
+
+/// A list of m zeros.
+fn zeros<F: Field>(alloc: Global, f: &F, m: usize) -> Result<Vec<F::Elem>, NoMemory>
+    ensures elem { IfOk result (λ v. IsTuple (F.ops f.now) m v.items) }
+    ensures value { IfOk result (λ v. v.items ≡ table m (λ _. (F.ops f.now).zero)) }
+{
+    let mut zeros = Vec::with_capacity(alloc, m)?;
+    for _ in 0..m {
+        zeros.push(f.zero(alloc)?)?;
+    }
+    Ok(zeros)
 }
 
 /// The product of a and b in the algebra of dimension m with these constants.
@@ -66,17 +98,53 @@ pub(crate) fn product_of_slices<F: Field>(
     let mut sums = zeros(alloc, f, m)?;
     for i in 0..m {
         if !f.eq(&a[i], &zero) {
-            add_products(alloc, f, &zero, &mut sums, &a[i], b, &constants[i * m * m..(i + 1) * m * m])?;
+            add_rows(
+                alloc,
+                f,
+                &zero,
+                &mut sums,
+                &a[i],
+                b,
+                &constants[i * m * m..],
+                m,
+            )?;
         }
     }
     Ok(Vector::from_vec(sums))
 }
 
-/// A list of m zeros.
-fn zeros<F: Field>(alloc: Global, f: &F, m: usize) -> Result<Vec<F::Elem>, NoMemory> {
-    let mut zeros = Vec::with_capacity(alloc, m)?;
-    for _ in 0..m {
-        zeros.push(f.zero(alloc)?)?;
+/// The sum over l of b_l times the m items of row l, where a row begins each stride items.
+pub(crate) fn combination<F: Field>(
+    alloc: Global,
+    f: &F,
+    m: usize,
+    b: &[F::Elem],
+    rows: &[F::Elem],
+    stride: usize,
+) -> Result<Vec<F::Elem>, NoMemory>
+    requires coordinates { IsTuple (F.ops f.now) m b.now }
+    requires rows { All (IsElem (F.ops f.now)) rows.now }
+    requires within { (l : ℕ) → l < m → l * stride + m ≤ length rows.now }
+    ensures elem { IfOk result (λ v. IsTuple (F.ops f.now) m v.items) }
+    ensures value { IfOk result (λ v. v.items ≡ table m (sum_of_rows (F.ops f.now) m b.now rows.now stride)) }
+{
+    let zero = f.zero(alloc)?;
+    let one = f.one(alloc)?;
+    let mut sums = zeros(alloc, f, m)?;
+    add_rows(alloc, f, &zero, &mut sums, &one, b, rows, stride)?;
+    Ok(sums)
+}
+
+/// Whether the lists are the same.
+pub(crate) fn same<F: Field>(f: &F, a: &[F::Elem], b: &[F::Elem]) -> bool
+    requires left { All (IsElem (F.ops f.now)) a.now }
+    requires right { IsTuple (F.ops f.now) (length a.now) b.now }
+    ensures { IsTrue result ↔ (a.now ≡ b.now) }
+{
+    for k in 0..a.len() {
+        if !f.eq(&a[k], &b[k]) {
+            return false;
+        }
     }
-    Ok(zeros)
+    true
 }

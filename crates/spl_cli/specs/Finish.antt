@@ -1,24 +1,18 @@
 -- What the parts of a run do.
-use Rattle.std.specs.Prelude.{◌≡◌, ◌⊎◌, ℕ, ◌≤◌, Bool, List, Option, is_some}
+use Rattle.std.specs.Prelude.{◌≡◌, ◌⊎◌, ℕ, Bool, List, Option}
 use Rattle.std.specs.Io.KnownBytes.{Keeps, Appends}
 use Rattle.spl_outside.specs.Faults.{Rose}
 use Rattle.spl_outside.specs.Prefix.{AppendsPart}
 use Rattle.spl_cli.specs.declared.status.Status.{Status}
-use Rattle.spl_cli.specs.declared.status.Status.TheVariants.{Done, No, Usage, Refused, ReadFault, WriteFault, Memory}
+use Rattle.spl_cli.specs.declared.status.Status.TheVariants.{WriteFault, Memory}
 use Rattle.spl_cli.specs.Report.{Report}
-use Rattle.spl_cli.specs.Run.{SourceState, SinkState, IsAnswer}
+use Rattle.spl_cli.specs.Run.{SourceState, SinkState, SinkStands}
 
 abbrev pub source_state : {S : Type 0} → (S → Option (List ℕ)) → (S → ℕ) → (S → Bool) → S → SourceState
 source_state left faults steady s = record { left = left s; faults = faults s; steady = steady s }
 
 abbrev pub sink_state : {K : Type 0} → (K → Option (List ℕ)) → (K → ℕ) → (K → Option ℕ) → K → SinkState
 sink_state written faults steady s = record { written = written s; faults = faults s; steady = steady s }
-
--- what stands of a sink whatever happens
-pub record SinkStands (sink sink' : SinkState) : Type 0 where
-  pub faults : sink.faults ≤ sink'.faults
-  pub told : is_some sink'.written ≡ is_some sink.written
-  pub steady : sink'.steady ≡ sink.steady
 
 -- the bytes are written, and the status is the one that goes with them; or a proper prefix of them is
 pub record Finishes (answer : Status) (bytes : List ℕ) (sink sink' : SinkState) (status : Status) : Type 0 where

@@ -23,11 +23,12 @@ impl From<AllocError> for InputFault {
     }
 }
 
-/// The bytes asked for at a call, at the most.
-const PIECE: usize = 65536;
-
 /// Appends the next bytes of the source to the input, by way of the buffer, and says how many; none only at the end.
-fn read_piece<S: Source>(source: &mut S, buffer: &mut [u8], input: &mut Vec<u8>) -> Result<usize, InputFault>
+fn read_piece<S: Source>(
+    source: &mut S,
+    buffer: &mut [u8],
+    input: &mut Vec<u8>,
+) -> Result<usize, InputFault>
     requires { 0 < length buffer.old }
     ensures within { IfOk result (λ n. n ≤ length buffer.new) }
     ensures appended { IfOk result (λ n. input.new.items ≡ input.old.items ++ take n buffer.new) }
@@ -48,9 +49,23 @@ fn read_piece<S: Source>(source: &mut S, buffer: &mut [u8], input: &mut Vec<u8>)
     }
 }
 
-/// The bytes of the source, to its end or to one byte past the limit.
-pub(crate) fn read_input<S: Source>(alloc: Global, source: &mut S, limit: usize) -> Result<Vec<u8>, InputFault>
-    requires { limit < 2 ^ 62 }
+/// A buffer of this many bytes.
+fn buffer_of(alloc: Global, size: usize) -> Result<Vec<u8>, InputFault>
+    ensures size { IfOk result (λ buffer. length buffer.items ≡ size) }
+    ensures memory { IsErrOf result InputFault.Read → ⊥ }
+{
+    Ok(vec![in alloc; 0u8; size]?)
+}
+
+/// The bytes of the source, to its end or to one byte past the limit, by pieces of at most `piece` bytes.
+pub(crate) fn read_input<S: Source>(
+    alloc: Global,
+    source: &mut S,
+    limit: usize,
+    piece: usize,
+) -> Result<Vec<u8>, InputFault>
+    requires bounded { limit < 2 ^ 62 }
+    requires some { 0 < piece }
     ensures taken { IfOk result (λ input. Consumes (S.left source.old) (S.left source.new) input.items) }
     ensures most { IfOk result (λ input. length input.items ≤ limit + 1) }
     ensures whole { IfOk result (λ input. length input.items ≤ limit → IsAtEnd (S.left source.new)) }
@@ -60,10 +75,10 @@ pub(crate) fn read_input<S: Source>(alloc: Global, source: &mut S, limit: usize)
     ensures told { is_some (S.left source.new) ≡ is_some (S.left source.old) }
     ensures steady { S.steady source.new ≡ S.steady source.old }
 {
-    let mut buffer = vec![in alloc; 0u8; PIECE]?;
+    let mut buffer = buffer_of(alloc, piece)?;
     let mut input = Vec::new(alloc);
     while input.len() <= limit {
-        let room = (limit + 1 - input.len()).min(PIECE);
+        let room = (limit + 1 - input.len()).min(piece);
         if read_piece(source, &mut buffer[..room], &mut input)? == 0 {
             break;
         }

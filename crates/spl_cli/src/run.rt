@@ -20,6 +20,9 @@ use std::alloc::Global;
 /// The most bytes of an input of `decide`.
 const DECIDE_LIMIT: usize = 8388608;
 
+/// The bytes asked for at a call, at the most.
+const PIECE: usize = 65536;
+
 /// Writes the bytes, and answers the status that goes with them, or that a write failed.
 fn finish<K: Sink>(sink: &mut K, bytes: &[u8], answer: Status) -> Status
     ensures { Finishes answer bytes.now (sink_state K.written K.faults K.steady sink.old)
@@ -38,7 +41,11 @@ fn decide<K: Sink>(alloc: Global, input: &[u8], sink: &mut K) -> Status
 {
     match read_table(alloc, input) {
         Err(TableFault::Memory) => Status::Memory,
-        Err(TableFault::Refused { refusal }) => finish(sink, refusal_line(refusal).as_str().as_bytes(), Status::Refused),
+        Err(TableFault::Refused { refusal }) => finish(
+            sink,
+            refusal_line(refusal).as_str().as_bytes(),
+            Status::Refused,
+        ),
         Ok(table) => match first_failed_triple(alloc, &table) {
             Err(_) => Status::Memory,
             Ok(None) => {
@@ -46,7 +53,11 @@ fn decide<K: Sink>(alloc: Global, input: &[u8], sink: &mut K) -> Status
                     line: end_line(input) as u32,
                     kind: Kind::NotBuilt,
                 };
-                finish(sink, refusal_line(refusal).as_str().as_bytes(), Status::Refused)
+                finish(
+                    sink,
+                    refusal_line(refusal).as_str().as_bytes(),
+                    Status::Refused,
+                )
             }
             Ok(Some(triple)) => match triple_evidence(alloc, triple) {
                 Err(_) => Status::Memory,
@@ -66,7 +77,7 @@ pub fn run<S: Source, K: Sink>(alloc: Global, words: &Words, source: &mut S, sin
     if !words.is_decide() {
         return finish(sink, USAGE, Status::Usage);
     }
-    match read_input(alloc, source, DECIDE_LIMIT) {
+    match read_input(alloc, source, DECIDE_LIMIT, PIECE) {
         Err(InputFault::Read) => Status::ReadFault,
         Err(InputFault::Memory) => Status::Memory,
         Ok(input) => decide(alloc, input.as_slice(), sink),

@@ -1,2 +1,3 @@
 pub mod FieldByDigits
 pub mod Rows
+pub mod Fermat

@@ -6,12 +6,18 @@ use crate::field::NoMemory;
 use thiserror::Error;
 
 /// Why there is no such field.
-#[derive(Debug, Drop, Error)]
+#[derive(Debug, Drop, Error, PartialEq, Eq)]
 pub enum FieldFault {
+    /// The characteristic is below 2, the modulus is empty, p to the number of digits is above 256, or a number of the
+    /// modulus is not below p.
     #[error("there are not 2 to 256 elements, or a number of the modulus is not below the characteristic")]
     Size,
+
+    /// The element is the first but 0 that has no inverse.
     #[error("{element} has no inverse")]
     NoInverse { element: u8 },
+
+    /// There was not enough memory.
     #[error("out of memory")]
     Memory,
 }

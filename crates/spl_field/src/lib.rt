@@ -7,4 +7,6 @@ pub mod admission;
 pub mod field;
 pub mod small;
 mod tables;
+#[cfg(test)]
+mod tests;
 pub mod vector;

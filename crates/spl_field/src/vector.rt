@@ -1,5 +1,5 @@
 // Lists of elements of a field.
-ghost use Rattle.std.specs.Prelude.{◌≡◌, ◌<◌, ◌≤◌, ◌↔◌, List, [], ◌∷◌, ◌++◌, length, ◌==◌, IfOk, IfSome, OnOk, OnErr, get_or, All};
+ghost use Rattle.std.specs.Prelude.{◌≡◌, ◌<◌, ◌≤◌, ◌↔◌, List, [], ◌∷◌, ◌++◌, length, ◌==◌, IfOk, IfSome, OnOk, OnErr, slice_index_or, All};
 ghost use Rattle.theory_rings.specs.Ops.{IsElem};
 
 use crate::field::{Field, NoMemory};
@@ -31,7 +31,14 @@ impl<F: Field> Vector<F> {
         }
     }
 
-    /// Appends the item.
+    /// The list of these items.
+    pub fn from_vec(items: Vec<F::Elem>) -> Self
+        ensures { result ≡ items.items }
+    {
+        Vector { items }
+    }
+
+    /// Appends the item. Where memory is wanting the list stays as it was, and the item is dropped.
     pub fn push(&mut self, item: F::Elem) -> Result<(), NoMemory>
         ensures ok { OnOk result (self.new ≡ self.old ++ item ∷ []) }
         ensures err { OnErr result (self.new ≡ self.old) }
@@ -56,8 +63,8 @@ impl<F: Field> Vector<F> {
 
     /// The item at place i, counted from 0; None exactly where i is past the end.
     pub fn at(&self, i: usize) -> Option<&F::Elem>
-        ensures none { result ≡ None ↔ length self.now ≤ i }
-        ensures some { IfSome result (λ r. (i < length self.now) × (r.now ≡ get_or self.now i r.now)) }
+        ensures none { (result ≡ None) ↔ (length self.now ≤ i) }
+        ensures some { IfSome result (λ r. (i < length self.now) × (r.now ≡ slice_index_or self.now i r.now)) }
     {
         self.items.get(i)
     }
@@ -69,12 +76,12 @@ impl<F: Field> Vector<F> {
         self.items.as_slice()
     }
 
-    /// An equal list.
+    /// An equal list of elements of f. The one fault is want of memory.
     pub fn copy(&self, alloc: Global, f: &F) -> Result<Self, NoMemory>
         requires { All (IsElem (F.ops f.now)) self.now }
         ensures { IfOk result (λ v. v ≡ self.now) }
     {
-        let mut items = Vec::new(alloc);
+        let mut items = Vec::with_capacity(alloc, self.items.len())?;
         for item in &self.items {
             items.push(f.copy(alloc, item)?)?;
         }

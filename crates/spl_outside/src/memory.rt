@@ -8,7 +8,7 @@ use crate::outside::{Failed, Sink, Source};
 use spl_field::field::NoMemory;
 use std::alloc::Global;
 
-/// Bytes in memory.
+/// Bytes in memory, as a source. The number of its next call and the count of its faults stand still at 2^64 − 1.
 #[derive(Drop)]
 pub struct MemSource {
     bytes: Vec<u8>,
@@ -22,7 +22,7 @@ pub struct MemSource {
     ghost quiet: { failing.items ≡ [] → faults ≡ 0 },
 }
 
-/// A buffer in memory.
+/// A buffer in memory, as a sink. The number of its next call and the count of its faults stand still at 2^64 − 1.
 #[derive(Drop)]
 pub struct MemSink {
     buffer: Vec<u8>,
@@ -85,7 +85,8 @@ impl Source for MemSource {
 
         // Exactly the listed calls fail, and each other call gives all that it may.
         ensures failed { IsErr result ↔ Contains (source_failing self.old) (source_call self.old) }
-        ensures given { IfOk result (λ n. n ≡ min (min (length (left_of self.old)) (length buf.old)) (source_most self.old)) }
+        ensures given { IfOk result (λ n. n ≡ min
+            (min (length (left_of self.old)) (length buf.old)) (source_most self.old)) }
         ensures copied { IfOk result (λ n. buf.new ≡ take n (left_of self.old) ++ drop n buf.old) }
         ensures untouched { OnErr result (buf.new ≡ buf.old) }
 
@@ -115,8 +116,9 @@ impl Source for MemSource {
 impl MemSink {
     ghost use Rattle.spl_outside.specs.Memory.{written_of, room_of, sink_failing, sink_call, sink_most, sink_faults};
 
-    /// A sink that takes at most `most` bytes at a call and `room` in all, and whose calls with the listed numbers
-    /// fail. Calls are counted from 1.
+    /// A sink that takes at most `most` bytes at a call and `room` bytes in all, and whose calls with the listed numbers
+    /// fail, as do those that find no room. Calls are counted from 1. It reserves the room, so no write takes memory;
+    /// where that fails the answer is NoMemory.
     pub fn new(
         alloc: Global,
         room: usize,
@@ -142,7 +144,7 @@ impl MemSink {
         })
     }
 
-    /// What is written.
+    /// What is written. It takes no memory.
     pub fn bytes(&self) -> &[u8]
         ensures { result.now ≡ written_of self.now }
     {
@@ -173,7 +175,8 @@ impl Sink for MemSink {
         // As every sink.
         ensures within { IfOk result (λ n. n ≤ length piece.now) }
         ensures some { IfOk result (λ n. 0 < length piece.now → 0 < n) }
-        ensures grew { IfOk result (λ n. written_of self.new ≡ written_of self.old ++ take n piece.now) }
+        ensures grew { IfOk result (λ n.
+            written_of self.new ≡ written_of self.old ++ take n piece.now) }
         ensures rose { OnErr result (Rose (sink_faults self.old) (sink_faults self.new)) }
         ensures kept { OnErr result (written_of self.new ≡ written_of self.old) }
         ensures faults { sink_faults self.old ≤ sink_faults self.new }
@@ -182,7 +185,8 @@ impl Sink for MemSink {
         // Exactly the listed calls fail and those that find no room, and each other call takes all that it may.
         ensures failed { IsErr result ↔ (Contains (sink_failing self.old) (sink_call self.old)
             ⊎ ((0 < length piece.now) × (length (written_of self.old) ≡ room_of self.old))) }
-        ensures given { IfOk result (λ n. n ≡ min (min (length piece.now) (room_of self.old - length (written_of self.old)))
+        ensures accepted { IfOk result (λ n. n ≡ min
+            (min (length piece.now) (room_of self.old - length (written_of self.old)))
             (sink_most self.old)) }
 
         ensures no_fault { OnOk result (sink_faults self.new ≡ sink_faults self.old) }

@@ -9,14 +9,16 @@ use crate::faults::next;
 use crate::outside::{Failed, Sink, Source};
 use std::io::{Read, Write};
 
-/// A reader of std's as a source. It tells no content, and any call may fail.
+/// A reader of std's as a source. It tells no content, and any call may fail. The count of its faults stands still at
+/// 2^64 − 1.
 #[derive(Drop)]
 pub struct StdSource<R> {
     inner: R,
     faults: u64,
 }
 
-/// A writer of std's as a sink. It tells no content, and any call may fail. It holds no bytes back, and never flushes.
+/// A writer of std's as a sink. It tells no content, and any call may fail. It holds no bytes back and flushes nothing.
+/// The count of its faults stands still at 2^64 − 1.
 #[derive(Drop)]
 pub struct StdSink<W> {
     inner: W,
@@ -47,9 +49,11 @@ impl<R: Read> Source for StdSource<R> {
 
     ghost steady = { λ _. false };
 
+    // Each error of the reader's is a failure; what is interrupted is not tried again.
     fn read(&mut self, buf: &mut [u8]) -> Result<usize, Failed>
         ensures within { IfOk result (λ n. n ≤ length buf.new) }
-        ensures bytes { ReadConsumes (R.remaining (reader_of self.old)) (R.remaining (reader_of self.new)) result buf.new }
+        ensures bytes { ReadConsumes (R.remaining (reader_of self.old))
+            (R.remaining (reader_of self.new)) result buf.new }
         ensures no_fault { OnOk result (read_faults self.new ≡ read_faults self.old) }
         ensures fault { OnErr result (read_faults self.new ≡ next_count (read_faults self.old)) }
         ensures rose { OnErr result (Rose (read_faults self.old) (read_faults self.new)) }
@@ -91,11 +95,12 @@ impl<W: Write> Sink for StdSink<W> {
 
     ghost steady = { λ _. None };
 
-    // A write of no byte of a piece that has some is a failure.
+    // Each error of the writer's is a failure, and so is a write of no byte of a piece that has some.
     fn write(&mut self, piece: &[u8]) -> Result<usize, Failed>
         ensures within { IfOk result (λ n. n ≤ length piece.now) }
         ensures some { IfOk result (λ n. 0 < length piece.now → 0 < n) }
-        ensures bytes { WriteAppends (W.contents (writer_of self.old)) (W.contents (writer_of self.new)) result piece.now }
+        ensures bytes { WriteAppends (W.contents (writer_of self.old))
+            (W.contents (writer_of self.new)) result piece.now }
         ensures no_fault { OnOk result (write_faults self.new ≡ write_faults self.old) }
         ensures fault { OnErr result (write_faults self.new ≡ next_count (write_faults self.old)) }
         ensures rose { OnErr result (Rose (write_faults self.old) (write_faults self.new)) }

@@ -1,12 +1,50 @@
 // Each call once on its happy path, and what no clause can say of the adapters.
+ghost use Rattle.std.specs.Prelude.{◌≡◌, IfOk};
+
 use crate::memory::{MemSink, MemSource};
 use crate::outside::{Sink, Source};
 use crate::streams::{StdSink, StdSource};
 use crate::write::write_whole;
 use std::alloc::{AllocError, Global};
+use std::io;
+use std::io::{ErrorKind, Read, Write};
 use std::test::Fail;
 
 const TEXT: &[u8] = b"abcdefghij";
+
+// A stream whose first call fails. As a writer it then takes no byte, and as a reader it is at its end.
+#[derive(Drop)]
+struct Broken {
+    is_used: bool,
+}
+
+impl Broken {
+    fn answer(&mut self) -> io::Result<usize>
+        ensures { IfOk result (λ n. n ≡ 0) }
+    {
+        if self.is_used {
+            return Ok(0);
+        }
+        self.is_used = true;
+        Err(io::Error::from(ErrorKind::Interrupted))
+    }
+}
+
+impl Read for Broken {
+    fn read(&mut self, _buf: &mut [u8]) -> io::Result<usize> {
+        self.answer()
+    }
+}
+
+impl Write for Broken {
+    fn write(&mut self, _buf: &[u8]) -> io::Result<usize> {
+        self.answer()
+    }
+
+    fn flush(&mut self) -> io::Result<()> {
+        Ok(())
+    }
+}
 
 // What reads into a buffer of 8 bytes answer, one after another, and the bytes that they give.
 fn reads<S: Source>(

@@ -1,5 +1,5 @@
 // The search for a failed law of associativity.
-ghost use Rattle.std.specs.Prelude.{◌≡◌, ℕ, ◌<◌, ◌≤◌, IfOk, MatchOption};
+ghost use Rattle.std.specs.Prelude.{◌≡◌, ℕ, ◌+◌, ◌^◌, ◌<◌, IfOk, MatchOption};
 ghost use Rattle.spl_algebra.specs.Algebra.{IsOver, IsAssociative};
 ghost use Rattle.spl_table.specs.Table.{algebra_of, ops_of};
 ghost use Rattle.spl_table.specs.Triple.{AssociatesAtPair, FailsFirstAt, FailsFirstAtPair, IsFirstFailed};
@@ -52,11 +52,26 @@ fn first_pair<F: Field>(
         (λ p. FailsFirstAtPair (F.ops f.now) a.now i p.0 p.1)) }
 {
     for j in 0..a.dim() {
-        if let Some(k) = first_third(alloc, f, a, i, j)? {
-            return Ok(Some((j, k)));
+        match first_third(alloc, f, a, i, j)? {
+            Some(k) => return Ok(Some((j, k))),
+            None => {}
         }
     }
     Ok(None)
+}
+
+/// The triple at these places, which are counted from 0.
+fn from_places(i: usize, j: usize, k: usize) -> Triple
+    requires first { i + 1 < 2 ^ 64 }
+    requires second { j + 1 < 2 ^ 64 }
+    requires third { k + 1 < 2 ^ 64 }
+    ensures { result ≡ record { i = i + 1; j = j + 1; k = k + 1 } }
+{
+    Triple {
+        i: i + 1,
+        j: j + 1,
+        k: k + 1,
+    }
 }
 
 /// The first triple where the products differ.
@@ -65,12 +80,9 @@ fn first_triple<F: Field>(alloc: Global, f: &F, a: &Algebra<F>) -> Result<Option
     ensures { IfOk result (λ r. MatchOption r (IsAssociative (F.ops f.now) a.now) (IsFirstFailed (F.ops f.now) a.now)) }
 {
     for i in 0..a.dim() {
-        if let Some((j, k)) = first_pair(alloc, f, a, i)? {
-            return Ok(Some(Triple {
-                i: i + 1,
-                j: j + 1,
-                k: k + 1,
-            }));
+        match first_pair(alloc, f, a, i)? {
+            Some((j, k)) => return Ok(Some(from_places(i, j, k))),
+            None => {}
         }
     }
     Ok(None)

@@ -1,7 +1,7 @@
 -- The numbers below p ^ d, read as d digits in base p, lowest first, with a modulus given by d numbers m_0, .., m_(d − 1).
 -- A number stands for the polynomial in t whose coefficients are its digits, over the integers modulo p, and the modulus
 -- is t ^ d + m_(d − 1) t ^ (d − 1) + .. + m_0.
-use Rattle.std.specs.Prelude.{◌≡◌, ◌≢◌, ℕ, suc, ◌+◌, ◌-◌, ◌*◌, ◌%◌, ◌^◌, ◌<◌, ◌≤◌, List, [], ◌∷◌, ◌++◌, length, get_or, nat_lt, nat_eq}
+use Rattle.std.specs.Prelude.{◌≡◌, ◌≢◌, ℕ, ◌+◌, ◌*◌, ◌%◌, ◌^◌, ◌<◌, ◌≤◌, List, [], ◌∷◌, ◌++◌, length, get_or, nat_lt, nat_eq}
 use Rattle.theory_rings.specs.Ring.{CommRingOn}
 use Rattle.theory_rings.specs.Ops.{Ops, FieldLaws}
 use Rattle.theory_rings.specs.Elements.{Elem}
@@ -10,15 +10,13 @@ use Rattle.theory_rings.specs.Power.{times_of}
 use Rattle.theory_rings.specs.Enumerated.{Enumerated}
 use Rattle.theory_rings.specs.Homomorphism.{IsRingHom}
 use Rattle.theory_rings.specs.IntegersMod.{Fin, integers_mod, residue, mod_ops, IsInverseTable}
-use Rattle.theory_rings.specs.Polynomial.{Poly, coefficient, IsPolynomialRing}
+use Rattle.theory_rings.specs.Polynomial.{Poly, coefficient, convolution_by_ops, IsPolynomialRing}
 use Rattle.theory_rings.specs.Remainder.{Remainder, IsRemainderRing}
-use Rattle.theory_rings.specs.Sum.{sum}
-use Rattle.theory_rings.specs.Naturals.{nat_monoid}
 use Rattle.theory_rings.specs.Digits.{digit}
 
--- coefficient k of the product of two polynomials: the sum of f i · g (k − i) over i from 0 to k
+-- coefficient k of the product of two polynomials
 abbrev pub product_coefficient : (ℕ → ℕ) → (ℕ → ℕ) → ℕ → ℕ
-product_coefficient f g k = sum nat_monoid (suc k) (λ i. f i * g (k - i))
+product_coefficient f g k = convolution_by_ops 0 ◌+◌ ◌*◌ f g k
 
 -- coefficient k of t ^ d + m_(d − 1) t ^ (d − 1) + .. + m_0
 abbrev pub modulus_coefficient : List ℕ → ℕ → ℕ

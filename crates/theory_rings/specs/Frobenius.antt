@@ -1,5 +1,5 @@
 -- The Frobenius map x ↦ x^p, where p is prime and p times 1 is 0.
-use Rattle.std.specs.Prelude.{◌≡◌, ℕ, ◌%◌, ◌^◌, ◌<◌, ◌↔◌}
+use Rattle.std.specs.Prelude.{◌≡◌, ℕ, ◌<◌, ◌↔◌}
 use Rattle.theory_rings.specs.Ring.{CommRingOn}
 use Rattle.theory_rings.specs.Ops.{Ops, IsElem, FieldLaws}
 use Rattle.theory_rings.specs.Prime.{IsPrime}
@@ -9,10 +9,6 @@ use Rattle.theory_rings.specs.Power.{power, power_of, times, times_of}
 abbrev pub FrobeniusLaw : {K : Type 0} → CommRingOn K → Type 0
 FrobeniusLaw {K} C = (p : ℕ) → IsPrime p → times C.monoid p C.one ≡ C.zero
     → (a b : K) → power C.ring (C.◌⊕◌ a b) p ≡ C.◌⊕◌ (power C.ring a p) (power C.ring b p)
-
--- Fermat's little theorem
-abbrev pub FermatLaw : Type 0
-FermatLaw = (p : ℕ) → IsPrime p → (a : ℕ) → a ^ p % p ≡ a % p
 
 -- r is the only element below q whose p-th power is a
 pub record IsFrobeniusRoot (o : Ops ℕ) (q p a r : ℕ) : Type 0 where

@@ -46,6 +46,9 @@ module _ (n : ℕ) where
   pub neg-add_mod : (a : ℕ) → a < n → ((n - a) % n + a) % n ≡ 0
   neg-add_mod a h = nat.mod-add-mod (n - a) n a ∙ ap (λ x. x % n) (nat.sub-add_cancel (nat.le_of_lt h)) ∙ nat.mod_self n
 
+  pub add-neg_mod : (a : ℕ) → a < n → (a + (n - a) % n) % n ≡ 0
+  add-neg_mod a h = add_comm_mod a ((n - a) % n) ∙ neg-add_mod a h
+
   pub mul_assoc_mod : (a b c : ℕ) → ((a * b) % n * c) % n ≡ (a * ((b * c) % n)) % n
   mul_assoc_mod a b c = mul-mod_first (a * b) c n ∙ ap (λ x. x % n) (nat.mul_assoc a b c) ∙ sym (mul-mod_second a (b * c) n)
 

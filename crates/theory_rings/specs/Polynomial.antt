@@ -2,7 +2,7 @@
 use Rattle.std.specs.Prelude.{◌≡◌, ◌≢◌, ℕ, zero, suc, ◌-◌, ◌<◌, Bool, cond, List, [], ◌∷◌, length, get_or}
 use Rattle.theory_rings.specs.Ring.{RingOn, CommRingOn}
 use Rattle.theory_rings.specs.Ops.{Ops}
-use Rattle.theory_rings.specs.Sum.{sum, sum_of}
+use Rattle.theory_rings.specs.Sum.{sum_by_ops}
 
 -- the last item is not 0
 abbrev pub IsTrimmed : {X : Type 0} → X → List X → Type 0
@@ -25,13 +25,17 @@ abbrev pub degree : {X : Type 0} → List X → ℕ
 degree [] = 0
 degree (x ∷ xs) = length xs
 
--- coefficient k of a product: the sum of f i · g (k − i) over i from 0 to k
-abbrev pub convolution : {K : Type 0} → RingOn K → (ℕ → K) → (ℕ → K) → ℕ → K
-convolution R f g k = sum R.monoid (suc k) (λ i. R.◌⊗◌ (f i) (g (k - i)))
+-- coefficient k of a product: the sum of f i · g (k − i) over i from 0 to k, by a 0, a sum and a product
+abbrev pub convolution_by_ops : {K : Type 0} → K → (K → K → K) → (K → K → K) → (ℕ → K) → (ℕ → K) → ℕ → K
+convolution_by_ops z plus mul f g k = sum_by_ops z plus (suc k) (λ i. mul (f i) (g (k - i)))
 
--- the same in a program's field
+-- in a ring
+abbrev pub convolution : {K : Type 0} → RingOn K → (ℕ → K) → (ℕ → K) → ℕ → K
+convolution R f g k = convolution_by_ops R.zero R.◌⊕◌ R.◌⊗◌ f g k
+
+-- in a program's field
 abbrev pub convolution_of : {E : Type 0} → Ops E → (ℕ → E) → (ℕ → E) → ℕ → E
-convolution_of o f g k = sum_of o (suc k) (λ i. o.mul (f i) (g (k - i)))
+convolution_of o f g k = convolution_by_ops o.zero o.add o.mul f g k
 
 -- the coefficients of the constant c
 abbrev pub constant_coefficients : {X : Type 0} → X → X → ℕ → X

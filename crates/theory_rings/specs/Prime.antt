@@ -1,5 +1,5 @@
--- Prime numbers.
-use Rattle.std.specs.Prelude.{◌≡◌, ℕ, ◌*◌, ◌%◌, ◌<◌, ◌≤◌, ◌⊎◌}
+-- Prime numbers, inverses modulo a prime, and Fermat's little theorem.
+use Rattle.std.specs.Prelude.{◌≡◌, ℕ, ◌*◌, ◌%◌, ◌^◌, ◌<◌, ◌≤◌, ◌⊎◌}
 use Rattle.std.specs.Int.{◌∣◌}
 
 -- at least 2, and only 1 and itself divide it
@@ -14,3 +14,7 @@ HasInversesMod n = (a : ℕ) → 0 < a → a < n → (b : ℕ) × (b < n) × ((a
 -- a number from 2 on is prime just where it has these inverses
 abbrev pub PrimeLaw : Type 0
 PrimeLaw = (n : ℕ) → ((IsPrime n → HasInversesMod n) × (2 ≤ n → HasInversesMod n → IsPrime n))
+
+-- Fermat's little theorem
+abbrev pub FermatLaw : Type 0
+FermatLaw = (p : ℕ) → IsPrime p → (a : ℕ) → a ^ p % p ≡ a % p

@@ -1,7 +1,6 @@
 // The laws of numbers modulo n, of primes and of numbers by their digits: each is the contract of a function that does nothing.
 ghost use Rattle.theory_rings.specs.IntegersMod.{IntegersModLaw, FieldModLaw};
-ghost use Rattle.theory_rings.specs.Prime.{PrimeLaw};
-ghost use Rattle.theory_rings.specs.Frobenius.{FermatLaw};
+ghost use Rattle.theory_rings.specs.Prime.{PrimeLaw, FermatLaw};
 ghost use Rattle.theory_rings.specs.Digits.{DigitsLaw};
 ghost use Rattle.theory_rings.specs.FieldByDigits.{DigitsAreRemaindersLaw, FieldByDigitsLaw, OneDigitLaw};
 

@@ -1,5 +1,4 @@
-use Rattle.std.proofs.Common.{◌≡◌, ◌<◌, ◌≤◌, ℕ, get_or, arith, subst, sym, ltb-true, lt-ltb}
-use Rattle.spl_field.specs.FieldByDigits.{FitsField}
+use Rattle.std.proofs.Common.{◌<◌, ◌≤◌, ℕ, arith, subst, sym, ltb-true, lt-ltb}
 use Rattle.spl_field.proofs.FieldByDigits.{FitsField-intro, FitsField-le, FitsField-get_or}
 use Rattle.spl_field.proofs.admission.fits.Goals as goal
 

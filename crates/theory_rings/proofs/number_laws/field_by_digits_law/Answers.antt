@@ -1,4 +1,4 @@
-use Rattle.theory_rings.proofs.ElementsByDigits.{field_by_digits_law}
+use Rattle.theory_rings.proofs.FiniteFields.ElementsByDigits.{field_by_digits_law}
 use Rattle.theory_rings.proofs.number_laws.field_by_digits_law.Goals as goal
 
 pub returns : goal.returns

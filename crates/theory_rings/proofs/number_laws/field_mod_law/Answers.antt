@@ -1,4 +1,4 @@
-use Rattle.theory_rings.proofs.IntegersMod.{field_mod_law}
+use Rattle.theory_rings.proofs.Numbers.IntegersMod.{field_mod_law}
 use Rattle.theory_rings.proofs.number_laws.field_mod_law.Goals as goal
 
 pub returns : goal.returns

@@ -1,4 +1,4 @@
-use Rattle.theory_rings.proofs.PolynomialLaws.{evaluation_is_hom}
+use Rattle.theory_rings.proofs.Polynomials.PolynomialLaws.{evaluation_is_hom}
 use Rattle.theory_rings.proofs.polynomial_laws.evaluation_law.Goals as goal
 
 pub returns : goal.returns

@@ -1,4 +1,4 @@
-use Rattle.theory_rings.proofs.PolynomialLaws.{has_gcd}
+use Rattle.theory_rings.proofs.Polynomials.PolynomialLaws.{has_gcd}
 use Rattle.theory_rings.proofs.polynomial_laws.gcd_law.Goals as goal
 
 pub returns : goal.returns

@@ -1,4 +1,4 @@
-use Rattle.theory_rings.proofs.PolynomialLaws.{irreducible_is_prime}
+use Rattle.theory_rings.proofs.Polynomials.PolynomialLaws.{irreducible_is_prime}
 use Rattle.theory_rings.proofs.polynomial_laws.irreducible_law.Goals as goal
 
 pub returns : goal.returns

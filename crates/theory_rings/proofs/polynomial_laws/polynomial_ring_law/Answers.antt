@@ -1,4 +1,4 @@
-use Rattle.theory_rings.proofs.PolynomialLaws.{has_polynomial_ring}
+use Rattle.theory_rings.proofs.Polynomials.PolynomialLaws.{has_polynomial_ring}
 use Rattle.theory_rings.proofs.polynomial_laws.polynomial_ring_law.Goals as goal
 
 pub returns : goal.returns

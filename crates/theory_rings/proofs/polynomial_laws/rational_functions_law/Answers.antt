@@ -1,4 +1,4 @@
-use Rattle.theory_rings.proofs.PolynomialLaws.{has_rational_functions}
+use Rattle.theory_rings.proofs.Polynomials.PolynomialLaws.{has_rational_functions}
 use Rattle.theory_rings.proofs.polynomial_laws.rational_functions_law.Goals as goal
 
 pub returns : goal.returns

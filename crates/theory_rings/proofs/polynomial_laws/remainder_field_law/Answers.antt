@@ -1,4 +1,4 @@
-use Rattle.theory_rings.proofs.PolynomialLaws.{has_remainder_fields}
+use Rattle.theory_rings.proofs.Polynomials.PolynomialLaws.{has_remainder_fields}
 use Rattle.theory_rings.proofs.polynomial_laws.remainder_field_law.Goals as goal
 
 pub returns : goal.returns

@@ -1,4 +1,4 @@
-use Rattle.theory_rings.proofs.Binomial.{binomial_theorem}
+use Rattle.theory_rings.proofs.Powers.Binomial.{binomial_theorem}
 use Rattle.theory_rings.proofs.power_laws.binomial_law.Goals as goal
 
 pub returns : goal.returns

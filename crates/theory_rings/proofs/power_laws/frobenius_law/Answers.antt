@@ -1,4 +1,4 @@
-use Rattle.theory_rings.proofs.FrobeniusMap.{frobenius-add}
+use Rattle.theory_rings.proofs.Powers.FrobeniusMap.{frobenius-add}
 use Rattle.theory_rings.proofs.power_laws.frobenius_law.Goals as goal
 
 pub returns : goal.returns

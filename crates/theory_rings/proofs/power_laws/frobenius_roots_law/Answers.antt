@@ -1,5 +1,5 @@
 use Rattle.std.proofs.Common.{sym, ◌∙◌}
-use Rattle.theory_rings.proofs.FrobeniusRoots.{frobenius_root-exists, frobenius_root-unique}
+use Rattle.theory_rings.proofs.FiniteFields.FrobeniusRoots.{frobenius_root-exists, frobenius_root-unique}
 use Rattle.theory_rings.proofs.power_laws.frobenius_roots_law.Goals as goal
 
 pub returns : goal.returns

@@ -1,4 +1,4 @@
-use Rattle.std.proofs.Common.{◌≡◌, ℕ, ◌+◌, ◌*◌, ◌%◌, ◌<◌, ◌≤◌, length, get_or, subst, sym}
+use Rattle.std.proofs.Common.{◌+◌, ◌*◌, ◌%◌}
 use Rattle.spl_field.proofs.FieldByDigits.{FitsField-le, FitsField-get_or}
 use Rattle.spl_field.proofs.Rows.{get_or-row}
 use Rattle.spl_field.proofs.small.SmallField.from_admitted.Goals as goal

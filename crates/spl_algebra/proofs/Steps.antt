@@ -1,0 +1,131 @@
+-- The steps of the loops that add rows to a list of sums.
+use Rattle.std.specs.Prelude.{◌≡◌, ℕ, ◌+◌, ◌-◌, ◌*◌, ◌<◌, ◌≤◌, List, length, take, drop, All}
+use Rattle.std.proofs.Common.{refl, sym, ◌∙◌, ap, ap₂, arith, below_more, get_or-set_same, get_or-set_other, ⊎_elim}
+use Rattle.std.proofs.lemmas.List.{length-set, ext_get_or, get_or-take, get_or-drop}
+use Rattle.std.proofs.lemmas.List.Elements.{All-set}
+use Rattle.std.proofs.Math.ListN.{set}
+use Rattle.theory_rings.specs.Ops.{Ops, IsElem, FieldLaws}
+use Rattle.theory_rings.specs.Sum.{at, sum_of, table}
+use Rattle.theory_rings.proofs.Sums.Lists.{length-table, get_or-table}
+use Rattle.spl_algebra.specs.Products.{AddsEach, scaled_rows}
+use Rattle.spl_algebra.proofs.Terms.{add-zero, mul-zero, zero-mul, sum_of-next, sum_of_eq_zero}
+use Rattle.theory_spaces.proofs.Tuples.{at-elem, sum_of-elem}
+
+-- a list is the table of its items
+pub table-at : {E : Type 0} (o : Ops E) (n : ℕ) (xs : List E) (f : ℕ → E) → length xs ≡ n → ((k : ℕ) → k < n → at o xs k ≡ f k) → xs ≡ table n f
+table-at o n xs f long h =
+    ext_get_or o.zero xs (table n f) (long ∙ sym (length-table n f)) (λ k l.
+    let m : k < n = omega arith in h k m ∙ sym (get_or-table n f k o.zero m))
+
+-- the items of a part of a list
+pub at-part : {E : Type 0} (o : Ops E) (xs : List E) (start m k : ℕ) → k < m → at o (take (start + m - start) (drop start xs)) k ≡ at o xs (start + k)
+at-part o xs start m k l = get_or-take (start + m - start) (drop start xs) k o.zero (omega arith) ∙ get_or-drop start xs k o.zero
+
+module _ {E : Type 0} (o : Ops E) where
+  -- as AddsEach at the places below k, and the other items are as they were
+  pub record AddsBelow (k : ℕ) (old new : List E) (f : ℕ → E) : Type 0 where
+    pub same_length : length new ≡ length old
+    pub of_elements : All (IsElem o) new
+    pub done : (j : ℕ) → j < k → at o new j ≡ o.add (at o old j) (f j)
+    pub rest : (j : ℕ) → k ≤ j → at o new j ≡ at o old j
+
+  pub AddsBelow-none : (old : List E) (f : ℕ → E) → All (IsElem o) old → AddsBelow 0 old old f
+  AddsBelow-none old f h = record { same_length = refl; of_elements = h; done = λ j l. absurd (omega arith); rest = λ j l. refl }
+
+  -- the item at k is written
+  pub AddsBelow-set : (k : ℕ) (old new : List E) (f : ℕ → E) (y : E) → k < length new → AddsBelow k old new f
+      → IsElem o y → y ≡ o.add (at o new k) (f k) → AddsBelow (k + 1) old (set new k y) f
+  AddsBelow-set k old new f y l a h e = record {
+    same_length = length-set new k y ∙ a.same_length;
+    of_elements = All-set (IsElem o) new k y h a.of_elements;
+    done = below_more _ _
+        (λ j m. get_or-set_other new k j y o.zero (λ e. omega arith) ∙ a.done j m)
+        (get_or-set_same new k y o.zero l ∙ e ∙ ap (λ x. o.add x (f k)) (a.rest k (omega arith)));
+    rest = λ j m. get_or-set_other new k j y o.zero (λ e. omega arith) ∙ a.rest j (omega arith);
+  }
+
+  -- nothing is to be added at k
+  pub AddsBelow-skip : (k : ℕ) (old new : List E) (f : ℕ → E) → AddsBelow k old new f
+      → o.add (at o new k) (f k) ≡ at o new k → AddsBelow (k + 1) old new f
+  AddsBelow-skip k old new f a e = record {
+    same_length = a.same_length;
+    of_elements = a.of_elements;
+    done = below_more _ _ a.done (sym e ∙ ap (λ x. o.add x (f k)) (a.rest k (omega arith)));
+    rest = λ j m. a.rest j (omega arith);
+  }
+
+  pub AddsBelow-all : (k : ℕ) (old new : List E) (f : ℕ → E) → length old ≤ k → AddsBelow k old new f → AddsEach o old new f
+  AddsBelow-all k old new f l a = record { same_length = a.same_length; of_elements = a.of_elements; item = λ j m. a.done j (omega arith) }
+
+module _ {E : Type 0} (o : Ops E) (L : FieldLaws o) where
+  -- nothing is added yet
+  pub AddsEach-zero : (old : List E) (f : ℕ → E) → All (IsElem o) old → ((k : ℕ) → f k ≡ o.zero) → AddsEach o old old f
+  AddsEach-zero old f h z = record {
+    same_length = refl;
+    of_elements = h;
+    item = λ k l. sym (add-zero o L (at o old k) (at-elem o L old h k)) ∙ ap (o.add (at o old k)) (sym (z k));
+  }
+
+  -- one list after the other
+  pub AddsEach-then : (old mid new : List E) (f g h : ℕ → E) → All (IsElem o) old → AddsEach o old mid f → AddsEach o mid new g
+      → ((k : ℕ) → k < length old → IsElem o (f k)) → ((k : ℕ) → k < length old → IsElem o (g k))
+      → ((k : ℕ) → k < length old → h k ≡ o.add (f k) (g k)) → AddsEach o old new h
+  AddsEach-then old mid new f g h elems a b fe ge e = record {
+    same_length = b.same_length ∙ a.same_length;
+    of_elements = b.of_elements;
+    item = λ k l.
+        b.item k (omega (arith, a.same_length)) ∙ ap (λ x. o.add x (g k)) (a.item k l)
+        ∙ L.add_assoc (at o old k) (f k) (g k) (at-elem o L old elems k) (fe k l) (ge k l)
+        ∙ ap (o.add (at o old k)) (sym (e k l));
+  }
+
+  -- the same is added
+  pub AddsEach-congr : (old new : List E) (f g : ℕ → E) → ((k : ℕ) → k < length old → f k ≡ g k) → AddsEach o old new f → AddsEach o old new g
+  AddsEach-congr old new f g e a = record {
+    same_length = a.same_length;
+    of_elements = a.of_elements;
+    item = λ k l. a.item k l ∙ ap (o.add (at o old k)) (e k l);
+  }
+
+  pub term-elem : (x : E) (b rows : List E) (l k : ℕ) → IsElem o x → All (IsElem o) b → All (IsElem o) rows → IsElem o (o.mul (o.mul x (at o b l)) (at o rows k))
+  term-elem x b rows l k h hb hr =
+      L.mul-elem (o.mul x (at o b l)) (at o rows k) (L.mul-elem x (at o b l) h (at-elem o L b hb l)) (at-elem o L rows hr k)
+
+  pub scaled_rows-elem : (n : ℕ) (x : E) (b rows : List E) (stride k : ℕ) → IsElem o x → All (IsElem o) b → All (IsElem o) rows
+      → IsElem o (scaled_rows o n x b rows stride k)
+  scaled_rows-elem n x b rows stride k h hb hr =
+      sum_of-elem o L n (λ l. o.mul (o.mul x (at o b l)) (at o rows (l * stride + k))) (λ l m. term-elem x b rows l (l * stride + k) h hb hr)
+
+  -- one more row is added
+  pub scaled_rows-more : (old mid new : List E) (n : ℕ) (x : E) (b rows : List E) (stride : ℕ) (c : E) (row : List E)
+      → All (IsElem o) old → IsElem o x → All (IsElem o) b → All (IsElem o) rows
+      → AddsEach o old mid (scaled_rows o n x b rows stride) → AddsEach o mid new (λ k. o.mul c (at o row k))
+      → c ≡ o.mul x (at o b n) → ((k : ℕ) → k < length old → at o row k ≡ at o rows (n * stride + k))
+      → AddsEach o old new (scaled_rows o (n + 1) x b rows stride)
+  scaled_rows-more old mid new n x b rows stride c row ho h hb hr a a' e r =
+      let term : ℕ → E = λ k. o.mul (o.mul x (at o b n)) (at o rows (n * stride + k)) in
+      AddsEach-then old mid new (scaled_rows o n x b rows stride) term (scaled_rows o (n + 1) x b rows stride) ho a
+      (AddsEach-congr mid new (λ k. o.mul c (at o row k)) term (λ k l. ap₂ o.mul e (r k (omega (arith, a.same_length)))) a')
+      (λ k l. scaled_rows-elem n x b rows stride k h hb hr)
+      (λ k l. term-elem x b rows n (n * stride + k) h hb hr)
+      (λ k l. sum_of-next o n (λ j. o.mul (o.mul x (at o b j)) (at o rows (j * stride + k))))
+
+  -- a row times zero is left out
+  pub scaled_rows-skip : (old new : List E) (n : ℕ) (x : E) (b rows : List E) (stride : ℕ)
+      → IsElem o x → All (IsElem o) b → All (IsElem o) rows → at o b n ≡ o.zero
+      → AddsEach o old new (scaled_rows o n x b rows stride) → AddsEach o old new (scaled_rows o (n + 1) x b rows stride)
+  scaled_rows-skip old new n x b rows stride h hb hr z a =
+      AddsEach-congr old new (scaled_rows o n x b rows stride) (scaled_rows o (n + 1) x b rows stride) (λ k l.
+      sym (sum_of-next o n (λ j. o.mul (o.mul x (at o b j)) (at o rows (j * stride + k)))
+      ∙ ap₂ o.add refl (ap (λ y. o.mul y (at o rows (n * stride + k))) (ap (o.mul x) z ∙ mul-zero o L x h) ∙ zero-mul o L (at o rows (n * stride + k)) (at-elem o L rows hr (n * stride + k)))
+      ∙ add-zero o L (scaled_rows o n x b rows stride k) (scaled_rows-elem n x b rows stride k h hb hr))) a
+
+  -- what is added to zeros
+  pub AddsEach-zeros : (m : ℕ) (old new : List E) (f : ℕ → E) → old ≡ table m (λ _. o.zero) → AddsEach o old new f
+      → ((k : ℕ) → k < m → IsElem o (f k)) → new ≡ table m f
+  AddsEach-zeros m old new f z a h =
+      let long : length old ≡ m = ap length z ∙ length-table m (λ _. o.zero) in
+      table-at o m new f (a.same_length ∙ long) (λ k l.
+      a.item k (omega arith)
+      ∙ ap (λ x. o.add x (f k)) (ap (λ xs. at o xs k) z ∙ get_or-table m (λ _. o.zero) k o.zero l)
+      ∙ L.zero-add (f k) (h k l))

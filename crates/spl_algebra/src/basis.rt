@@ -1,0 +1,93 @@
+// Basis elements and their products, by structure constants.
+ghost use Rattle.std.specs.Prelude.{◌≡◌, ◌*◌, ◌^◌, ◌<◌, ◌↔◌, IfOk, IsTrue};
+ghost use Rattle.theory_rings.specs.Ops.{IsElem};
+ghost use Rattle.theory_spaces.specs.Tuples.{IsTuple, basis, product};
+
+use crate::products::{combination, same};
+use spl_field::field::{Field, NoMemory};
+use spl_field::vector::Vector;
+use std::alloc::Global;
+
+/// The coordinates of the basis element i, of m.
+pub(crate) fn coordinates<F: Field>(
+    alloc: Global,
+    f: &F,
+    m: usize,
+    i: usize,
+) -> Result<Vector<F>, NoMemory>
+    ensures elem { IfOk result (IsTuple (F.ops f.now) m) }
+    ensures value { IfOk result (λ r. r ≡ basis (F.ops f.now) m i) }
+{
+    let mut items = Vec::with_capacity(alloc, m)?;
+    for k in 0..m {
+        let item = if k == i {
+            f.one(alloc)?
+        } else {
+            f.zero(alloc)?
+        };
+        items.push(item)?;
+    }
+    Ok(Vector::from_vec(items))
+}
+
+/// The product of the basis elements i and j, which is the row of their constants.
+pub(crate) fn row_of<'a, F: Field>(
+    f: &F,
+    m: usize,
+    constants: &'a [F::Elem],
+    i: usize,
+    j: usize,
+) -> &'a [F::Elem]
+    requires fits { m * m * m < 2 ^ 64 }
+    requires over { IsTuple (F.ops f.now) (m * m * m) constants.now }
+    requires left { i < m }
+    requires right { j < m }
+    ensures elem { IsTuple (F.ops f.now) m result.now }
+    ensures value { result.now ≡ product (F.ops f.now) m constants.now (basis (F.ops f.now) m i) (basis (F.ops f.now) m j) }
+{
+    let _ = f;
+    let start = (i * m + j) * m;
+    &constants[start..start + m]
+}
+
+/// Whether (b_i·b_j)·b_k and b_i·(b_j·b_k) are the same.
+pub(crate) fn associates<F: Field>(
+    alloc: Global,
+    f: &F,
+    m: usize,
+    constants: &[F::Elem],
+    i: usize,
+    j: usize,
+    k: usize,
+) -> Result<bool, NoMemory>
+    requires fits { m * m * m < 2 ^ 64 }
+    requires over { IsTuple (F.ops f.now) (m * m * m) constants.now }
+    requires first { i < m }
+    requires second { j < m }
+    requires third { k < m }
+    ensures { IfOk result (λ b. IsTrue b ↔
+        (product (F.ops f.now) m constants.now
+        (product (F.ops f.now) m constants.now (basis (F.ops f.now) m i) (basis (F.ops f.now) m j))
+        (basis (F.ops f.now) m k)
+        ≡ product (F.ops f.now) m constants.now
+        (basis (F.ops f.now) m i)
+        (product (F.ops f.now) m constants.now (basis (F.ops f.now) m j) (basis (F.ops f.now) m k)))) }
+{
+    let left = combination(
+        alloc,
+        f,
+        m,
+        row_of(f, m, constants, i, j),
+        &constants[k * m..],
+        m * m,
+    )?;
+    let right = combination(
+        alloc,
+        f,
+        m,
+        row_of(f, m, constants, j, k),
+        &constants[i * m * m..],
+        m,
+    )?;
+    Ok(same(f, left.as_slice(), right.as_slice()))
+}

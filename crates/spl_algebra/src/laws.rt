@@ -1,0 +1,12 @@
+// What holds of algebras whoever computes in them.
+ghost use Rattle.theory_rings.specs.Ops.{Ops};
+ghost use Rattle.spl_algebra.specs.Algebra.{Structure, AssociativeEverywhere};
+
+use spl_field::field::Field;
+
+/// An algebra over the field whose basis elements associate is associative.
+pub fn associative_everywhere<F: Field>(f: &F)
+    ensures { AssociativeEverywhere (F.ops f.now) }
+{
+    let _ = f;
+}

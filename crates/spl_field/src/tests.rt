@@ -1,0 +1,66 @@
+// The calls at values from outside.
+use crate::admission::FieldFault;
+use crate::field::{Field, NoMemory};
+use crate::small::SmallField;
+use crate::vector::Vector;
+use std::alloc::Global;
+use std::test::Fail;
+
+#[test]
+fn admits_fields(rt: HostRuntime) {
+    for (p, number, want) in [
+        (2, 0, Ok(())),
+        (251, 3, Ok(())),
+        (0, 0, Err(FieldFault::Size)),
+        (1, 0, Err(FieldFault::Size)),
+        (257, 0, Err(FieldFault::Size)),
+        (5, 5, Err(FieldFault::Size)),
+        (4, 0, Err(FieldFault::NoInverse { element: 2 })),
+        (6, 1, Err(FieldFault::NoInverse { element: 2 })),
+        (9, 0, Err(FieldFault::NoInverse { element: 3 })),
+        (256, 0, Err(FieldFault::NoInverse { element: 2 })),
+    ] {
+        assert_eq!(rt;
+            SmallField::admits(p, &[number]),
+            want,
+            "at {p} and {number}"
+        );
+    }
+}
+
+/// The negative of 1/2, with 0 in the place of 1/0, and whether it is 1/2.
+fn minus_half<F: Field>(alloc: Global, f: &F) -> Result<(F::Elem, bool), NoMemory> {
+    let one = f.one(alloc)?;
+    let two = f.add(alloc, &one, &one)?;
+    let half = match f.inv(alloc, &two)? {
+        Some(half) => half,
+        None => f.zero(alloc)?,
+    };
+    let minus = f.mul(alloc, &f.neg(alloc, &one)?, &half)?;
+    let same = f.eq(&minus, &half);
+    Ok((f.copy(alloc, &minus)?, same))
+}
+
+#[test]
+fn five_elements(rt: HostRuntime) -> Result<(), Fail> {
+    let alloc = rt.alloc();
+    let f = SmallField::new(alloc, 5, &[0])?.duplicate(alloc)?;
+    assert_eq!(rt; (f.p(), f.size()), (5, 5));
+    assert_eq!(rt; f.modulus(), [0].as_slice());
+    assert_eq!(rt; f.sum(3, 4), 2);
+    assert_eq!(rt; f.product(3, 4), 2);
+    assert_eq!(rt; (f.inverse(3), f.inverse(0)), (Some(2), None));
+    assert_eq!(rt; f.negative(2), 3);
+    assert_eq!(rt; f.frobenius_root(3), 3);
+    assert_eq!(rt; minus_half(alloc, &f)?, (2, false));
+
+    let mut list: Vector<SmallField> = Vector::new(alloc);
+    assert!(rt; list.is_empty());
+    list.push(3)?;
+    list.push(4)?;
+    let list = list.copy(alloc, &f)?;
+    assert_eq!(rt; list.len(), 2);
+    assert_eq!(rt; (list.at(1), list.at(2)), (Some(&4), None));
+    assert_eq!(rt; list.as_slice(), [3, 4].as_slice());
+    Ok(())
+}
