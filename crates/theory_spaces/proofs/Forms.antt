@@ -4,9 +4,9 @@ use Rattle.std.specs.Prelude.{◌≡◌, ℕ, zero, suc, ◌+◌, ◌-◌, ◌<�
 use Rattle.std.proofs.Common.{refl, sym, ◌∙◌, ap, ap₂, subst, arith, inl, inr}
 use Rattle.theory_rings.specs.Ring.{CommRingOn, FieldOn}
 use Rattle.theory_rings.specs.Sum.{sum}
-use Rattle.theory_rings.proofs.RingLaws.{mul-zero, zero-mul, neg_unique, add-neg}
-use Rattle.theory_rings.proofs.Sums.{sum_congr, sum_eq_zero, sum_eq_single, sum-split, map-sum}
-use Rattle.theory_rings.proofs.ZeroTests.{eq_of_sub_eq_zero, sub_eq_zero_of_eq}
+use Rattle.theory_rings.proofs.Rings.RingLaws.{mul-zero, zero-mul, neg_unique, add-neg}
+use Rattle.theory_rings.proofs.Sums.Sums.{sum_congr, sum_eq_zero, sum_eq_single, sum-split, map-sum}
+use Rattle.theory_rings.proofs.Rings.ZeroTests.{eq_of_sub_eq_zero, sub_eq_zero_of_eq}
 use Rattle.theory_spaces.specs.Module.{ModuleOn}
 use Rattle.theory_spaces.specs.Linear.{comb, InSpan, Independent, IsSubmodule, IsLinear, Basis, BasisOf}
 use Rattle.theory_spaces.specs.Subspaces.{Whole, Kernel}
@@ -287,11 +287,13 @@ module _ {K V : Type 0} (F : FieldOn K) (M : ModuleOn F.ring V) (f : V → V →
   -- the radical has a basis
   pub radical_basis : (r : ℕ) × BasisOf M r (InRadical M f)
   radical_basis =
-      let g = rank_nullity F M M n (coords_of M n B) values values_linear Whole (whole_submodule M) n (whole_basis M n B) in
-      (g.nullity, BasisOf-iff M g.nullity (Kernel M M values Whole) (InRadical M f)
-      (λ x k. orthogonal_basis F M f h n B x (B.independent.only_zero (λ j. f x (B.vec j)) k.1))
-      (λ x o. (tt, comb_zero M n (λ j. f x (B.vec j)) B.vec (λ j _. o (B.vec j))))
-      g.kernel)
+      let g = rank_nullity F M M n (coords_of M n B) values values_linear Whole (whole_submodule M) n (whole_basis M n B) in (
+        g.nullity,
+        BasisOf-iff M g.nullity (Kernel M M values Whole) (InRadical M f)
+            (λ x k. orthogonal_basis F M f h n B x (B.independent.only_zero (λ j. f x (B.vec j)) k.1))
+            (λ x o. (tt, comb_zero M n (λ j. f x (B.vec j)) B.vec (λ j _. o (B.vec j))))
+            g.kernel,
+      )
 
   -- a form is nondegenerate, or some vector other than 0 is orthogonal to everything
   pub nondegenerate_or_not : NondegenerateOrNot M f
