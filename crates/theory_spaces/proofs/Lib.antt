@@ -17,3 +17,4 @@ pub mod Subspaces
 pub mod IndependentVectors
 pub mod Forms
 pub mod TraceForms
+pub mod BasisChange
