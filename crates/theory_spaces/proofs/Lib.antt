@@ -18,3 +18,6 @@ pub mod IndependentVectors
 pub mod Forms
 pub mod TraceForms
 pub mod BasisChange
+pub mod PairIndex
+pub mod Ideals
+pub mod MatrixAlgebra

@@ -10,3 +10,5 @@ pub mod Quotient
 pub mod Valuation
 pub mod Subspaces
 pub mod Form
+pub mod AlgebraMap
+pub mod MatrixAlgebra
