@@ -21,3 +21,4 @@ pub mod BasisChange
 pub mod PairIndex
 pub mod Ideals
 pub mod MatrixAlgebra
+pub mod Isomorphisms
