@@ -22,3 +22,4 @@ pub mod PairIndex
 pub mod Ideals
 pub mod MatrixAlgebra
 pub mod Isomorphisms
+pub mod MinimalIdempotents

@@ -12,3 +12,4 @@ pub mod Subspaces
 pub mod Form
 pub mod AlgebraMap
 pub mod MatrixAlgebra
+pub mod MinimalIdempotent
