@@ -3,6 +3,7 @@
 use Rattle.std.specs.Prelude.{◌≡◌, ℕ, ◌<◌, ◌⊎◌}
 use Rattle.std.proofs.Common.{sym, ◌∙◌, ap, ap₂, inl, inr, subst, ⊎_elim}
 use Rattle.theory_rings.specs.Ring.{RingOn}
+use Rattle.theory_rings.specs.Homomorphism.{IsRingHom}
 use Rattle.theory_spaces.specs.Module.{AlgebraOn, module_of}
 use Rattle.theory_spaces.specs.Linear.{comb, InSpan, Basis, IsLinear}
 use Rattle.theory_spaces.specs.Algebra.{IdealSpan, Central, CentralSimple}
@@ -11,6 +12,9 @@ use Rattle.theory_spaces.proofs.Modules.{map-zero, map-comb, comb_congr_right}
 
 pub hom_linear : {K V W : Type 0} {R : RingOn K} (A : AlgebraOn R V) (B : AlgebraOn R W) (f : V → W) → IsAlgebraHom A B f → IsLinear (module_of A) (module_of B) f
 hom_linear A B f h = record { map-add = h.map-add; map-scale = h.map-scale }
+
+pub hom_ring : {K V W : Type 0} {R : RingOn K} (A : AlgebraOn R V) (B : AlgebraOn R W) (f : V → W) → IsAlgebraHom A B f → IsRingHom A.ring B.ring f
+hom_ring A B f h = record { map-one = h.map-one; map-add = h.map-add; map-mul = h.map-mul }
 
 pub hom-comb : {K V W : Type 0} {R : RingOn K} (A : AlgebraOn R V) (B : AlgebraOn R W) (f : V → W) → IsAlgebraHom A B f
     → (n : ℕ) (c : ℕ → K) (v : ℕ → V) → f (comb (module_of A) n c v) ≡ comb (module_of B) n c (λ i. f (v i))

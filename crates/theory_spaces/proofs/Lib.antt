@@ -23,3 +23,4 @@ pub mod Ideals
 pub mod MatrixAlgebra
 pub mod Isomorphisms
 pub mod MinimalIdempotents
+pub mod LeftMatrices

@@ -8,5 +8,6 @@
 
 pub mod algebra_laws;
 pub mod form_laws;
+pub mod matrix_laws;
 pub mod space_laws;
 pub mod table_laws;

@@ -13,3 +13,9 @@ returns-clause-coordinates g c = let b = g.B.FormOn in forms.expand-dual b.field
 
 pub returns-clause-dual_coordinates : goal.returns-clause-dual_coordinates
 returns-clause-dual_coordinates g c = let b = g.B.FormOn in forms.dual-expand b.field b.space b.form b.bilinear b.dimension b.basis
+
+pub returns-clause-gram : goal.returns-clause-gram
+returns-clause-gram g c = let b = g.B.FormOn in forms.gram_mul-gram_dual b.field b.space b.form b.bilinear b.dimension b.basis
+
+pub returns-clause-only_nondegenerate : goal.returns-clause-only_nondegenerate
+returns-clause-only_nondegenerate g c = let b = g.B.FormOn in forms.nondegenerate_of_dual b.field b.space b.form b.bilinear b.dimension b.basis

@@ -1,5 +1,5 @@
 use Rattle.theory_spaces.proofs.TraceForms.{trace_form_bilinear, trace_form_symmetric}
-use Rattle.theory_spaces.proofs.form_laws.trace_form.Goals as goal
+use Rattle.theory_spaces.proofs.form_laws.trace_forms.Goals as goal
 
 pub returns-clause-bilinear : goal.returns-clause-bilinear
 returns-clause-bilinear g c = let a = g.A.BasedAlgebra in trace_form_bilinear a.field.cring a.algebra a.dimension a.basis
