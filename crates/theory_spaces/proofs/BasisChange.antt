@@ -5,7 +5,7 @@ use Rattle.theory_rings.specs.Ring.{CommRingOn}
 use Rattle.theory_rings.specs.Sum.{sum}
 use Rattle.theory_rings.proofs.Sums.Sums.{sum_congr}
 use Rattle.theory_spaces.specs.Module.{ModuleOn, AlgebraOn, module_of}
-use Rattle.theory_spaces.specs.Linear.{comb, Basis, IsLinear}
+use Rattle.theory_spaces.specs.Linear.{Basis, IsLinear}
 use Rattle.theory_spaces.specs.Algebra.{map_trace, trace}
 use Rattle.theory_spaces.proofs.Modules.{map-comb, left_linear}
 use Rattle.theory_spaces.proofs.Matrices.{mat_trace_comm}

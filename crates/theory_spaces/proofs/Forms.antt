@@ -1,22 +1,22 @@
 -- Bilinear forms on a space with a basis: a nondegenerate form has dual bases, and the dimensions of a subspace and of
 -- what is orthogonal to it sum to that of the space.
-use Rattle.std.specs.Prelude.{◌≡◌, ℕ, zero, suc, ◌+◌, ◌-◌, ◌<◌, ◌≤◌, ◌⊎◌}
-use Rattle.std.proofs.Common.{refl, sym, ◌∙◌, ap, ap₂, subst, arith, inl, inr}
+use Rattle.std.specs.Prelude.{◌≡◌, ℕ, zero, suc, ◌+◌, ◌-◌, ◌<◌, ◌≤◌}
+use Rattle.std.proofs.Common.{sym, ◌∙◌, ap, ap₂, arith, inl, inr}
 use Rattle.theory_rings.specs.Ring.{CommRingOn, FieldOn}
 use Rattle.theory_rings.specs.Sum.{sum}
 use Rattle.theory_rings.proofs.Rings.RingLaws.{mul-zero, zero-mul, neg_unique, add-neg}
 use Rattle.theory_rings.proofs.Sums.Sums.{sum_congr, sum_eq_zero, sum_eq_single, sum-split, map-sum}
-use Rattle.theory_rings.proofs.Rings.ZeroTests.{eq_of_sub_eq_zero, sub_eq_zero_of_eq}
+use Rattle.theory_rings.proofs.Rings.ZeroTests.{eq_of_sub_eq_zero}
 use Rattle.theory_spaces.specs.Module.{ModuleOn}
 use Rattle.theory_spaces.specs.Linear.{comb, InSpan, Independent, IsSubmodule, IsLinear, Basis, BasisOf}
 use Rattle.theory_spaces.specs.Subspaces.{Whole, Kernel}
 use Rattle.theory_spaces.specs.Matrix.{delta, mat_mul}
-use Rattle.theory_spaces.specs.Form.{IsBilinear, IsNondegenerate, IsSymmetric, flip, InRadical, Orthogonal, gram, transpose, DualBasis, OrthogonalBasis, NondegenerateOrNot}
-use Rattle.theory_spaces.proofs.Modules.{scale-zero, zero-scale, comb_zero, comb_congr, comb_congr_right, comb-add, comb-scale, InSpan-member}
+use Rattle.theory_spaces.specs.Form.{IsBilinear, IsNondegenerate, flip, InRadical, Orthogonal, gram, transpose, DualBasis, OrthogonalBasis, NondegenerateOrNot}
+use Rattle.theory_spaces.proofs.Modules.{zero-scale, comb_zero, comb_congr, comb_congr_right, comb-add, comb-scale}
 use Rattle.theory_spaces.proofs.Matrices.{delta-same, delta-other, delta_comm, sum-mul_delta}
 use Rattle.theory_spaces.proofs.Decide.{Free}
 use Rattle.theory_spaces.proofs.IndependentVectors.{comb-delta, Independent-ne-zero, Independent-at_most}
-use Rattle.theory_spaces.proofs.Spaces.{basis_of, coords_of, full_span, extend_basis, BasisOf-size}
+use Rattle.theory_spaces.proofs.Spaces.{basis_of, coords_of, extend_basis, BasisOf-size}
 use Rattle.theory_spaces.proofs.Kernels.{rank_nullity}
 use Rattle.theory_spaces.proofs.Subspaces.{BasisOf-iff, whole_submodule, whole_basis}
 use Rattle.theory_spaces.proofs.Simple.{Solution, solve_free}

@@ -1,16 +1,16 @@
 -- An idempotent e of a simple algebra with eAe = Ke: on a basis of Ae the elements act from the left by matrices, each
 -- matrix is that of one element, and so the dimension of the algebra is the square of that of Ae.
 use Rattle.std.specs.Prelude.{◌≡◌, ℕ, ◌*◌, ◌<◌}
-use Rattle.std.proofs.Common.{refl, sym, ◌∙◌, ap, ap₂, arith}
+use Rattle.std.proofs.Common.{sym, ◌∙◌, ap, ap₂}
 use Rattle.theory_rings.specs.Ring.{FieldOn}
 use Rattle.theory_rings.specs.Sum.{sum}
 use Rattle.theory_rings.proofs.Rings.Semirings.{semiring, mul_left_comm}
 use Rattle.theory_rings.proofs.Rings.Fields.{field_set}
 use Rattle.theory_rings.proofs.Sums.Sums.{sum_congr, sum-add, mul-sum}
 use Rattle.theory_spaces.specs.Module.{ModuleOn, AlgebraOn, module_of}
-use Rattle.theory_spaces.specs.Linear.{comb, InSpan, Basis, BasisOf, IsLinear}
-use Rattle.theory_spaces.specs.Matrix.{Mat, delta, mat_mul}
-use Rattle.theory_spaces.specs.AlgebraMap.{IsAlgebraHom, IsAlgebraIso, IsSimple}
+use Rattle.theory_spaces.specs.Linear.{comb, Basis, BasisOf}
+use Rattle.theory_spaces.specs.Matrix.{Mat, delta}
+use Rattle.theory_spaces.specs.AlgebraMap.{IsAlgebraHom}
 use Rattle.theory_spaces.specs.MatrixAlgebra.{IsMatrixAlgebra}
 use Rattle.theory_spaces.specs.MinimalIdempotent.{IsMinimalIdempotent, InLeftIdeal, OneThrough, IsEndomorphism, multiplier, LeftMatrices}
 use Rattle.theory_spaces.proofs.Modules.{comb_congr, comb_congr_right, comb-add, comb-scale, comb-comb, comb_injective, comb_in, left_linear, map-comb, linear_ext}
@@ -19,7 +19,7 @@ use Rattle.theory_spaces.proofs.Matrices.{Mat-ext, mat, mat-entry, delta_comm, s
 use Rattle.theory_spaces.proofs.Dimension.{dimension_unique}
 use Rattle.theory_spaces.proofs.MatrixAlgebra.{matrix_algebra, matrix_algebra_is, matrix_basis}
 use Rattle.theory_spaces.proofs.Isomorphisms.{iso_basis}
-use Rattle.theory_spaces.proofs.MinimalIdempotents.{one_through, left_ideal_submodule, mul_idempotent-in, mul-in, faithful, multiplier-mul}
+use Rattle.theory_spaces.proofs.MinimalIdempotents.{left_ideal_submodule, mul_idempotent-in, mul-in, faithful, multiplier-mul}
 
 module _ {K V : Type 0} (F : FieldOn K) (A : AlgebraOn F.ring V) (e : V) (h : IsMinimalIdempotent A e) (o : OneThrough A e)
     (k : ℕ) (W : BasisOf (module_of A) k (InLeftIdeal A e)) where

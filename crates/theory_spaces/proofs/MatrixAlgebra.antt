@@ -2,8 +2,7 @@
 use Rattle.std.specs.Prelude.{◌≡◌, ℕ, zero, suc, ◌+◌, ◌*◌, ◌/◌, ◌%◌, ◌<◌, ◌⊎◌}
 use Rattle.std.proofs.Common.{refl, sym, ◌∙◌, ap, ap₂, subst, arith, inl, inr, ⊎_elim}
 use Rattle.std.proofs.lemmas.Nat.{div-mul-add, mod-mul-add, div-add-mod'}
-use Rattle.theory_rings.specs.Ring.{RingOn, CommRingOn, FieldOn}
-use Rattle.theory_rings.specs.Sum.{sum}
+use Rattle.theory_rings.specs.Ring.{CommRingOn, FieldOn}
 use Rattle.theory_rings.proofs.Rings.RingLaws.{mul-zero, zero-mul}
 use Rattle.theory_rings.proofs.Rings.Semirings.{semiring, mul_left_comm}
 use Rattle.theory_rings.proofs.Rings.Fields.{field_set, inv_mul_cancel_left}
@@ -11,16 +10,16 @@ use Rattle.theory_rings.proofs.Rings.ZeroTests.{eq_zero_or}
 use Rattle.theory_rings.proofs.Sums.Sums.{sum_congr, sum_eq_single, mul-sum}
 use Rattle.theory_spaces.specs.Module.{ModuleOn, AlgebraOn, module_of}
 use Rattle.theory_spaces.specs.Linear.{InSpan, Basis}
-use Rattle.theory_spaces.specs.Matrix.{Matrix, Mat, delta, mat_mul}
+use Rattle.theory_spaces.specs.Matrix.{Mat, delta}
 use Rattle.theory_spaces.specs.Space.{SpaceOn}
 use Rattle.theory_spaces.specs.Algebra.{IdealSpan, Central, CentralSimple}
 use Rattle.theory_spaces.specs.MatrixAlgebra.{unit_entries, IsMatrixAlgebra, MatrixUnits}
 use Rattle.theory_spaces.proofs.Families.{below_suc}
-use Rattle.theory_spaces.proofs.Modules.{InSpan-scale, InSpan-member, InSpan_trans}
+use Rattle.theory_spaces.proofs.Modules.{InSpan-scale, InSpan_trans}
 use Rattle.theory_spaces.proofs.Matrices.{Mat-path, Mat-ext, mat, mat-entry, matrices, delta-same, delta-other, delta_comm}
-use Rattle.theory_spaces.proofs.Tables.{space_basis, coord-unit, in_units}
+use Rattle.theory_spaces.proofs.Tables.{space_basis, coord-unit}
 use Rattle.theory_spaces.proofs.PairIndex.{pair-lt, row-lt, column-lt, delta-pairs}
-use Rattle.theory_spaces.proofs.Ideals.{ideal_left, ideal_right}
+use Rattle.theory_spaces.proofs.Ideals.{ideal_left}
 
 -- the algebra
 module _ {K : Type 0} (C : CommRingOn K) (set : IsSet K) (n : ℕ) where

@@ -2,12 +2,10 @@
 use Rattle.std.specs.Prelude.{◌≡◌, ℕ, zero, suc, ◌+◌, ◌*◌, ◌/◌, ◌%◌, ◌<◌, ◌≤◌}
 use Rattle.std.proofs.Common.{sym, ◌∙◌, ap, ap₂, arith, ⊎_elim}
 use Rattle.std.proofs.Math.Nat.{mod-lt, div-lt_iff_lt-mul, mul-le-mul_right}
-use Rattle.std.proofs.lemmas.Nat.{div-mul-add, mod-mul-add, div-add-mod'}
+use Rattle.std.proofs.lemmas.Nat.{div-mul-add, mod-mul-add}
 use Rattle.std.proofs.lemmas.Bool.{cases_eq}
-use Rattle.theory_rings.specs.Ring.{AddCommMonoidOn, RingOn}
-use Rattle.theory_rings.specs.Sum.{sum}
+use Rattle.theory_rings.specs.Ring.{RingOn}
 use Rattle.theory_rings.proofs.Rings.RingLaws.{mul-zero, zero-mul}
-use Rattle.theory_rings.proofs.Sums.Sums.{sum-split}
 use Rattle.theory_spaces.specs.Matrix.{delta}
 use Rattle.theory_spaces.proofs.Matrices.{delta-same, delta-other}
 
@@ -24,11 +22,6 @@ row-lt m n t l = (div-lt_iff_lt-mul (width-positive m n t l)).1 l
 
 pub column-lt : (m n t : ℕ) → t < m * n → t % n < n
 column-lt m n t l = mod-lt t (width-positive m n t l)
-
--- a sum over the pairs is one over the rows of sums over the columns
-pub sum-pairs : {V : Type 0} (M : AddCommMonoidOn V) (m n : ℕ) (f : ℕ → V) → sum M (m * n) f ≡ sum M m (λ i. sum M n (λ j. f (i * n + j)))
-sum-pairs M zero n f = let e : zero * n ≡ zero = omega arith in ap (λ t. sum M t f) e
-sum-pairs M (suc m) n f = let e : suc m * n ≡ m * n + n = omega arith in ap (λ t. sum M t f) e ∙ sum-split M (m * n) n f ∙ ap (λ x. M.◌⊕◌ x (sum M n (λ j. f (m * n + j)))) (sum-pairs M m n f)
 
 -- the unit matrix at two pairs
 pub delta-pairs : {K : Type 0} (R : RingOn K) (n i j k l : ℕ) → j < n → l < n → delta R (i * n + j) (k * n + l) ≡ R.◌⊗◌ (delta R i k) (delta R j l)

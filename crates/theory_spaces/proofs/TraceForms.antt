@@ -1,5 +1,5 @@
 -- The trace form of an algebra with a basis: bilinear, symmetric, associative.
-use Rattle.std.specs.Prelude.{◌≡◌, ℕ}
+use Rattle.std.specs.Prelude.{ℕ}
 use Rattle.std.proofs.Common.{◌∙◌, ap}
 use Rattle.theory_rings.specs.Ring.{CommRingOn}
 use Rattle.theory_spaces.specs.Module.{AlgebraOn, module_of}

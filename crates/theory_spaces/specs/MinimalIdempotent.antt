@@ -1,6 +1,6 @@
 -- Idempotents e with eAe = Ke, their left ideals Ae, and the linear maps of these. (Pierce, Associative Algebras,
 -- chapters 3 and 6.)
-use Rattle.std.specs.Prelude.{◌≡◌, ℕ, ◌*◌, ◌<◌}
+use Rattle.std.specs.Prelude.{◌≡◌, ℕ, ◌<◌}
 use Rattle.theory_rings.specs.Ring.{RingOn}
 use Rattle.theory_rings.specs.Sum.{sum}
 use Rattle.theory_spaces.specs.Module.{AlgebraOn, module_of}

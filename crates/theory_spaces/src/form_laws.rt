@@ -40,7 +40,7 @@ pub fn dual_basis<B: FormOn>()
         → x ≡ comb B.space B.dimension (λ i. B.form (B.basis.vec i) x) D.basis.vec }
     ensures gram { (D : DualBasis B.space B.form B.dimension B.basis) (i j : ℕ) → i < B.dimension → j < B.dimension
         → mat_mul B.field.ring B.dimension (gram B.space B.form B.basis.vec) (transpose (gram B.space B.form D.basis.vec)) i j
-            ≡ delta B.field.ring i j }
+        ≡ delta B.field.ring i j }
     ensures only_nondegenerate { DualBasis B.space B.form B.dimension B.basis → IsNondegenerate B.space B.form }
 {}
 
