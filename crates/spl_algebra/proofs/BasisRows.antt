@@ -7,9 +7,9 @@ use Rattle.std.proofs.lemmas.List.{get_or-drop, length-take, length-drop}
 use Rattle.theory_rings.specs.Ops.{Ops, IsElem, FieldLaws}
 use Rattle.theory_rings.specs.Sum.{at, sum_of, table}
 use Rattle.theory_spaces.specs.Tuples.{IsTuple, product, basis, constant}
-use Rattle.theory_spaces.proofs.Tuples.{at-table, IsTuple-table}
 use Rattle.theory_rings.proofs.Sums.Lists.{table_congr}
-use Rattle.theory_rings.proofs.Rings.Elements.{at-elem, sum_of_congr, sum_of-elem}
+use Rattle.theory_rings.proofs.Rings.Elements.{at-elem, sum_of-elem, sum_of_congr}
+use Rattle.theory_spaces.proofs.Tuples.{at-table, IsTuple-table}
 use Rattle.theory_spaces.proofs.TupleProducts.{product_basis, IsTuple-product, IsTuple-basis}
 use Rattle.spl_algebra.specs.Products.{sum_of_rows}
 use Rattle.spl_algebra.proofs.Terms.{mul-one, mul-zero, zero-mul, sum_of_eq_single, sum_of_eq_zero}
