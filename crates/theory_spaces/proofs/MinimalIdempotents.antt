@@ -1,4 +1,4 @@
--- An idempotent e of a simple algebra A with eAe = Ke: one is a sum of products x · e · y, and so each linear map of Ae
+-- An idempotent e of a simple algebra A with eAe = Ke: one is a sum of products x·e·y, and so each linear map of Ae
 -- is the multiplication by one element of A from the left.
 use Rattle.std.specs.Prelude.{◌≡◌, ℕ, zero, suc, ◌+◌, ◌*◌, ◌/◌, ◌%◌, ◌<◌}
 use Rattle.std.proofs.Common.{sym, ◌∙◌, ap, ap₂, subst, ⊎_elim}
@@ -90,7 +90,7 @@ module _ {K V : Type 0} {R : RingOn K} (A : AlgebraOn R V) (e : V) (idem : A.◌
   pub mul-in : (x y : V) → InLeftIdeal A e y → InLeftIdeal A e (x ⊗ y)
   mul-in x y p = A.mul_assoc x y e ∙ ap (λ z. x ⊗ z) p
 
-  -- where one is a sum of products x · e · y, an element is known by what it multiplies Ae to
+  -- where one is a sum of products x·e·y, an element is known by what it multiplies Ae to
   pub faithful : OneThrough A e → (a b : V) → ((x : V) → InLeftIdeal A e x → a ⊗ x ≡ b ⊗ x) → a ≡ b
   faithful o a b h = spread a ∙ sum_congr A.monoid o.size (λ i. (a ⊗ (o.left i ⊗ e)) ⊗ o.right i) (λ i. (b ⊗ (o.left i ⊗ e)) ⊗ o.right i)
       (λ i _. ap (λ z. z ⊗ o.right i) (h (o.left i ⊗ e) (mul_idempotent-in (o.left i)))) ∙ sym (spread b)

@@ -31,7 +31,7 @@ module _ {K V : Type 0} {R : RingOn K} (M : ModuleOn R V) (f : V → V → K) wh
   abbrev pub gram : (ℕ → V) → Matrix K
   gram v i j = f (v i) (v j)
 
-  -- a basis d with f (b i) (d i) = 1 and f (b i) (d j) = 0 elsewhere
+  -- a basis d with f (b i) (d i) = 1, and f (b i) (d j) = 0 for j other than i
   pub record DualBasis (n : ℕ) (B : Basis M n) : Type 0 where
     pub basis : Basis M n
     pub pairing : (i j : ℕ) → i < n → j < n → f (B.vec i) (basis.vec j) ≡ delta R i j

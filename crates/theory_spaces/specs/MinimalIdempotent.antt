@@ -1,5 +1,4 @@
--- Idempotents e with eAe = Ke, their left ideals Ae, and the linear maps of these. (Pierce, Associative Algebras,
--- chapters 3 and 6.)
+-- Idempotents e with eAe = Ke, their left ideals Ae, and the linear maps of these.
 use Rattle.std.specs.Prelude.{◌≡◌, ℕ, ◌<◌}
 use Rattle.theory_rings.specs.Ring.{RingOn}
 use Rattle.theory_rings.specs.Sum.{sum}
@@ -9,7 +8,7 @@ use Rattle.theory_spaces.specs.Matrix.{Mat}
 use Rattle.theory_spaces.specs.AlgebraMap.{IsAlgebraIso}
 
 module _ {K V : Type 0} {R : RingOn K} (A : AlgebraOn R V) (e : V) where
-  -- e is an idempotent other than 0, and each exe is a multiple of e
+  -- e is an idempotent other than 0, and each e·x·e is a multiple of e
   pub record IsMinimalIdempotent : Type 0 where
     pub idempotent : A.◌⊗◌ e e ≡ e
     pub nonzero : e ≡ A.zero → ⊥
@@ -19,7 +18,7 @@ module _ {K V : Type 0} {R : RingOn K} (A : AlgebraOn R V) (e : V) where
   abbrev pub InLeftIdeal : V → Type 0
   InLeftIdeal x = A.◌⊗◌ x e ≡ x
 
-  -- one is a sum of products x i · e · y i
+  -- one is a sum of products x i·e·y i
   pub record OneThrough : Type 0 where
     pub size : ℕ
     pub left : ℕ → V
@@ -32,7 +31,7 @@ module _ {K V : Type 0} {R : RingOn K} (A : AlgebraOn R V) (e : V) where
     pub map-add : (x y : V) → InLeftIdeal x → InLeftIdeal y → s (A.◌⊕◌ x y) ≡ A.◌⊕◌ (s x) (s y)
     pub map-scale : (a : K) (x : V) → InLeftIdeal x → s (A.◌•◌ a x) ≡ A.◌•◌ a (s x)
 
-  -- the sum of the s (x i · e) · y i
+  -- the sum of the s (x i·e)·y i
   abbrev pub multiplier : OneThrough → (V → V) → V
   multiplier o s = sum A.monoid o.size (λ i. A.◌⊗◌ (s (A.◌⊗◌ (o.left i) e)) (o.right i))
 
