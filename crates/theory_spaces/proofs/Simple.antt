@@ -4,9 +4,9 @@ use Rattle.std.proofs.Common.{refl, sym, ◌∙◌, ap, ap₂, subst, arith, inl
 use Rattle.std.proofs.lemmas.Bool.{cases_lt}
 use Rattle.theory_rings.specs.Ring.{FieldOn}
 use Rattle.theory_rings.specs.Sum.{sum}
-use Rattle.theory_rings.proofs.Rings.RingLaws.{add-zero, add-neg, mul-zero, zero-mul, neg-mul, neg_unique}
+use Rattle.theory_rings.proofs.Rings.RingLaws.{add-zero, add-neg, mul-zero, zero-mul, neg_unique}
 use Rattle.theory_rings.proofs.Sums.Sums.{sum_congr, sum_eq_zero, mul-sum}
-use Rattle.theory_rings.proofs.Rings.Solver.{◌⊠◌, minus, ring2}
+use Rattle.theory_rings.proofs.Rings.Solver.{◌⊞◌, ◌⊠◌, minus, ring2, words3}
 use Rattle.theory_rings.proofs.Rings.Fields.{inv_mul_cancel_left}
 use Rattle.theory_rings.proofs.Rings.ZeroTests.{eq_zero_or, eq_of_sub_eq_zero}
 use Rattle.theory_spaces.specs.Module.{ModuleOn, AlgebraOn, module_of}
@@ -117,7 +117,9 @@ module _ {K V : Type 0} (F : FieldOn K) (A : AlgebraOn F.ring V) (m : ℕ) (B : 
     e-basis j l = ap t (map-comb M M (λ x. x ⊗ u j) (right_linear A (u j)) k solution.weights u) ∙ t-comb k solution.weights (λ i. u i ⊗ u j) ∙ solution.solves j l
 
     minus-mul : (x y z : V) → t ((x ⊕ neg y) ⊗ z) ≡ F.◌⊕◌ (t (x ⊗ z)) (F.neg (t (y ⊗ z)))
-    minus-mul x y z = ap t (A.add-mul x (neg y) z ∙ ap (λ w. x ⊗ z ⊕ w) (neg-mul A.ring y z)) ∙ trace-add F.cring A m B (x ⊗ z) (neg (y ⊗ z)) ∙ ap (λ a. F.◌⊕◌ (t (x ⊗ z)) a) (t-neg (y ⊗ z))
+    minus-mul x y z =
+        ap t (words3 A.ring (λ x y z. ((x ⊞ minus y) ⊠ z, x ⊠ z ⊞ minus (y ⊠ z))) refl x y z)
+        ∙ trace-add F.cring A m B (x ⊗ z) (neg (y ⊗ z)) ∙ ap (λ a. F.◌⊕◌ (t (x ⊗ z)) a) (t-neg (y ⊗ z))
 
     same_of_trace : (x y : V) → In x → In y → ((z : V) → In z → t (x ⊗ z) ≡ t (y ⊗ z)) → x ≡ y
     same_of_trace x y ix iy h = eq_of_sub_eq_zero A.additive x y (meets_zero (x ⊕ neg y)
