@@ -7,3 +7,5 @@ pub mod algebra;
 mod basis;
 pub mod laws;
 mod products;
+#[cfg(test)]
+mod tests;

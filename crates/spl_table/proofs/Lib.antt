@@ -6,4 +6,5 @@ mod Fields
 mod Entries
 mod Admitted
 mod Text
+pub mod Triples
 mod TableOf

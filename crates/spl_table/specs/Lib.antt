@@ -3,3 +3,4 @@ pub mod Table
 pub mod Words
 pub mod Reading
 pub mod Refusal
+pub mod Triple
