@@ -83,6 +83,7 @@ impl<F: Field> Algebra<F> {
             b.as_slice(),
         )
     }
+
     /// The basis element i.
     pub fn basis_element(&self, alloc: Global, f: &F, i: usize) -> Result<Vector<F>, NoMemory>
         requires { i < self.now.dim }
