@@ -4,15 +4,15 @@ use Rattle.std.proofs.Common.{refl, sym, ◌∙◌, ap, ap₂, subst, arith, inl
 use Rattle.std.proofs.lemmas.Bool.{cases_lt}
 use Rattle.theory_rings.specs.Ring.{RingOn, FieldOn}
 use Rattle.theory_rings.specs.Sum.{sum}
-use Rattle.theory_rings.proofs.RingLaws.{add-zero, neg_unique, mul-zero}
-use Rattle.theory_rings.proofs.Sums.{sum_congr, map-sum}
+use Rattle.theory_rings.proofs.RingLaws.{add-zero, mul-zero}
+use Rattle.theory_rings.proofs.Sums.{sum_congr, map-sum, bump, bump-below}
 use Rattle.theory_rings.proofs.ZeroTests.{eq_zero_or}
 use Rattle.theory_spaces.specs.Module.{ModuleOn}
 use Rattle.theory_spaces.specs.Linear.{comb, InSpan, Independent, Coords, Basis, BasisOf, Extension}
 use Rattle.theory_spaces.proofs.Families.{push, push-below, push-above, push-at, below_suc}
-use Rattle.theory_spaces.proofs.Modules.{zero-scale, scale-neg, neg-scale, comb_zero, comb_congr, comb-add, comb-scale, comb-push, comb_injective, InSpan_trans, InSpan-member, InSpan-push, InSpan-push_at, independent_none}
+use Rattle.theory_spaces.proofs.Modules.{zero-scale, comb_congr_right, comb_zero, comb_congr, comb-add, comb-scale, comb-push, comb_injective, InSpan_trans, InSpan-member, InSpan-push, InSpan-push_at, independent_none}
 use Rattle.theory_spaces.proofs.Decide.{decide, Related, Free}
-use Rattle.theory_spaces.proofs.Dimension.{exchange, dimension_unique}
+use Rattle.theory_spaces.proofs.Dimension.{exchange, in_others, dimension_unique}
 
 module _ {K V : Type 0} {R : RingOn K} (M : ModuleOn R V) where
   -- the coordinates by a basis tell vectors apart
@@ -74,16 +74,13 @@ module _ {K V : Type 0} (F : FieldOn K) (M : ModuleOn F.ring V) (m : ℕ) (C : C
   open M use {additive, monoid, ◌⊕◌, ◌•◌}
 
   -- a relation with a weight at x puts x in the span
-  solved : (n : ℕ) (c : ℕ → K) (v : ℕ → V) (x : V) → (c n ≡ F.zero → ⊥) → comb M n c v ⊕ c n • x ≡ M.zero → InSpan M n v x
+  solved : (n : ℕ) (c : ℕ → K) (v : ℕ → V) (x : V) → (c n ≡ F.zero → ⊥) → comb M (suc n) c (push n x v) ≡ M.zero → InSpan M n v x
   solved n c v x d e =
-      let a = F.inv (c n) in
-      let y = comb M n c v in
+      let s = in_others F M n n c (push n x v) (omega arith) e d in
       record {
-        weights = λ i. F.◌⊗◌ (F.neg a) (c i);
-        combines =
-            let e1 : c n • x ≡ M.neg y = neg_unique additive y (c n • x) e in
-            sym (comb-scale M n (F.neg a) c v ∙ neg-scale M a y ∙ sym (scale-neg M a y) ∙ ap (λ z. a • z) (sym e1) ∙ sym (M.mul-scale a (c n) x)
-            ∙ ap (λ b. b • x) (F.inv-mul (c n) d) ∙ M.one-scale x);
+        weights = s.weights;
+        combines = sym (push-at n x v) ∙ s.combines
+            ∙ comb_congr_right M n s.weights (λ i. push n x v (bump n i)) v (λ i l. ap (push n x v) (bump-below n i l) ∙ push-below n x v i l);
       }
 
   -- a vector lies in the span of independent ones, or makes them one more
@@ -101,7 +98,7 @@ module _ {K V : Type 0} (F : FieldOn K) (M : ModuleOn F.ring V) (m : ℕ) (C : C
       let p = r.nontrivial in
       absurd (p.nonzero (⊎_elim (λ (l : p.place < n). all p.place l)
       (λ (l : n ≤ p.place). let w = p.within in let q : p.place ≡ n = omega arith in ap r.weights q ∙ z) (cases_lt p.place n))))
-      (λ (d : r.weights n ≡ F.zero → ⊥). solved n r.weights v x d e1)
+      (λ (d : r.weights n ≡ F.zero → ⊥). solved n r.weights v x d e)
       (eq_zero_or F.zero_test (r.weights n))))
       (λ (f : Free F (suc n) m (λ i j. C.coord (push n x v i) j)). inr (record {
         only_zero = λ c e. f.only_zero c (λ j l. sym (coord-comb M m C (suc n) c (push n x v) j) ∙ ap (λ y. C.coord y j) e ∙ C.coord-zero j);
