@@ -12,7 +12,7 @@ pub record FitsField (p : ℕ) (modulus : List ℕ) : Type 0 where
   pub most : p ^ length modulus ≤ 256
   pub below : All (λ m. m < p) modulus
 
--- the sum, the negative and the product of two numbers below p
+-- the sum, the negative and the product of numbers below p; a product of constants needs no remainder by the modulus
 abbrev pub digit_sum : ℕ → ℕ → ℕ → ℕ
 digit_sum p a b = (a + b) % p
 

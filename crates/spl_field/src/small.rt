@@ -11,9 +11,9 @@ use std::alloc::Global;
 
 /// A field of q = p^d elements, 2 to 256 of them, which are the numbers below q: each is read as d digits to the base
 /// p, lowest first, the coefficients of a polynomial in t; sums go digit by digit, and products are remainders by the
-/// modulus. The modulus has one number for now, so q is p.
+/// modulus (Lidl and Niederreiter, Finite Fields). The modulus has one number for now, so q is p.
 ///
-/// All answers are read from tables that are built once.
+/// All answers are read from tables that are built once, so no operation takes memory.
 #[derive(Drop)]
 pub struct SmallField {
     p: u16,
@@ -85,7 +85,8 @@ impl SmallField {
 
     /// Whether p and the modulus give a field: p to the number of digits is 2 to 256, the numbers of the modulus are
     /// below p, and each nonzero element has an inverse. A fault of size comes before one of the inverses, which
-    /// carries the first element without one. It takes no memory. The modulus has one number for now.
+    /// carries the first element without one. It takes no memory, and so never answers `Memory`. The modulus has one
+    /// number for now.
     pub fn admits(p: u16, modulus: &[u8]) -> Result<(), FieldFault>
         requires { length modulus.now ≡ 1 }
         ensures ok { OnOk result (IsAdmitted p modulus.now) }
@@ -97,7 +98,8 @@ impl SmallField {
         admits_numbers(p, modulus)
     }
 
-    /// The field, with its tables. The faults are those of `admits`, and want of memory.
+    /// The field, with its tables. The faults `Size` and `NoInverse` come exactly where `admits` gives them, and `Memory`
+    /// only where it gives none.
     pub fn new(alloc: Global, p: u16, modulus: &[u8]) -> Result<SmallField, FieldFault>
         requires { length modulus.now ≡ 1 }
         ensures p { IfOk result (λ f. characteristic f ≡ p) }
@@ -106,6 +108,7 @@ impl SmallField {
         ensures size { IsErrOf result FieldFault.Size → FitsField p modulus.now → ⊥ }
         ensures no_inverse { (element : ℕ) → IsErrOf result (FieldFault.NoInverse element)
             → IsFirstWithoutInverse p modulus.now element }
+        ensures memory { IsErrOf result FieldFault.Memory → IsAdmitted p modulus.now }
     {
         admits_numbers(p, modulus)?;
         Ok(SmallField::from_admitted(alloc, p, modulus)?)
@@ -136,7 +139,7 @@ impl SmallField {
         self.p
     }
 
-    /// The number of elements, which are the numbers below it.
+    /// The number of elements, which are the numbers below it: the characteristic to the number of digits.
     pub fn size(&self) -> u16
         ensures size { result ≡ size_of self.now }
         ensures power { result ≡ characteristic self.now ^ length (modulus_of self.now) }
@@ -182,7 +185,7 @@ impl SmallField {
         self.products[usize::from(a) * usize::from(self.p) + usize::from(b)]
     }
 
-    /// The inverse; None exactly where a is 0.
+    /// The inverse, whose product with a is 1; None exactly where a is 0.
     pub fn inverse(&self, a: u8) -> Option<u8>
         requires { a < size_of self.now }
         ensures value { MatchOption result (a ≡ 0)
@@ -205,7 +208,7 @@ impl SmallField {
         a
     }
 
-    /// An equal field.
+    /// An equal field. The one fault is want of memory.
     pub fn duplicate(&self, alloc: Global) -> Result<SmallField, NoMemory>
         ensures p { IfOk result (λ f. characteristic f ≡ characteristic self.now) }
         ensures modulus { IfOk result (λ f. modulus_of f ≡ modulus_of self.now) }

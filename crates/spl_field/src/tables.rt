@@ -58,6 +58,7 @@ fn inverse_entry(p: u16, modulus: &[u8], a: u16) -> u8
     requires most { p ≤ 256 }
     requires invertible { 0 < a → HasInverse p modulus.now a }
     ensures element { result < p }
+    ensures zero { a ≡ 0 → result ≡ 0 }
     ensures value { 0 < a → (a * result) % p ≡ 1 }
 {
     if a == 0 {
@@ -67,7 +68,7 @@ fn inverse_entry(p: u16, modulus: &[u8], a: u16) -> u8
     }
 }
 
-/// The inverses, with 0 in the place of the inverse of 0.
+/// The inverses, with some element in the place of the inverse of 0.
 pub(crate) fn inverse_table(alloc: Global, p: u16, modulus: &[u8]) -> Result<Vec<u8>, NoMemory>
     requires least { 2 ≤ p }
     requires most { p ≤ 256 }

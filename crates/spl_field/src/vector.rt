@@ -38,7 +38,7 @@ impl<F: Field> Vector<F> {
         Vector { items }
     }
 
-    /// Appends the item.
+    /// Appends the item. Where memory is wanting the list stays as it was, and the item is dropped.
     pub fn push(&mut self, item: F::Elem) -> Result<(), NoMemory>
         ensures ok { OnOk result (self.new ≡ self.old ++ item ∷ []) }
         ensures err { OnErr result (self.new ≡ self.old) }
@@ -76,7 +76,7 @@ impl<F: Field> Vector<F> {
         self.items.as_slice()
     }
 
-    /// An equal list.
+    /// An equal list of elements of f. The one fault is want of memory.
     pub fn copy(&self, alloc: Global, f: &F) -> Result<Self, NoMemory>
         requires { All (IsElem (F.ops f.now)) self.now }
         ensures { IfOk result (λ v. v ≡ self.now) }
