@@ -7,7 +7,9 @@ use Rattle.std.proofs.lemmas.List.{get_or-drop, length-take, length-drop}
 use Rattle.theory_rings.specs.Ops.{Ops, IsElem, FieldLaws}
 use Rattle.theory_rings.specs.Sum.{at, sum_of, table}
 use Rattle.theory_spaces.specs.Tuples.{product, basis, constant}
-use Rattle.theory_spaces.proofs.Tuples.{at-table, table_congr, at-elem, sum_of_congr, sum_of-elem}
+use Rattle.theory_rings.proofs.Sums.Lists.{table_congr}
+use Rattle.theory_rings.proofs.Rings.Elements.{at-elem, sum_of-elem, sum_of_congr}
+use Rattle.theory_spaces.proofs.Tuples.{at-table}
 use Rattle.theory_spaces.proofs.TupleProducts.{product_basis, IsTuple-basis}
 use Rattle.spl_algebra.specs.Products.{sum_of_rows}
 use Rattle.spl_algebra.proofs.Terms.{mul-one, mul-zero, zero-mul, sum_of_eq_single, sum_of_eq_zero}
@@ -60,7 +62,7 @@ module _ {E : Type 0} (o : Ops E) (L : FieldLaws o) (m : ℕ) (cs : List E) (con
   product-basis a k ha h = table_congr m
       (λ t. sum_of o m (λ i. sum_of o m (λ j. term a (basis o m k) t i j)))
       (sum_of_rows o m a (drop (k * m) cs) (m * m))
-      (λ t _. sum_of_congr o L m
+      (λ t _. sum_of_congr o m
       (λ i. sum_of o m (λ j. term a (basis o m k) t i j))
       (λ i. o.mul (at o a i) (at o (drop (k * m) cs) (i * (m * m) + t)))
       (λ i _.
@@ -80,7 +82,7 @@ module _ {E : Type 0} (o : Ops E) (L : FieldLaws o) (m : ℕ) (cs : List E) (con
       sum_of_eq_single o L m i (λ l. sum_of o m (λ j. term (basis o m i) b t l j)) h
       (sum_of-elem o L m (λ j. term (basis o m i) b t i j) (λ j _. term-elem (basis o m i) b t i j (IsTuple-basis o L m cs constants i).of_elements hb))
       (λ l g d. sum_of_eq_zero o L m (λ j. term (basis o m i) b t l j) (λ j _. term-left_zero (basis o m i) b t l j hb (at-basis_other o m i l g d)))
-      ∙ sum_of_congr o L m
+      ∙ sum_of_congr o m
       (λ j. term (basis o m i) b t i j)
       (λ j. o.mul (at o b j) (at o (drop (i * m * m) cs) (j * m + t)))
       (λ j _. term-left_one (basis o m i) b t i j hb (at-basis_same o m i h) ∙ ap (o.mul (at o b j)) (constant-row o m cs i j t)))

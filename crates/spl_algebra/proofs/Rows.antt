@@ -5,11 +5,11 @@ use Rattle.std.proofs.Math.Nat as nat
 use Rattle.std.proofs.lemmas.List.{get_or-drop}
 use Rattle.theory_rings.specs.Ops.{Ops, IsElem, FieldLaws}
 use Rattle.theory_rings.specs.Sum.{at, sum_of, table}
-use Rattle.theory_rings.proofs.Lists.{length-table}
+use Rattle.theory_rings.proofs.Sums.Lists.{length-table}
 use Rattle.theory_spaces.specs.Tuples.{product, constant}
 use Rattle.spl_algebra.specs.Products.{AddsEach, scaled_rows, sum_of_rows}
 use Rattle.spl_algebra.proofs.Terms.{add-zero, zero-mul, sum_of-next, sum_of_eq_zero}
-use Rattle.theory_spaces.proofs.Tuples.{at-elem, sum_of-elem, sum_of_congr}
+use Rattle.theory_rings.proofs.Rings.Elements.{at-elem, sum_of-elem, sum_of_congr}
 use Rattle.spl_algebra.proofs.Steps.{AddsEach-zero, AddsEach-then, AddsEach-congr, AddsEach-zeros}
 
 -- row i of n rows of m items ends within them
@@ -39,7 +39,7 @@ module _ {E : Type 0} (o : Ops E) (L : FieldLaws o) where
   pub scaled_rows-one : (m : ℕ) (one : E) (b rows : List E) (stride k : ℕ) → one ≡ o.one → All (IsElem o) b
       → scaled_rows o m one b rows stride k ≡ sum_of_rows o m b rows stride k
   scaled_rows-one m one b rows stride k e hb =
-      sum_of_congr o L m (λ l. o.mul (o.mul one (at o b l)) (at o rows (l * stride + k))) (λ l. o.mul (at o b l) (at o rows (l * stride + k)))
+      sum_of_congr o m (λ l. o.mul (o.mul one (at o b l)) (at o rows (l * stride + k))) (λ l. o.mul (at o b l) (at o rows (l * stride + k)))
       (λ l _. ap (λ y. o.mul y (at o rows (l * stride + k))) (ap (λ y. o.mul y (at o b l)) e ∙ L.one-mul (at o b l) (at-elem o L b hb l)))
 
   -- a list of zeros after the rows are added
@@ -80,7 +80,7 @@ module _ {E : Type 0} (o : Ops E) (L : FieldLaws o) where
   -- the rows from row i·m on
   scaled_rows-part : (m : ℕ) (c a b : List E) (i k : ℕ) → scaled_rows o m (at o a i) b (drop (i * m * m) c) m k ≡ part_of_product o m c a b i k
   scaled_rows-part m c a b i k =
-      sum_of_congr o L m (λ j. o.mul (o.mul (at o a i) (at o b j)) (at o (drop (i * m * m) c) (j * m + k)))
+      sum_of_congr o m (λ j. o.mul (o.mul (at o a i) (at o b j)) (at o (drop (i * m * m) c) (j * m + k)))
       (λ j. o.mul (o.mul (at o a i) (at o b j)) (constant o m c i j k))
       (λ j _. ap (o.mul (o.mul (at o a i) (at o b j))) (sym (constant-row o m c i j k)))
 

@@ -6,10 +6,10 @@ use Rattle.std.proofs.lemmas.List.Elements.{All-set}
 use Rattle.std.proofs.Math.ListN.{set}
 use Rattle.theory_rings.specs.Ops.{Ops, IsElem, FieldLaws}
 use Rattle.theory_rings.specs.Sum.{at, table}
-use Rattle.theory_rings.proofs.Lists.{length-table, get_or-table}
+use Rattle.theory_rings.proofs.Sums.Lists.{length-table, get_or-table}
 use Rattle.spl_algebra.specs.Products.{AddsEach, scaled_rows}
 use Rattle.spl_algebra.proofs.Terms.{add-zero, mul-zero, zero-mul, sum_of-next}
-use Rattle.theory_spaces.proofs.Tuples.{at-elem, sum_of-elem}
+use Rattle.theory_rings.proofs.Rings.Elements.{at-elem, sum_of-elem}
 
 -- a list is the table of its items
 pub table-at : {E : Type 0} (o : Ops E) (n : ℕ) (xs : List E) (f : ℕ → E) → length xs ≡ n → ((k : ℕ) → k < n → at o xs k ≡ f k) → xs ≡ table n f

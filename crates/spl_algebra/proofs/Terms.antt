@@ -6,7 +6,7 @@ use Rattle.std.proofs.lemmas.List.{get_or_default}
 use Rattle.theory_rings.specs.Ops.{Ops, IsElem, FieldLaws}
 use Rattle.theory_rings.specs.Elements.{elements}
 use Rattle.theory_rings.specs.Sum.{at, sum_of}
-use Rattle.theory_rings.proofs.RingLaws as ring
+use Rattle.theory_rings.proofs.Rings.RingLaws as ring
 
 module _ {E : Type 0} (o : Ops E) where
   -- one more term

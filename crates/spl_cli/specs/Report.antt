@@ -1,9 +1,10 @@
 -- What a run reports: the status, and all the bytes that are written.
-use Rattle.std.specs.Prelude.{◌≡◌, ◌⊎◌, ℕ, ◌==◌, List, [], ◌∷◌, ◌++◌, codes, decimal, count_by}
+use Rattle.std.specs.Prelude.{◌≡◌, ◌⊎◌, ℕ, ◌≤◌, ◌==◌, List, ◌++◌, length, codes, decimal, count_by}
 use Rattle.spl_algebra.specs.Algebra.{IsAssociative}
 use Rattle.spl_table.specs.TableText.{TableText, IsTableText}
-use Rattle.spl_table.specs.Table.{algebra_of, ops_of, IsTableOf, IsFirstFailed}
-use Rattle.spl_table.specs.Refusal.{IsRefusal}
+use Rattle.spl_table.specs.Table.{algebra_of, ops_of, IsTableOf}
+use Rattle.spl_table.specs.Triple.{IsFirstFailed}
+use Rattle.spl_table.specs.Refusal.{table_limit, IsRefusal}
 use Rattle.spl_table.specs.declared.table.Table.{Table}
 use Rattle.spl_table.specs.declared.triple.Triple.{Triple}
 use Rattle.spl_table.specs.declared.refusal.Refusal.{Refusal}
@@ -30,8 +31,9 @@ triple_text t = codes "spl-evidence 1\ntriple " ++ decimal t.i ++ codes " " ++ d
 abbrev pub line_of_end : List ℕ → ℕ
 line_of_end input = count_by (λ byte. byte == 10) input
 
--- the input is the text of a table, and this is the table
+-- the input is not too long and the text of a table, and this is the table
 pub record Stands (input : List ℕ) (table : Table) : Type 0 where
+  pub short : length input ≤ table_limit
   pub text : TableText
   pub is_text : IsTableText input text
   pub is_table : IsTableOf text table

@@ -1,5 +1,5 @@
 -- What a run of the program may do to its source and its sink, and what it may answer.
-use Rattle.std.specs.Prelude.{◌≡◌, ◌⊎◌, ℕ, ◌+◌, ◌<◌, ◌≤◌, Bool, List, length, take, drop, Option, is_some, IfSome}
+use Rattle.std.specs.Prelude.{◌≡◌, ◌⊎◌, ℕ, ◌+◌, ◌≤◌, Bool, List, drop, Option, is_some, IfSome}
 use Rattle.std.specs.Option.{option_map}
 use Rattle.std.specs.Io.KnownBytes.{Keeps, Appends, IsAtEnd}
 use Rattle.spl_outside.specs.Faults.{Rose}
@@ -21,6 +21,18 @@ pub record SinkState : Type 0 where
   pub written : Option (List ℕ)
   pub faults : ℕ
   pub steady : Option ℕ
+
+-- what stands of a source whatever happens
+pub record SourceStands (source source' : SourceState) : Type 0 where
+  pub faults : source.faults ≤ source'.faults
+  pub told : is_some source'.left ≡ is_some source.left
+  pub steady : source'.steady ≡ source.steady
+
+-- what stands of a sink whatever happens
+pub record SinkStands (sink sink' : SinkState) : Type 0 where
+  pub faults : sink.faults ≤ sink'.faults
+  pub told : is_some sink'.written ≡ is_some sink.written
+  pub steady : sink'.steady ≡ sink.steady
 
 -- a status with which a report was written whole
 abbrev pub IsAnswer : Status → Type 0
@@ -57,21 +69,14 @@ pub record IsRun (words : List (List ℕ)) (source source' : SourceState) (sink 
   pub report : IsAnswer status → WritesReport words source sink sink' status
   pub part : status ≡ WriteFault → WritesPart words source sink sink'
   pub nothing : (status ≡ ReadFault) ⊎ (status ≡ Memory) → Keeps sink.written sink'.written
-
   -- when each comes: a fault only where its count rose in the call, and want of memory at any time but for words of no form
   pub no_form : (IsForm words → ⊥) → (status ≡ Usage) ⊎ (status ≡ WriteFault)
   pub read_fault : status ≡ ReadFault → Rose source.faults source'.faults
   pub write_fault : status ≡ WriteFault → Rose sink.faults sink'.faults
-
   -- what is read: nothing for words of no form, and else all the input up to one byte past the limit
   pub untouched : (IsForm words → ⊥) → source' ≡ source
   pub taken : IsForm words → IsAnswer status ⊎ (status ≡ WriteFault) → source'.left ≡ option_map (drop (read_limit + 1)) source.left
   pub to_the_end : (status ≡ Done) ⊎ (status ≡ No) → IsAtEnd source'.left
-
-  -- what stands whatever happens
-  pub source_faults : source.faults ≤ source'.faults
-  pub source_told : is_some source'.left ≡ is_some source.left
-  pub source_steady : source'.steady ≡ source.steady
-  pub sink_faults : sink.faults ≤ sink'.faults
-  pub sink_told : is_some sink'.written ≡ is_some sink.written
-  pub sink_steady : sink'.steady ≡ sink.steady
+  -- what stands whatever happens: no count falls, what is told stays told, and what is steady stays so
+  pub source_stands : SourceStands source source'
+  pub sink_stands : SinkStands sink sink'

@@ -1,13 +1,11 @@
-// A library with one function.
+// The program's top call: words, an input and a report.
+//
+// It stands on spl_table and spl_outside. Read `run` first: its contract, the record `IsRun` of specs/Run.antt, is what
+// the whole program promises.
 #![tactic(auto)]
 
-ghost use Rattle.std.specs.Prelude.{◌≡◌};
-ghost use Rattle.spl_cli.specs.Echo.{echo_of};
-
-// The `ensures` clause is the contract: what `echo` returns is `echo_of` of its argument, a definition
-// in `specs/Echo.antt`, which a caller's clause can cite too.
-pub fn echo(x: usize) -> usize
-    ensures { result ≡ echo_of x }
-{
-    x
-}
+mod input;
+mod report;
+pub mod run;
+pub mod status;
+pub mod words;

@@ -1,5 +1,5 @@
 // The words after the program's name.
-ghost use Rattle.std.specs.Prelude.{◌≡◌, ◌↔◌, [], ◌∷◌, ◌++◌, IsTrue, OnOk, OnErr};
+ghost use Rattle.std.specs.Prelude.{◌≡◌, ◌↔◌, [], ◌∷◌, ◌++◌, IsTrue, OnOk, OnErr, map, string_bytes};
 ghost use Rattle.spl_cli.specs.Forms.{IsDecide};
 
 use spl_field::field::NoMemory;
@@ -46,6 +46,16 @@ impl Words {
     pub fn is_decide(&self) -> bool
         ensures { IsTrue result ↔ IsDecide self.now }
     {
-        self.items.len() == 1 && self.items[0].as_str() == "decide"
+        is_word(&self.items, "decide")
+    }
+}
+
+/// Whether there is one word, and it is this.
+fn is_word(words: &[String], word: &str) -> bool
+    ensures { IsTrue result ↔ (map string_bytes words.now ≡ word.now ∷ []) }
+{
+    match words {
+        [only] => only.as_str() == word,
+        _ => false,
     }
 }

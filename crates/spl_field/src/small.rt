@@ -1,7 +1,7 @@
 // The fields of 2 to 256 elements.
 ghost use Rattle.std.specs.Prelude.{◌≡◌, ◌≢◌, ℕ, ◌*◌, ◌+◌, ◌%◌, ◌^◌, ◌<◌, ◌≤◌, length, MatchOption, IfOk, OnOk, IsErrOf, slice_index};
 ghost use Rattle.theory_rings.specs.IntegersMod.{mod_ops};
-ghost use Rattle.theory_rings.proofs.IntegersMod.{mod_laws};
+ghost use Rattle.theory_rings.proofs.Numbers.IntegersMod.{mod_laws};
 ghost use Rattle.spl_field.specs.FieldByDigits.{FitsField, IsAdmitted, IsFirstWithoutInverse, IsInverse, digit_sum, digit_negative, digit_product};
 
 use crate::admission::{FieldFault, admits_numbers};
@@ -44,7 +44,7 @@ impl Field for SmallField {
 
     ghost ops = { λ f. mod_ops f.p f.inverses.items };
 
-    ghost laws = { λ f. mod_laws f.p f.least f.inverses.items f.inverses_below f.inverses_are };
+    ghost laws = { λ f. mod_laws f.p f.least f.inverses.items (record { below = f.inverses_below; inverse = f.inverses_are }) };
 
     fn zero(&self, _alloc: Global) -> Result<u8, NoMemory> {
         Ok(0)

@@ -1,5 +1,5 @@
 -- Known bytes that grew by a part of a text.
-use Rattle.std.specs.Prelude.{◌≡◌, ℕ, ◌<◌, List, length, take, Option}
+use Rattle.std.specs.Prelude.{ℕ, ◌<◌, List, length, take, Option}
 use Rattle.std.specs.Io.KnownBytes.{Appends}
 
 -- known bytes grew by a proper prefix of the text

@@ -5,5 +5,4 @@ ghost use Rattle.spl_table.specs.TableText.{TableText, IsTableText};
 /// A text is the text of at most one table.
 pub fn one_table_a_text()
     ensures { (bytes : List ℕ) (t u : TableText) → IsTableText bytes t → IsTableText bytes u → t ≡ u }
-{
-}
+{}

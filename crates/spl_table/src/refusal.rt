@@ -2,6 +2,7 @@
 ghost use Rattle.std.specs.Prelude.{◌≡◌};
 
 use spl_field::field::NoMemory;
+use std::alloc::AllocError;
 use thiserror::Error;
 
 /// What is wrong with a text.
@@ -29,12 +30,33 @@ pub enum TableFault {
     Memory,
 }
 
+impl TableFault {
+    /// The refusal of a text as a whole.
+    pub(crate) fn whole(kind: Kind) -> TableFault
+        ensures { result ≡ TableFault.Refused (record { line = 0; kind = kind }) }
+    {
+        TableFault::Refused {
+            refusal: Refusal { line: 0, kind },
+        }
+    }
+}
+
 impl From<NoMemory> for TableFault {
     ghost use Rattle.spl_table.specs.declared.refusal.TableFault.TheVariants.{Memory};
 
     ghost from_gives = { λ _ e. e ≡ Memory };
 
     fn from(_e: NoMemory) -> TableFault {
+        TableFault::Memory
+    }
+}
+
+impl From<AllocError> for TableFault {
+    ghost use Rattle.spl_table.specs.declared.refusal.TableFault.TheVariants.{Memory};
+
+    ghost from_gives = { λ _ e. e ≡ Memory };
+
+    fn from(_e: AllocError) -> TableFault {
         TableFault::Memory
     }
 }

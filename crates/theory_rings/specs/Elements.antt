@@ -1,6 +1,6 @@
 -- The elements of a program's field as a type of their own: a field whose laws need no premise. The first projection
 -- is a homomorphism by computation.
-use Rattle.std.specs.Prelude.{◌≡◌, true, IsTrue}
+use Rattle.std.specs.Prelude.{◌≡◌, true}
 use Rattle.std.proofs.Common.{◌∙◌, ap₂}
 use Rattle.std.proofs.Math.Bool.{Bool-set}
 use mathlib.Core.HLevel.{Σ_prop_path}

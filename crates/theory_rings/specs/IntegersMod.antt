@@ -1,5 +1,5 @@
 -- The integers modulo n: the numbers below n with the sum and the product modulo n are a commutative ring.
-use Rattle.std.specs.Prelude.{◌≡◌, ℕ, ◌+◌, ◌-◌, ◌*◌, ◌%◌, ◌<◌, ◌≤◌, IsTrue, true, nat_lt, nat_eq, List, slice_index}
+use Rattle.std.specs.Prelude.{◌≡◌, ℕ, ◌+◌, ◌-◌, ◌*◌, ◌%◌, ◌<◌, ◌≤◌, Bool, IsTrue, true, nat_lt, nat_eq, List, slice_index}
 use Rattle.std.proofs.Common.{sym, ◌∙◌, ap, ap₂}
 use Rattle.std.proofs.Math.Bool.{Bool-set}
 use Rattle.std.proofs.Math.Nat as nat
@@ -7,11 +7,11 @@ use Rattle.std.proofs.lemmas.Bool.{ltb-true, lt-ltb}
 use Rattle.std.proofs.lemmas.Nat.{mod_below, mul-mod_first, mul-mod_second}
 use mathlib.Core.HLevel.{Σ_prop_path}
 use Rattle.theory_rings.specs.Ring.{CommRingOn}
-use Rattle.theory_rings.specs.Ops.{Ops}
+use Rattle.theory_rings.specs.Ops.{Ops, FieldLaws}
 
 -- a number below n
-abbrev pub Residue : ℕ → Type 0
-Residue n = (a : ℕ) × IsTrue (nat_lt a n)
+abbrev pub Fin : ℕ → Type 0
+Fin n = (a : ℕ) × IsTrue (nat_lt a n)
 
 -- the operations as a program has them, where the inverses are in a table
 abbrev pub mod_ops : ℕ → List ℕ → Ops ℕ
@@ -28,10 +28,10 @@ mod_ops n inverses = record {
 
 -- the laws of the sum and the product modulo n
 module _ (n : ℕ) where
-  pub Residue-path : (a b : Residue n) → a.0 ≡ b.0 → a ≡ b
-  Residue-path a b e = Σ_prop_path (λ x. Bool-set (nat_lt x n) true) {u = a} {v = b} e
+  pub Fin-path : (a b : Fin n) → a.0 ≡ b.0 → a ≡ b
+  Fin-path a b e = Σ_prop_path (λ x. Bool-set (nat_lt x n) true) {u = a} {v = b} e
 
-  pub value-lt : (a : Residue n) → a.0 < n
+  pub value-lt : (a : Fin n) → a.0 < n
   value-lt a = ltb-true a.0 n a.1
 
   pub add_assoc_mod : (a b c : ℕ) → ((a + b) % n + c) % n ≡ (a + (b + c) % n) % n
@@ -45,6 +45,9 @@ module _ (n : ℕ) where
 
   pub neg-add_mod : (a : ℕ) → a < n → ((n - a) % n + a) % n ≡ 0
   neg-add_mod a h = nat.mod-add-mod (n - a) n a ∙ ap (λ x. x % n) (nat.sub-add_cancel (nat.le_of_lt h)) ∙ nat.mod_self n
+
+  pub add-neg_mod : (a : ℕ) → a < n → (a + (n - a) % n) % n ≡ 0
+  add-neg_mod a h = add_comm_mod a ((n - a) % n) ∙ neg-add_mod a h
 
   pub mul_assoc_mod : (a b c : ℕ) → ((a * b) % n * c) % n ≡ (a * ((b * c) % n)) % n
   mul_assoc_mod a b c = mul-mod_first (a * b) c n ∙ ap (λ x. x % n) (nat.mul_assoc a b c) ∙ sym (mul-mod_second a (b * c) n)
@@ -76,14 +79,21 @@ module _ (n : ℕ) (two_le : 2 ≤ n) where
   pub one-elem : IsTrue (nat_lt 1 n)
   one-elem = lt-ltb 1 n (nat.lt_of_lt_of_le (nat.lt-suc_self 1) two_le)
 
+  -- the residue of a number
+  abbrev pub residue : ℕ → Fin n
+  residue a = (a % n, mod-elem a)
+
+  abbrev pub residue_is_zero : Fin n → Bool
+  residue_is_zero a = nat_eq a.0 0
+
   -- the ring
-  abbrev pub integers_mod : CommRingOn (Residue n)
+  abbrev pub integers_mod : CommRingOn (Fin n)
   integers_mod =
-      let K : Type 0 = Residue n in
-      let same : (a b : K) → a.0 ≡ b.0 → a ≡ b = Residue-path n in
-      let plus : K → K → K = λ a b. ((a.0 + b.0) % n, mod-elem (a.0 + b.0)) in
-      let times : K → K → K = λ a b. ((a.0 * b.0) % n, mod-elem (a.0 * b.0)) in
-      let minus : K → K = λ a. ((n - a.0) % n, mod-elem (n - a.0)) in
+      let K : Type 0 = Fin n in
+      let same : (a b : K) → a.0 ≡ b.0 → a ≡ b = Fin-path n in
+      let plus : K → K → K = λ a b. residue (a.0 + b.0) in
+      let times : K → K → K = λ a b. residue (a.0 * b.0) in
+      let minus : K → K = λ a. residue (n - a.0) in
       let nought : K = (0, zero-elem) in
       let unit : K = (1, one-elem) in
       record {
@@ -109,3 +119,23 @@ module _ (n : ℕ) (two_le : 2 ≤ n) where
         };
         mul_comm = λ a b. same (times a b) (times b a) (mul_comm_mod n a.0 b.0);
       }
+
+-- the operations of R are the sum and the product modulo n
+pub record IsIntegersMod (n : ℕ) (R : CommRingOn (Fin n)) : Type 0 where
+  pub zero : R.zero.0 ≡ 0
+  pub one : R.one.0 ≡ 1
+  pub add : (a b : Fin n) → (R.◌⊕◌ a b).0 ≡ (a.0 + b.0) % n
+  pub mul : (a b : Fin n) → (R.◌⊗◌ a b).0 ≡ (a.0 * b.0) % n
+
+-- the integers modulo n are a commutative ring
+abbrev pub IntegersModLaw : Type 0
+IntegersModLaw = (n : ℕ) → 2 ≤ n → (R : CommRingOn (Fin n)) × IsIntegersMod n R
+
+-- entry a of the table is an inverse of a modulo n
+pub record IsInverseTable (n : ℕ) (inverses : List ℕ) : Type 0 where
+  pub below : (a : ℕ) → a < n → slice_index inverses a < n
+  pub inverse : (a : ℕ) → 0 < a → a < n → (a * slice_index inverses a) % n ≡ 1
+
+-- with such a table the integers modulo n are a field
+abbrev pub FieldModLaw : Type 0
+FieldModLaw = (n : ℕ) (inverses : List ℕ) → 2 ≤ n → IsInverseTable n inverses → FieldLaws (mod_ops n inverses)

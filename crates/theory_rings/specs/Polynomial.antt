@@ -1,8 +1,8 @@
 -- Polynomials over a commutative ring, as the lists of their coefficients, that of power 0 first, with no 0 at the end.
-use Rattle.std.specs.Prelude.{◌≡◌, ◌≢◌, ℕ, zero, suc, ◌-◌, ◌<◌, ◌≤◌, Bool, true, false, cond, List, [], ◌∷◌, length, get_or}
+use Rattle.std.specs.Prelude.{◌≡◌, ◌≢◌, ℕ, zero, suc, ◌-◌, ◌<◌, Bool, cond, List, [], ◌∷◌, length, get_or}
 use Rattle.theory_rings.specs.Ring.{RingOn, CommRingOn}
 use Rattle.theory_rings.specs.Ops.{Ops}
-use Rattle.theory_rings.specs.Sum.{sum, sum_of}
+use Rattle.theory_rings.specs.Sum.{sum_by_ops}
 
 -- the last item is not 0
 abbrev pub IsTrimmed : {X : Type 0} → X → List X → Type 0
@@ -20,18 +20,22 @@ abbrev pub trim : {X : Type 0} → (X → Bool) → List X → List X
 trim is_zero [] = []
 trim is_zero (x ∷ xs) = put_before is_zero x (trim is_zero xs)
 
--- the degree of a polynomial; that of 0 is 0 here
+-- the degree of the polynomial with these coefficients; that of 0 is 0 here
 abbrev pub degree : {X : Type 0} → List X → ℕ
 degree [] = 0
 degree (x ∷ xs) = length xs
 
--- coefficient k of a product: the sum of f i · g (k − i) over i from 0 to k
-abbrev pub convolution : {K : Type 0} → RingOn K → (ℕ → K) → (ℕ → K) → ℕ → K
-convolution R f g k = sum R.monoid (suc k) (λ i. R.◌⊗◌ (f i) (g (k - i)))
+-- coefficient k of a product: the sum of f i · g (k − i) over i from 0 to k, by a 0, a sum and a product
+abbrev pub convolution_by_ops : {K : Type 0} → K → (K → K → K) → (K → K → K) → (ℕ → K) → (ℕ → K) → ℕ → K
+convolution_by_ops z plus mul f g k = sum_by_ops z plus (suc k) (λ i. mul (f i) (g (k - i)))
 
--- the same in a program's field
+-- in a ring
+abbrev pub convolution : {K : Type 0} → RingOn K → (ℕ → K) → (ℕ → K) → ℕ → K
+convolution R f g k = convolution_by_ops R.zero R.◌⊕◌ R.◌⊗◌ f g k
+
+-- in a program's field
 abbrev pub convolution_of : {E : Type 0} → Ops E → (ℕ → E) → (ℕ → E) → ℕ → E
-convolution_of o f g k = sum_of o (suc k) (λ i. o.mul (f i) (g (k - i)))
+convolution_of o f g k = convolution_by_ops o.zero o.add o.mul f g k
 
 -- the coefficients of the constant c
 abbrev pub constant_coefficients : {X : Type 0} → X → X → ℕ → X
@@ -39,6 +43,7 @@ constant_coefficients nought c zero = c
 constant_coefficients nought c (suc k) = nought
 
 module _ {K : Type 0} (R : CommRingOn K) where
+  -- the polynomials over R
   abbrev pub Poly : Type 0
   Poly = (xs : List K) × IsTrimmed R.zero xs
 
@@ -50,9 +55,10 @@ module _ {K : Type 0} (R : CommRingOn K) where
   abbrev pub lead : Poly → K
   lead a = coefficient a (degree a.0)
 
-  -- the leading coefficient is 1
-  abbrev pub IsMonic : Poly → Type 0
-  IsMonic a = lead a ≡ R.one
+  -- not 0, and its leading coefficient is 1
+  pub record IsMonic (a : Poly) : Type 0 where
+    pub nonzero : 0 < length a.0
+    pub leading : lead a ≡ R.one
 
   -- the operations of P are those of polynomials
   pub record IsPolynomialRing (P : CommRingOn Poly) : Type 0 where

@@ -3,7 +3,7 @@ use Rattle.std.specs.Prelude.{◌≡◌, ℕ}
 use Rattle.std.proofs.Common.{sym, ◌∙◌, ap, subst}
 use Rattle.theory_rings.specs.Ring.{RingOn}
 use Rattle.theory_rings.specs.Sum.{sum}
-use Rattle.theory_rings.proofs.Sums.{sum_congr, mul-sum, sum-mul}
+use Rattle.theory_rings.proofs.Sums.Sums.{sum_congr, mul-sum, sum-mul}
 use Rattle.theory_spaces.specs.Module.{AlgebraOn}
 use Rattle.theory_spaces.specs.Algebra.{InCorner, Central}
 

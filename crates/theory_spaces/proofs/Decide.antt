@@ -1,13 +1,16 @@
 -- Rows of a matrix are related, or free: decided by elimination, one column at a time.
 use Rattle.std.specs.Prelude.{◌≡◌, ℕ, zero, suc, ◌<◌, [], ◌∷◌, ◌⊎◌}
 use Rattle.std.proofs.Common.{refl, sym, ◌∙◌, ap, ap₂, arith, inl, inr, ⊎_elim}
+use Rattle.std.proofs.lemmas.Bool.{cases_eq}
 use Rattle.theory_rings.specs.Ring.{FieldOn}
 use Rattle.theory_rings.specs.Sum.{sum}
-use Rattle.theory_rings.proofs.RingLaws.{add-neg, mul-zero, zero-mul, neg_zero, neg_unique}
-use Rattle.theory_rings.proofs.Sums.{sum_congr, sum_eq_zero, sum_take_out, sum-mul, bump, bump-lt}
-use Rattle.theory_rings.proofs.Solver.{var, nil, ◌⊞◌, ◌⊠◌, minus, by_sorted, ring1}
-use Rattle.theory_rings.proofs.ZeroTests.{eq_zero_or}
-use Rattle.theory_spaces.proofs.Families.{push, push-below, push-at, put_at, put_at-here, put_at-bump, unbump, eq_or_not, below_suc}
+use Rattle.theory_rings.proofs.Rings.RingLaws.{add-neg, mul-zero, zero-mul, neg_zero, neg_unique, eq_zero_of_mul-unit}
+use Rattle.theory_rings.proofs.Rings.Fields.{mul-inv, inv_mul_cancel_right}
+use Rattle.theory_rings.proofs.Sums.Bump.{unbump, bump-unbump, unbump-lt, bump, bump-lt}
+use Rattle.theory_rings.proofs.Sums.Sums.{sum_congr, sum_eq_zero, sum_take_out, sum-mul}
+use Rattle.theory_rings.proofs.Rings.Solver.{var, nil, ◌⊞◌, ◌⊠◌, minus, by_sorted, ring1}
+use Rattle.theory_rings.proofs.Rings.ZeroTests.{eq_zero_or}
+use Rattle.theory_spaces.proofs.Families.{push, push-below, push-at, put_at, put_at-here, put_at-bump, below_suc}
 
 module _ {K : Type 0} (F : FieldOn K) where
   infixl 65 ◌⊕◌
@@ -105,8 +108,7 @@ module _ {K : Type 0} (F : FieldOn K) where
         ∙ sym (clear n (λ i. c (bump k i)) (λ i. a (bump k i) j) t (a k j))
 
     t-back : (i : ℕ) → t i ⊗ a k m ≡ a (bump k i) m
-    t-back i = F.mul_assoc (a (bump k i) m) (F.inv (a k m)) (a k m)
-        ∙ ap (λ x. a (bump k i) m ⊗ x) (F.inv-mul (a k m) p.nonzero) ∙ F.mul-one (a (bump k i) m)
+    t-back i = inv_mul_cancel_right F (a (bump k i) m) (a k m) p.nonzero
 
     cleared-last : (i : ℕ) → cleared m k a i m ≡ F.zero
     cleared-last i = ap (λ x. a (bump k i) m ⊕ neg x) (t-back i) ∙ add-neg additive (a (bump k i) m)
@@ -146,8 +148,7 @@ module _ {K : Type 0} (F : FieldOn K) where
         ∙ sym (sum-mul ring n v (λ i. c (bump k i) ⊗ t i)) in
         let e3 : (S ⊕ c k) ⊗ v ≡ F.zero = F.add-mul S (c k) v ∙ F.add_comm (S ⊗ v) (c k ⊗ v) ∙ ap (λ x. c k ⊗ v ⊕ x) (sym e2) ∙ e1 in
         let e4 : S ⊕ c k ≡ F.zero =
-        sym (F.mul_assoc (S ⊕ c k) v (F.inv v) ∙ ap (λ x. (S ⊕ c k) ⊗ x) (F.mul_comm v (F.inv v) ∙ F.inv-mul v p.nonzero) ∙ F.mul-one (S ⊕ c k))
-        ∙ ap (λ x. x ⊗ F.inv v) e3 ∙ zero-mul ring (F.inv v) in
+        eq_zero_of_mul-unit ring (S ⊕ c k) v (F.inv v) (mul-inv F v p.nonzero) e3 in
         neg_unique additive S (c k) e4
 
     free_pivot : Free n m (cleared m k a) → Free (suc n) (suc m) a
@@ -159,8 +160,8 @@ module _ {K : Type 0} (F : FieldOn K) where
           ∙ ap neg (sum_eq_zero monoid n (λ i. c (bump k i) ⊗ t i) (λ i g. ap (λ x. x ⊗ t i) (others i g) ∙ zero-mul ring (t i))) ∙ neg_zero additive in
           ⊎_elim
           (λ (e : i ≡ k). ap c e ∙ here)
-          (λ (d : i ≡ k → ⊥). let u = unbump k n i l d p.within in sym (ap c u.2) ∙ others u.0 u.1)
-          (eq_or_not i k);
+          (λ (d : i ≡ k → ⊥). sym (ap c (bump-unbump k i d)) ∙ others (unbump k i) (unbump-lt n k i p.within l d))
+          (cases_eq i k);
     }
 
   -- n rows of length m are related, or free

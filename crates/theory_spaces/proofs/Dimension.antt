@@ -1,15 +1,15 @@
 -- Dimension: m + 1 rows of length m are dependent, and independent vectors in a span are no more than what spans it.
 use Rattle.std.specs.Prelude.{◌≡◌, ℕ, zero, suc, ◌<◌, ◌≤◌}
 use Rattle.std.proofs.Common.{sym, ◌∙◌, ap, subst, arith, ⊎_elim}
-use Rattle.std.proofs.lemmas.Bool.{cases_lt}
+use Rattle.std.proofs.lemmas.Bool.{cases_eq, cases_lt}
 use Rattle.theory_rings.specs.Ring.{FieldOn}
 use Rattle.theory_rings.specs.Sum.{sum}
-use Rattle.theory_rings.proofs.RingLaws.{neg_unique, neg_neg}
-use Rattle.theory_rings.proofs.Sums.{sum_take_out, bump}
-use Rattle.theory_rings.proofs.ZeroTests.{eq_zero_or}
+use Rattle.theory_rings.proofs.Rings.RingLaws.{neg_unique, neg_neg}
+use Rattle.theory_rings.proofs.Sums.Bump.{unbump, bump-unbump, unbump-lt, bump}
+use Rattle.theory_rings.proofs.Sums.Sums.{sum_take_out}
+use Rattle.theory_rings.proofs.Rings.ZeroTests.{eq_zero_or}
 use Rattle.theory_spaces.specs.Module.{ModuleOn}
 use Rattle.theory_spaces.specs.Linear.{comb, InSpan, Independent, Basis, Exchange}
-use Rattle.theory_spaces.proofs.Families.{unbump, eq_or_not}
 use Rattle.theory_spaces.proofs.Modules.{scale-neg, neg-scale, comb_zero, comb_congr_right, comb-scale, comb-comb, rows_of, InSpan-member, InSpan_trans, independent_none, Independent-front}
 use Rattle.theory_spaces.proofs.Decide.{NotAllZero, Related, pivot, cleared, related_none, related_more, related_pivot}
 
@@ -68,8 +68,8 @@ module _ {K V : Type 0} (F : FieldOn K) (M : ModuleOn F.ring V) where
           let u : ℕ → V = λ i. w (bump k i) in
           let all : (i : ℕ) → i < suc n → InSpan M n u (w i) = λ i a. ⊎_elim
           (λ (q : i ≡ k). let P : ℕ → Type 0 = λ j. InSpan M n u (w j) in subst P (sym q) g)
-          (λ (q : i ≡ k → ⊥). let b = unbump k n i a q l in let P : ℕ → Type 0 = λ j. InSpan M n u (w j) in subst P b.2 (InSpan-member M n b.0 u b.1))
-          (eq_or_not i k) in
+          (λ (q : i ≡ k → ⊥). let P : ℕ → Type 0 = λ j. InSpan M n u (w j) in subst P (bump-unbump k i q) (InSpan-member M n (unbump k i) u (unbump-lt n k i l a q)))
+          (cases_eq i k) in
           exchange_rows n v u (λ i a. InSpan_trans M (suc n) n w u (v i) all (s i a)) h
 
   -- two bases have one size

@@ -1,12 +1,9 @@
 -- Families, as functions from the numbers of which the first n count: one more member at the end, a member put in, two
 -- families one after the other, a choice of one member for each number.
 use Rattle.std.specs.Prelude.{◌≡◌, ℕ, suc, pred, ◌+◌, ◌-◌, ◌<◌, ◌≤◌, cond, ltb, ◌⊎◌}
-use Rattle.std.proofs.Common.{refl, sym, ◌∙◌, ap, subst, arith, inl, inr, ⊎_elim}
+use Rattle.std.proofs.Common.{refl, sym, ap, subst, arith, inl, inr, ⊎_elim}
 use Rattle.std.proofs.lemmas.Bool.{cases_lt, lt-ltb, le-ltb}
-use Rattle.theory_rings.proofs.Sums.{bump, bump-below, bump-above}
-
-pub eq_or_not : (x y : ℕ) → (x ≡ y) ⊎ (x ≡ y → ⊥)
-eq_or_not x y = grind arith
+use Rattle.theory_rings.proofs.Sums.Bump.{bump, bump-below, bump-above}
 
 -- v below n, and x from there on
 abbrev pub push : {X : Type 0} → ℕ → X → (ℕ → X) → ℕ → X
@@ -39,14 +36,6 @@ put_at-else k s z i d = ⊎_elim (λ (l : i < k). rw (lt-ltb i k l) refl)
     (λ (l : k ≤ i). let g : k < i = ⊎_elim (λ (x : k < i). x) (λ (x : i ≤ k). absurd (d (omega arith))) (cases_lt k i) in
     rw (le-ltb i k l) (rw (lt-ltb k i g) refl)) (cases_lt i k)
 
--- each number but k is one of those that leave k out
-pub unbump : (k n i : ℕ) → i < suc n → (i ≡ k → ⊥) → k < suc n → (j : ℕ) × (j < n) × (bump k j ≡ i)
-unbump k n i l d m = ⊎_elim
-    (λ (h : i < k). (i, omega arith, bump-below k i h))
-    (λ (h : k ≤ i). let q : k < i = ⊎_elim (λ (x : k < i). x) (λ (x : i ≤ k). absurd (d (omega arith))) (cases_lt k i) in
-    (pred i, omega arith, bump-above k (pred i) (omega arith) ∙ omega arith))
-    (cases_lt i k)
-
 -- v below n, and then w
 abbrev pub join : {X : Type 0} → ℕ → (ℕ → X) → (ℕ → X) → ℕ → X
 join n v w i = cond (ltb i n) (v i) (w (i - n))
@@ -75,8 +64,8 @@ chosen-fits n Q z h i (inl l) g = (h i l).1
 chosen-fits n Q z h i (inr l) g = absurd (omega arith)
 
 -- one choice for each number below n
-pub choose : {S : Type 0} (n : ℕ) (Q : ℕ → S → Type 0) (z : S) → ((i : ℕ) → i < n → (s : S) × Q i s) → (s : ℕ → S) × ((i : ℕ) → i < n → Q i (s i))
-choose n Q z h = (λ i. chosen n Q z h i (cases_lt i n), λ i l. chosen-fits n Q z h i (cases_lt i n) l)
+pub choose_each : {S : Type 0} (n : ℕ) (Q : ℕ → S → Type 0) (z : S) → ((i : ℕ) → i < n → (s : S) × Q i s) → (s : ℕ → S) × ((i : ℕ) → i < n → Q i (s i))
+choose_each n Q z h = (λ i. chosen n Q z h i (cases_lt i n), λ i l. chosen-fits n Q z h i (cases_lt i n) l)
 
 -- a claim for each number below n + 1, from those below n and n
 pub below_suc : (n : ℕ) (P : ℕ → Type 0) → ((i : ℕ) → i < n → P i) → P n → (i : ℕ) → i < suc n → P i

@@ -3,8 +3,8 @@
 use Rattle.std.specs.Prelude.{◌≡◌, ℕ, zero, suc, ◌+◌, ◌<◌, cond, ltb, true, false, Bool}
 use Rattle.std.proofs.Common.{refl, sym, ◌∙◌, ap, ap₂, subst, arith, ⊎_elim}
 use Rattle.theory_rings.specs.Ring.{FieldOn}
-use Rattle.theory_rings.proofs.RingLaws.{add-zero, add-neg}
-use Rattle.theory_rings.proofs.Sums.{sum_eq_zero}
+use Rattle.theory_rings.proofs.Rings.RingLaws.{add-zero, add-neg}
+use Rattle.theory_rings.proofs.Sums.Sums.{sum_eq_zero}
 use Rattle.theory_spaces.specs.Module.{ModuleOn}
 use Rattle.theory_spaces.specs.Linear.{comb, InSpan, Independent, Coords, IsSubmodule, BasisOf, IsLinear}
 use Rattle.theory_spaces.specs.Subspaces.{RankNullity}

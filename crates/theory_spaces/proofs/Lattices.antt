@@ -1,15 +1,17 @@
 -- Lattices over a valuation ring: finitely many vectors span with integral weights what some independent ones span.
 use Rattle.std.specs.Prelude.{◌≡◌, ℕ, zero, suc, ◌<◌, ◌≤◌, IsTrue, ◌⊎◌}
 use Rattle.std.proofs.Common.{sym, ◌∙◌, ap, ap₂, subst, arith, inl, inr, ⊎_elim}
-use Rattle.std.proofs.lemmas.Bool.{cases_lt}
+use Rattle.std.proofs.lemmas.Bool.{cases_eq, cases_lt}
 use Rattle.theory_rings.specs.Ring.{FieldOn}
-use Rattle.theory_rings.proofs.RingLaws.{add-zero, add-neg, mul-zero, zero-mul, neg-mul}
-use Rattle.theory_rings.proofs.Sums.{sum_eq_zero, bump, bump-lt}
-use Rattle.theory_rings.proofs.ZeroTests.{eq_zero_or}
+use Rattle.theory_rings.proofs.Rings.RingLaws.{add-zero, add-neg, mul-zero, zero-mul, neg-mul, eq_zero_of_mul-unit}
+use Rattle.theory_rings.proofs.Rings.Fields.{mul-inv, inv_mul_cancel_left, inv_mul_cancel_right}
+use Rattle.theory_rings.proofs.Sums.Bump.{unbump, bump-unbump, unbump-lt, bump, bump-lt}
+use Rattle.theory_rings.proofs.Sums.Sums.{sum_eq_zero}
+use Rattle.theory_rings.proofs.Rings.ZeroTests.{eq_zero_or}
 use Rattle.theory_spaces.specs.Module.{ModuleOn}
 use Rattle.theory_spaces.specs.Linear.{comb, InSpan, Coords}
 use Rattle.theory_spaces.specs.Valuation.{ValuationOn, Integer, integers, restrict, LatticeBasis}
-use Rattle.theory_spaces.proofs.Families.{push, push-below, push-at, unbump, eq_or_not, below_suc}
+use Rattle.theory_spaces.proofs.Families.{push, push-below, push-at, below_suc}
 use Rattle.theory_spaces.proofs.Modules.{zero-scale, comb-push, InSpan-add, InSpan-scale, InSpan-push, InSpan-push_at, InSpan_trans, InSpan-member}
 use Rattle.theory_spaces.proofs.Spaces.{coord-comb}
 
@@ -28,10 +30,10 @@ module _ {K : Type 0} (F : FieldOn K) (W : ValuationOn F) where
   inv-inv_mul a b na nb =
       let x = F.◌⊗◌ a (F.inv b) in
       let y = F.◌⊗◌ b (F.inv a) in
-      let xb : F.◌⊗◌ x b ≡ a = F.mul_assoc a (F.inv b) b ∙ ap (λ z. F.◌⊗◌ a z) (F.inv-mul b nb) ∙ F.mul-one a in
+      let xb : F.◌⊗◌ x b ≡ a = inv_mul_cancel_right F a b nb in
       let nx : x ≡ F.zero → ⊥ = λ e. na (sym xb ∙ ap (λ z. F.◌⊗◌ z b) e ∙ zero-mul F.ring b) in
-      let xy : F.◌⊗◌ x y ≡ F.one = sym (F.mul_assoc x b (F.inv a)) ∙ ap (λ z. F.◌⊗◌ z (F.inv a)) xb ∙ F.mul_comm a (F.inv a) ∙ F.inv-mul a na in
-      sym (F.mul-one (F.inv x)) ∙ ap (λ z. F.◌⊗◌ (F.inv x) z) (sym xy) ∙ sym (F.mul_assoc (F.inv x) x y) ∙ ap (λ z. F.◌⊗◌ z y) (F.inv-mul x nx) ∙ F.one-mul y
+      let xy : F.◌⊗◌ x y ≡ F.one = sym (F.mul_assoc x b (F.inv a)) ∙ ap (λ z. F.◌⊗◌ z (F.inv a)) xb ∙ mul-inv F a na in
+      sym (F.mul-one (F.inv x)) ∙ ap (λ z. F.◌⊗◌ (F.inv x) z) (sym xy) ∙ inv_mul_cancel_left F x y nx
 
   pub least : (n : ℕ) (f : ℕ → K) → Divides n f ⊎ ((i : ℕ) → i < n → f i ≡ F.zero)
   least zero f = inr (λ i l. absurd (omega arith))
@@ -47,7 +49,7 @@ module _ {K : Type 0} (F : FieldOn K) (W : ValuationOn F) where
         nonzero = d;
         divides = λ i l. ⊎_elim (λ (g : i < n). move F.zero (F.◌⊗◌ (f i) (F.inv (f n))) (sym (ap (λ x. F.◌⊗◌ x (F.inv (f n))) (z i g) ∙ zero-mul F.ring (F.inv (f n)))) W.zero_in)
             (λ (g : n ≤ i). let q : i ≡ n = omega arith in
-            move F.one (F.◌⊗◌ (f i) (F.inv (f n))) (sym (ap (λ x. F.◌⊗◌ x (F.inv (f n))) (ap f q) ∙ F.mul_comm (f n) (F.inv (f n)) ∙ F.inv-mul (f n) d)) W.one_in) (cases_lt i n);
+            move F.one (F.◌⊗◌ (f i) (F.inv (f n))) (sym (ap (λ x. F.◌⊗◌ x (F.inv (f n))) (ap f q) ∙ mul-inv F (f n) d)) W.one_in) (cases_lt i n);
       }
 
       keep : (p : Divides n f) → IsTrue (W.integral (F.◌⊗◌ (f n) (F.inv (f p.place)))) → Divides (suc n) f
@@ -68,10 +70,10 @@ module _ {K : Type 0} (F : FieldOn K) (W : ValuationOn F) where
             (λ (g : i < n).
             move (F.◌⊗◌ (F.◌⊗◌ (f i) (F.inv (f p.place))) (F.◌⊗◌ (f p.place) (F.inv (f n)))) (F.◌⊗◌ (f i) (F.inv (f n)))
             (F.mul_assoc (f i) (F.inv (f p.place)) (F.◌⊗◌ (f p.place) (F.inv (f n)))
-            ∙ ap (λ x. F.◌⊗◌ (f i) x) (sym (F.mul_assoc (F.inv (f p.place)) (f p.place) (F.inv (f n))) ∙ ap (λ x. F.◌⊗◌ x (F.inv (f n))) (F.inv-mul (f p.place) p.nonzero) ∙ F.one-mul (F.inv (f n))))
+            ∙ ap (λ x. F.◌⊗◌ (f i) x) (inv_mul_cancel_left F (f p.place) (F.inv (f n)) p.nonzero))
             (W.mul_in (F.◌⊗◌ (f i) (F.inv (f p.place))) (F.◌⊗◌ (f p.place) (F.inv (f n))) (p.divides i g) h))
             (λ (g : n ≤ i). let q : i ≡ n = omega arith in
-            move F.one (F.◌⊗◌ (f i) (F.inv (f n))) (sym (ap (λ x. F.◌⊗◌ x (F.inv (f n))) (ap f q) ∙ F.mul_comm (f n) (F.inv (f n)) ∙ F.inv-mul (f n) d)) W.one_in) (cases_lt i n);
+            move F.one (F.◌⊗◌ (f i) (F.inv (f n))) (sym (ap (λ x. F.◌⊗◌ x (F.inv (f n))) (ap f q) ∙ mul-inv F (f n) d)) W.one_in) (cases_lt i n);
       }
 
       with_pivot : Divides n f → Divides (suc n) f ⊎ ((i : ℕ) → i < suc n → f i ≡ F.zero)
@@ -123,7 +125,7 @@ module _ {K V : Type 0} (F : FieldOn K) (W : ValuationOn F) (M : ModuleOn F.ring
     reduced-zero i (inl l) g =
         let a = C.coord (v (bump q i)) k in
         let b = C.coord (v q) k in
-        ap (λ z. F.◌⊕◌ a z) (neg-mul F.ring (F.◌⊗◌ a (F.inv b)) b ∙ ap F.neg (F.mul_assoc a (F.inv b) b ∙ ap (λ z. F.◌⊗◌ a z) (F.inv-mul b p.nonzero) ∙ F.mul-one a))
+        ap (λ z. F.◌⊕◌ a z) (neg-mul F.ring (F.◌⊗◌ a (F.inv b)) b ∙ ap F.neg (inv_mul_cancel_right F a b p.nonzero))
         ∙ add-neg F.additive a
     reduced-zero i (inr l) g = absurd (omega arith)
 
@@ -168,16 +170,15 @@ module _ {K V : Type 0} (F : FieldOn K) (W : ValuationOn F) (M : ModuleOn F.ring
                 sym (C.coord-add (comb M r c B.vec) (c r • v q) k ∙ ap₂ F.◌⊕◌ flat (C.coord-scale (c r) (v q) k) ∙ F.zero-add (F.◌⊗◌ (c r) (C.coord (v q) k)))
                 ∙ ap (λ y. C.coord y k) e1 ∙ C.coord-zero k in
                 let e3 : c r ≡ F.zero =
-                sym (F.mul_assoc (c r) (C.coord (v q) k) (F.inv (C.coord (v q) k)) ∙ ap (λ z. F.◌⊗◌ (c r) z) (F.mul_comm (C.coord (v q) k) (F.inv (C.coord (v q) k)) ∙ F.inv-mul (C.coord (v q) k) p.nonzero) ∙ F.mul-one (c r))
-                ∙ ap (λ z. F.◌⊗◌ z (F.inv (C.coord (v q) k))) e2 ∙ zero-mul F.ring (F.inv (C.coord (v q) k)) in
+                eq_zero_of_mul-unit F.ring (c r) (C.coord (v q) k) (F.inv (C.coord (v q) k)) (mul-inv F (C.coord (v q) k) p.nonzero) e2 in
                 let e4 : comb M r c B.vec ≡ M.zero =
                 sym (add-zero monoid (comb M r c B.vec)) ∙ ap (λ y. comb M r c B.vec ⊕ y) (sym (ap (λ a. a • v q) e3 ∙ zero-scale M (v q))) ∙ e1 in
                 below_suc r (λ i. c i ≡ F.zero) (B.independent.only_zero c e4) e3 i l;
           };
           spans = λ i l. ⊎_elim
               (λ (e : q ≡ i). let P : ℕ → Type 0 = λ j. InSpan L (suc r) u (v j) in subst P e at_end)
-              (λ (d : q ≡ i → ⊥). let w = unbump q n i l (λ x. d (sym x)) p.within in let P : ℕ → Type 0 = λ j. InSpan L (suc r) u (v j) in subst P w.2 (others w.0 w.1))
-              (eq_or_not q i);
+              (λ (d : q ≡ i → ⊥). let P : ℕ → Type 0 = λ j. InSpan L (suc r) u (v j) in subst P (bump-unbump q i (λ x. d (sym x))) (others (unbump q i) (unbump-lt n q i p.within l (λ x. d (sym x)))))
+              (cases_eq q i);
           within = λ j l. ⊎_elim
               (λ (g : j < r). let P : V → Type 0 = λ z. InSpan L (suc n) v z in
               subst P (sym (push-below r (v q) B.vec j g)) (InSpan_trans L n (suc n) reduced v (B.vec j) from_v (B.within j g)))

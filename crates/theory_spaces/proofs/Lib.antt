@@ -14,3 +14,13 @@ pub mod Lattices
 pub mod Corners
 pub mod Kernels
 pub mod Subspaces
+pub mod IndependentVectors
+pub mod Forms
+pub mod TraceForms
+pub mod BasisChange
+pub mod PairIndex
+pub mod Ideals
+pub mod MatrixAlgebra
+pub mod Isomorphisms
+pub mod MinimalIdempotents
+pub mod LeftMatrices

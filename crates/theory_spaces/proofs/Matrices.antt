@@ -1,15 +1,14 @@
 -- Products of matrices and their traces, and the ring of the n by n matrices.
 use Rattle.std.specs.Prelude.{◌≡◌, ℕ, ◌<◌, ◌≤◌, Bool, true, false, cond, eqb, ltb, ◌&&◌}
 use Rattle.std.proofs.Common.{refl, sym, ◌∙◌, ap, ap₂, inl, inr, ⊎_elim}
-use Rattle.std.proofs.lemmas.Bool.{cases_lt, eq-eqb, eqb-true, lt-ltb, le-ltb}
+use Rattle.std.proofs.lemmas.Bool.{cases_eq, cases_lt, eq-eqb, eqb-true, lt-ltb, le-ltb}
 use Rattle.std.proofs.Math.Path.{fun_ext}
 use mathlib.Core.HLevel.{Σ_prop_path, Π_prop}
 use Rattle.theory_rings.specs.Ring.{AddCommGroupOn, RingOn, CommRingOn}
 use Rattle.theory_rings.specs.Sum.{sum}
-use Rattle.theory_rings.proofs.RingLaws.{mul-zero, zero-mul, neg_zero}
-use Rattle.theory_rings.proofs.Sums.{sum_congr, sum_eq_zero, sum-add, sum_comm, sum_eq_single, mul-sum, sum-mul}
+use Rattle.theory_rings.proofs.Rings.RingLaws.{mul-zero, zero-mul, neg_zero}
+use Rattle.theory_rings.proofs.Sums.Sums.{sum_congr, sum_eq_zero, sum-add, sum_comm, sum_eq_single, mul-sum, sum-mul}
 use Rattle.theory_spaces.specs.Matrix.{Matrix, mat_mul, delta, mat_trace, Within, Mat}
-use Rattle.theory_spaces.proofs.Families.{eq_or_not}
 
 module _ {K : Type 0} (R : RingOn K) where
   infixl 65 ◌⊕◌
@@ -48,7 +47,7 @@ module _ {K : Type 0} (R : RingOn K) where
       go false e = refl
 
   pub delta_comm : (i j : ℕ) → delta R i j ≡ delta R j i
-  delta_comm i j = ⊎_elim (λ (e : i ≡ j). ap₂ (delta R) e (sym e)) (λ (d : i ≡ j → ⊥). delta-other i j d ∙ sym (delta-other j i (λ e. d (sym e)))) (eq_or_not i j)
+  delta_comm i j = ⊎_elim (λ (e : i ≡ j). ap₂ (delta R) e (sym e)) (λ (d : i ≡ j → ⊥). delta-other i j d ∙ sym (delta-other j i (λ e. d (sym e)))) (cases_eq i j)
 
   -- the unit matrix takes one term of a sum
   pub sum-mul_delta : (n : ℕ) (c : ℕ → K) (j : ℕ) → j < n → sum monoid n (λ i. c i ⊗ delta R i j) ≡ c j

@@ -3,12 +3,12 @@ use Rattle.std.specs.Prelude.{◌≡◌, ℕ, zero, suc, ◌+◌, ◌-◌, ◌<�
 use Rattle.std.proofs.Common.{refl, sym, ◌∙◌, ap, ap₂, subst, arith}
 use Rattle.theory_rings.specs.Ring.{RingOn}
 use Rattle.theory_rings.specs.Sum.{sum}
-use Rattle.theory_rings.proofs.RingLaws.{add-zero, add-neg, add_cancel_left, neg-mul}
-use Rattle.theory_rings.proofs.Sums.{sum_congr, sum_eq_zero, sum-add, map-sum, sum_comm, sum-split, sum_eq_single}
-use Rattle.theory_spaces.specs.Module.{ModuleOn}
+use Rattle.theory_rings.proofs.Rings.RingLaws.{add-zero, add-neg, add_cancel_left, neg-mul, additive-zero, additive-neg}
+use Rattle.theory_rings.proofs.Sums.Sums.{sum_congr, sum_eq_zero, sum-add, map-sum, sum_comm, sum-split, sum_eq_single}
+use Rattle.theory_spaces.specs.Module.{ModuleOn, AlgebraOn, module_of}
 pub use Rattle.theory_spaces.specs.ModuleLaws.{scale-zero, zero-scale, scale-neg, neg-scale, neg_one-scale}
 use Rattle.theory_spaces.specs.Linear.{comb, InSpan, Independent, IsSubmodule, IsLinear}
-use Rattle.theory_spaces.proofs.Families.{push, push-below, push-above, push-at, join, join-below, join-above, each_join, put_at, put_at-here, put_at-else, choose}
+use Rattle.theory_spaces.proofs.Families.{push, push-below, push-above, push-at, join, join-below, join-above, each_join, put_at, put_at-here, put_at-else, choose_each}
 
 module _ {K V : Type 0} {R : RingOn K} (M : ModuleOn R V) where
   infixl 65 ◌⊕◌
@@ -94,7 +94,7 @@ module _ {K V : Type 0} {R : RingOn K} (M : ModuleOn R V) where
 
   -- the weights of a family in a span, as the rows of a matrix
   pub rows_of : (n m : ℕ) (v w : ℕ → V) → ((i : ℕ) → i < n → InSpan M m w (v i)) → (a : ℕ → ℕ → K) × ((i : ℕ) → i < n → v i ≡ comb M m (a i) w)
-  rows_of n m v w h = choose n (λ i c. v i ≡ comb M m c w) (λ _. R.zero) (λ i l. ((h i l).weights, (h i l).combines))
+  rows_of n m v w h = choose_each n (λ i c. v i ≡ comb M m c w) (λ _. R.zero) (λ i l. ((h i l).weights, (h i l).combines))
 
   -- a combination of members of a span is a member
   pub InSpan-comb : (n m : ℕ) (c : ℕ → K) (v w : ℕ → V) → ((i : ℕ) → i < n → InSpan M m w (v i)) → InSpan M m w (comb M n c v)
@@ -171,10 +171,10 @@ module _ {K V : Type 0} {R : RingOn K} (M : ModuleOn R V) where
 -- linear maps
 module _ {K V W : Type 0} {R : RingOn K} (M : ModuleOn R V) (N : ModuleOn R W) (f : V → W) (h : IsLinear M N f) where
   pub map-zero : f M.zero ≡ N.zero
-  map-zero = ap f (sym (zero-scale M M.zero)) ∙ h.map-scale R.zero M.zero ∙ zero-scale N (f M.zero)
+  map-zero = additive-zero M.additive N.additive f h.map-add
 
   pub map-neg : (x : V) → f (M.neg x) ≡ N.neg (f x)
-  map-neg x = ap f (sym (neg_one-scale M x)) ∙ h.map-scale (R.neg R.one) x ∙ neg_one-scale N (f x)
+  map-neg x = additive-neg M.additive N.additive f h.map-add x
 
   pub map-comb : (n : ℕ) (c : ℕ → K) (v : ℕ → V) → f (comb M n c v) ≡ comb N n c (λ i. f (v i))
   map-comb n c v = map-sum M.monoid N.monoid f map-zero h.map-add n (λ i. M.◌•◌ (c i) (v i))
@@ -196,3 +196,14 @@ linear_comp L M N f g hf hg = record {
 
 pub linear_id : {K V : Type 0} {R : RingOn K} (M : ModuleOn R V) → IsLinear M M (λ x. x)
 linear_id M = record { map-add = λ x y. refl; map-scale = λ a x. refl }
+
+-- the product with a fixed factor is linear
+module _ {K V : Type 0} {R : RingOn K} (A : AlgebraOn R V) where
+  infixl 70 ◌⊗◌
+  open A use {◌⊗◌}
+
+  pub left_linear : (a : V) → IsLinear (module_of A) (module_of A) (λ x. a ⊗ x)
+  left_linear a = record { map-add = A.mul-add a; map-scale = λ b x. A.scale-right b a x }
+
+  pub right_linear : (a : V) → IsLinear (module_of A) (module_of A) (λ x. x ⊗ a)
+  right_linear a = record { map-add = λ x y. A.add-mul x y a; map-scale = λ b x. A.scale-left b x a }

@@ -6,9 +6,9 @@ use Rattle.std.proofs.Math.Bool.{Bool-set}
 use mathlib.Core.HLevel.{Π_prop}
 use mathlib.Core.Quot.{ind, lift}
 use Rattle.theory_rings.specs.Ring.{AddCommGroupOn, RingOn, FieldOn}
-use Rattle.theory_rings.proofs.RingLaws.{add-zero, add-neg, neg_neg, neg_add, neg_zero, neg-mul, mul-zero}
-use Rattle.theory_rings.proofs.Sums.{sum-split}
-use Rattle.theory_rings.proofs.ZeroTests.{sub_eq_zero, group_set}
+use Rattle.theory_rings.proofs.Rings.RingLaws.{add-zero, add-neg, neg_neg, neg_add, neg_zero, neg-mul, mul-zero}
+use Rattle.theory_rings.proofs.Sums.Sums.{sum-split}
+use Rattle.theory_rings.proofs.Rings.ZeroTests.{eq_of_sub_eq_zero, group_set}
 use Rattle.theory_spaces.specs.Module.{ModuleOn}
 use Rattle.theory_spaces.specs.Linear.{comb, Independent, Basis, BasisOf, Extension, IsLinear}
 use Rattle.theory_spaces.specs.Quotient.{SubgroupOn, SubmoduleOn, Near, Classes, cls, to_test, near-cls, subgroup_of, classes_set, ModuleClasses, module_cls, quotient_module}
@@ -88,7 +88,7 @@ module _ {K V : Type 0} (F : FieldOn K) (M : ModuleOn F.ring V) (S : SubmoduleOn
   late-near : (b c : V) → Near M.additive (subgroup_of M S) b c → (j : ℕ) → late b j ≡ late c j
   late-near b c h j = ⊎_elim
       (λ (l : j < r). late-at b j l
-      ∙ sub_eq_zero F.additive (D.coord b (k + j)) (D.coord c (k + j))
+      ∙ eq_of_sub_eq_zero F.additive (D.coord b (k + j)) (D.coord c (k + j))
       (ap (F.◌⊕◌ (D.coord b (k + j))) (sym (coord-neg c (k + j))) ∙ sym (D.coord-add b (neg c) (k + j)) ∙ coord-member (b ⊕ neg c) h j l)
       ∙ sym (late-at c j l))
       (λ (l : r ≤ j). late-past b j l ∙ sym (late-past c j l)) (cases_lt j r)

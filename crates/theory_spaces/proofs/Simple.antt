@@ -4,19 +4,20 @@ use Rattle.std.proofs.Common.{refl, sym, ◌∙◌, ap, ap₂, subst, arith, inl
 use Rattle.std.proofs.lemmas.Bool.{cases_lt}
 use Rattle.theory_rings.specs.Ring.{FieldOn}
 use Rattle.theory_rings.specs.Sum.{sum}
-use Rattle.theory_rings.proofs.RingLaws.{add-zero, add-neg, mul-zero, zero-mul, neg-mul, neg_unique}
-use Rattle.theory_rings.proofs.Sums.{sum_congr, sum_eq_zero, mul-sum}
-use Rattle.theory_rings.proofs.Solver.{◌⊠◌, minus, ring2}
-use Rattle.theory_rings.proofs.ZeroTests.{eq_zero_or, sub_eq_zero}
+use Rattle.theory_rings.proofs.Rings.RingLaws.{add-zero, add-neg, mul-zero, zero-mul, neg_unique}
+use Rattle.theory_rings.proofs.Sums.Sums.{sum_congr, sum_eq_zero, mul-sum}
+use Rattle.theory_rings.proofs.Rings.Solver.{◌⊞◌, ◌⊠◌, minus, ring2, words3}
+use Rattle.theory_rings.proofs.Rings.Fields.{inv_mul_cancel_left}
+use Rattle.theory_rings.proofs.Rings.ZeroTests.{eq_zero_or, eq_of_sub_eq_zero}
 use Rattle.theory_spaces.specs.Module.{ModuleOn, AlgebraOn, module_of}
 use Rattle.theory_spaces.specs.Linear.{comb, InSpan, Independent, Basis}
 use Rattle.theory_spaces.specs.Algebra.{Central, CentralSimple, Nondegenerate, trace}
 use Rattle.theory_spaces.proofs.Families.{push, push-below, push-at}
-use Rattle.theory_spaces.proofs.Modules.{zero-scale, InSpan-add, InSpan-neg, InSpan-scale, InSpan-comb, InSpan_trans, InSpan-member, map-comb}
+use Rattle.theory_spaces.proofs.Modules.{left_linear, right_linear, zero-scale, InSpan-add, InSpan-neg, InSpan-scale, InSpan-comb, InSpan_trans, InSpan-member, map-comb}
 use Rattle.theory_spaces.proofs.Decide.{Free}
 use Rattle.theory_spaces.proofs.Dimension.{dependent}
 use Rattle.theory_spaces.proofs.Spaces.{coords_of, span_basis}
-use Rattle.theory_spaces.proofs.Traces.{left_linear, right_linear, trace-add, trace-zero, trace-comb, trace-nilpotent}
+use Rattle.theory_spaces.proofs.Traces.{trace-add, trace-neg, trace-comb, trace-nilpotent}
 
 module _ {K : Type 0} (F : FieldOn K) where
   infixl 65 ◌⊕◌
@@ -50,7 +51,7 @@ module _ {K : Type 0} (F : FieldOn K) where
             ∙ sym (mul-sum ring k (neg d) (λ i. c i ⊗ a i j))
             ∙ (let e : c k ⊗ b j ≡ neg s = neg_unique additive s (c k ⊗ b j) (parts j l) in
             ring2 F.cring (λ x y. (minus x ⊠ y, x ⊠ minus y)) refl d s ∙ ap (λ y. d ⊗ y) (sym e)
-            ∙ sym (F.mul_assoc d (c k) (b j)) ∙ ap (λ x. x ⊗ b j) (F.inv-mul (c k) nonzero) ∙ F.one-mul (b j));
+            ∙ inv_mul_cancel_left F (c k) (b j) nonzero);
       }
 
 module _ {K V : Type 0} (F : FieldOn K) (A : AlgebraOn F.ring V) (m : ℕ) (B : Basis (module_of A) m) where
@@ -65,14 +66,13 @@ module _ {K V : Type 0} (F : FieldOn K) (A : AlgebraOn F.ring V) (m : ℕ) (B : 
   t = trace A m B
 
   t-neg : (x : V) → t (neg x) ≡ F.neg (t x)
-  t-neg x = neg_unique F.additive (t x) (t (neg x))
-      (sym (trace-add F.cring A m B x (neg x)) ∙ ap t (add-neg A.additive x) ∙ trace-zero F.cring A m B)
+  t-neg = trace-neg F.cring A m B
 
   t-comb : (n : ℕ) (c : ℕ → K) (v : ℕ → V) → t (comb M n c v) ≡ sum F.monoid n (λ i. F.◌⊗◌ (c i) (t (v i)))
   t-comb = trace-comb F.cring A m B
 
   square_zero : (z : V) → z ⊗ z ≡ A.zero → t z ≡ F.zero
-  square_zero z e = trace-nilpotent F A m B z (record { exponent = 2; vanishes = ap (λ x. x ⊗ z) (A.one-mul z) ∙ e })
+  square_zero z e = trace-nilpotent F A m B z (record { exponent = 2; vanishes = ap (λ x. z ⊗ x) (A.mul-one z) ∙ e })
 
   -- an ideal with independent vectors that span it
   module _ (non : Nondegenerate A m B) (k : ℕ) (u : ℕ → V) (ind : Independent M k u)
@@ -83,7 +83,7 @@ module _ {K V : Type 0} (F : FieldOn K) (A : AlgebraOn F.ring V) (m : ℕ) (B : 
     -- what is orthogonal to the u is orthogonal to the ideal
     orthogonal : (y : V) → ((j : ℕ) → j < k → t (y ⊗ u j) ≡ F.zero) → (x : V) → In x → t (y ⊗ x) ≡ F.zero
     orthogonal y h x s =
-        ap (λ z. t (y ⊗ z)) s.combines ∙ ap t (map-comb M M (λ x. y ⊗ x) (left_linear F.cring A m B y) k s.weights u)
+        ap (λ z. t (y ⊗ z)) s.combines ∙ ap t (map-comb M M (λ x. y ⊗ x) (left_linear A y) k s.weights u)
         ∙ t-comb k s.weights (λ j. y ⊗ u j)
         ∙ sum_eq_zero F.monoid k (λ j. F.◌⊗◌ (s.weights j) (t (y ⊗ u j))) (λ j l. ap (λ a. F.◌⊗◌ (s.weights j) a) (h j l) ∙ mul-zero F.ring (s.weights j))
 
@@ -100,7 +100,7 @@ module _ {K V : Type 0} (F : FieldOn K) (A : AlgebraOn F.ring V) (m : ℕ) (B : 
       only_zero = λ c h. ind.only_zero c
           (meets_zero (comb M k c u) (record { weights = c; combines = refl })
           (orthogonal (comb M k c u) (λ j l.
-          ap t (map-comb M M (λ x. x ⊗ u j) (right_linear F.cring A m B (u j)) k c u) ∙ t-comb k c (λ i. u i ⊗ u j) ∙ h j l)));
+          ap t (map-comb M M (λ x. x ⊗ u j) (right_linear A (u j)) k c u) ∙ t-comb k c (λ i. u i ⊗ u j) ∙ h j l)));
     }
 
     abbrev solution : Solution F k (λ i j. t (u i ⊗ u j)) (λ j. t (u j))
@@ -114,19 +114,21 @@ module _ {K V : Type 0} (F : FieldOn K) (A : AlgebraOn F.ring V) (m : ℕ) (B : 
     e-in = record { weights = solution.weights; combines = refl }
 
     e-basis : (j : ℕ) → j < k → t (e ⊗ u j) ≡ t (u j)
-    e-basis j l = ap t (map-comb M M (λ x. x ⊗ u j) (right_linear F.cring A m B (u j)) k solution.weights u) ∙ t-comb k solution.weights (λ i. u i ⊗ u j) ∙ solution.solves j l
+    e-basis j l = ap t (map-comb M M (λ x. x ⊗ u j) (right_linear A (u j)) k solution.weights u) ∙ t-comb k solution.weights (λ i. u i ⊗ u j) ∙ solution.solves j l
 
     minus-mul : (x y z : V) → t ((x ⊕ neg y) ⊗ z) ≡ F.◌⊕◌ (t (x ⊗ z)) (F.neg (t (y ⊗ z)))
-    minus-mul x y z = ap t (A.add-mul x (neg y) z ∙ ap (λ w. x ⊗ z ⊕ w) (neg-mul A.ring y z)) ∙ trace-add F.cring A m B (x ⊗ z) (neg (y ⊗ z)) ∙ ap (λ a. F.◌⊕◌ (t (x ⊗ z)) a) (t-neg (y ⊗ z))
+    minus-mul x y z =
+        ap t (words3 A.ring (λ x y z. ((x ⊞ minus y) ⊠ z, x ⊠ z ⊞ minus (y ⊠ z))) refl x y z)
+        ∙ trace-add F.cring A m B (x ⊗ z) (neg (y ⊗ z)) ∙ ap (λ a. F.◌⊕◌ (t (x ⊗ z)) a) (t-neg (y ⊗ z))
 
     same_of_trace : (x y : V) → In x → In y → ((z : V) → In z → t (x ⊗ z) ≡ t (y ⊗ z)) → x ≡ y
-    same_of_trace x y ix iy h = sub_eq_zero A.additive x y (meets_zero (x ⊕ neg y)
+    same_of_trace x y ix iy h = eq_of_sub_eq_zero A.additive x y (meets_zero (x ⊕ neg y)
         (InSpan-add M k u x (neg y) ix (InSpan-neg M k u y iy))
         (λ z iz. minus-mul x y z ∙ ap (λ a. F.◌⊕◌ a (F.neg (t (y ⊗ z)))) (h z iz) ∙ add-neg F.additive (t (y ⊗ z))))
 
     e-trace : (x : V) → In x → t (e ⊗ x) ≡ t x
     e-trace x s =
-        ap (λ z. t (e ⊗ z)) s.combines ∙ ap t (map-comb M M (λ x. e ⊗ x) (left_linear F.cring A m B e) k s.weights u)
+        ap (λ z. t (e ⊗ z)) s.combines ∙ ap t (map-comb M M (λ x. e ⊗ x) (left_linear A e) k s.weights u)
         ∙ t-comb k s.weights (λ j. e ⊗ u j)
         ∙ sum_congr F.monoid k (λ j. F.◌⊗◌ (s.weights j) (t (e ⊗ u j))) (λ j. F.◌⊗◌ (s.weights j) (t (u j))) (λ j l. ap (λ a. F.◌⊗◌ (s.weights j) a) (e-basis j l))
         ∙ sym (t-comb k s.weights u) ∙ ap t (sym s.combines)
@@ -165,12 +167,12 @@ module _ {K V : Type 0} (F : FieldOn K) (A : AlgebraOn F.ring V) (m : ℕ) (B : 
         let on_left : (y : V) → InSpan M size w.vec y → (x : V) → InSpan M size w.vec (x ⊗ y) = λ y iy x.
         let h = back y iy in
         let P : V → Type 0 = λ z. InSpan M size w.vec (x ⊗ z) in subst P (sym h.combines)
-        (let Q : V → Type 0 = λ z. InSpan M size w.vec z in subst Q (sym (map-comb M M (λ y. x ⊗ y) (left_linear F.cring A m B x) n h.weights g))
+        (let Q : V → Type 0 = λ z. InSpan M size w.vec z in subst Q (sym (map-comb M M (λ y. x ⊗ y) (left_linear A x) n h.weights g))
         (InSpan-comb M n size h.weights (λ i. x ⊗ g i) w.vec (λ i l. up (x ⊗ g i) (ideal.left i l x)))) in
         let on_right : (y : V) → InSpan M size w.vec y → (x : V) → InSpan M size w.vec (y ⊗ x) = λ y iy x.
         let h = back y iy in
         let P : V → Type 0 = λ z. InSpan M size w.vec (z ⊗ x) in subst P (sym h.combines)
-        (let Q : V → Type 0 = λ z. InSpan M size w.vec z in subst Q (sym (map-comb M M (λ z. z ⊗ x) (right_linear F.cring A m B x) n h.weights g))
+        (let Q : V → Type 0 = λ z. InSpan M size w.vec z in subst Q (sym (map-comb M M (λ z. z ⊗ x) (right_linear A x) n h.weights g))
         (InSpan-comb M n size h.weights (λ i. g i ⊗ x) w.vec (λ i l. up (g i ⊗ x) (ideal.right i l x)))) in
         ⊎_elim
         (λ (z : (y : V) → InSpan M size w.vec y → y ≡ A.zero). inl (λ i l. z (g i) (up (g i) (InSpan-member M n i g l))))

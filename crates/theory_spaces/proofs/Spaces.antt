@@ -4,9 +4,10 @@ use Rattle.std.proofs.Common.{refl, sym, ◌∙◌, ap, ap₂, subst, arith, inl
 use Rattle.std.proofs.lemmas.Bool.{cases_lt}
 use Rattle.theory_rings.specs.Ring.{RingOn, FieldOn}
 use Rattle.theory_rings.specs.Sum.{sum}
-use Rattle.theory_rings.proofs.RingLaws.{add-zero, mul-zero}
-use Rattle.theory_rings.proofs.Sums.{sum_congr, map-sum, bump, bump-below}
-use Rattle.theory_rings.proofs.ZeroTests.{eq_zero_or}
+use Rattle.theory_rings.proofs.Rings.RingLaws.{add-zero, mul-zero}
+use Rattle.theory_rings.proofs.Sums.Bump.{bump, bump-below}
+use Rattle.theory_rings.proofs.Sums.Sums.{sum_congr, map-sum}
+use Rattle.theory_rings.proofs.Rings.ZeroTests.{eq_zero_or}
 use Rattle.theory_spaces.specs.Module.{ModuleOn}
 use Rattle.theory_spaces.specs.Linear.{comb, InSpan, Independent, Coords, Basis, BasisOf, Extension}
 use Rattle.theory_spaces.proofs.Families.{push, push-below, push-above, push-at, below_suc}

@@ -3,8 +3,8 @@ use Rattle.std.specs.Prelude.{◌≡◌, ℕ, ◌+◌, ◌-◌, ◌<◌, ◌≤�
 use Rattle.std.proofs.Common.{refl, sym, ◌∙◌, ap, ap₂, subst, arith, ⊎_elim}
 use Rattle.std.proofs.lemmas.Bool.{cases_lt}
 use Rattle.theory_rings.specs.Ring.{RingOn, FieldOn}
-use Rattle.theory_rings.proofs.RingLaws.{add-zero, add-neg, add_add_add_comm, neg_unique, neg_neg}
-use Rattle.theory_rings.proofs.Sums.{sum_eq_zero}
+use Rattle.theory_rings.proofs.Rings.RingLaws.{add-zero, add-neg, add_add_add_comm, neg_unique, neg_neg}
+use Rattle.theory_rings.proofs.Sums.Sums.{sum_eq_zero}
 use Rattle.theory_spaces.specs.Module.{ModuleOn}
 use Rattle.theory_spaces.specs.Linear.{comb, Coords, IsSubmodule, Basis, BasisOf, IsLinear}
 use Rattle.theory_spaces.specs.Subspaces.{Whole, Kernel, Image, Sum, Meet, SumAndMeet, pairs}

@@ -3,8 +3,8 @@ use Rattle.std.specs.Prelude.{◌≡◌, ℕ, zero, suc, ◌<◌}
 use Rattle.std.proofs.Common.{sym, ◌∙◌, ap, ap₂}
 use Rattle.theory_rings.specs.Ring.{RingOn, CommRingOn}
 use Rattle.theory_rings.specs.Sum.{sum}
-use Rattle.theory_rings.proofs.RingLaws.{mul_left_comm}
-use Rattle.theory_rings.proofs.Sums.{sum_congr, sum-add, mul-sum}
+use Rattle.theory_rings.proofs.Rings.Semirings.{semiring, mul_left_comm}
+use Rattle.theory_rings.proofs.Sums.Sums.{sum_congr, sum-add, mul-sum}
 use Rattle.theory_spaces.specs.Module.{ModuleOn, AlgebraOn}
 use Rattle.theory_spaces.specs.Linear.{comb, InSpan, Independent, Basis, IsLinear}
 use Rattle.theory_spaces.specs.Matrix.{delta}
@@ -122,7 +122,7 @@ module _ {K V : Type 0} (C : CommRingOn K) (M : ModuleOn C.ring V) (n : ℕ) (S 
   unfolding term
   table_mul-scale c x y = S.ext (table_mul x (c • y)) (c • table_mul x y) (λ k l. table_mul-term x (c • y) k l
       ∙ sum2_congr C.ring n (term x (c • y) k) (λ i j. c ⊗ term x y k i j) (λ i j a b.
-      ap (λ d. S.coord x i ⊗ d ⊗ g i j k) (S.coord-scale c y j b) ∙ ap (λ d. d ⊗ g i j k) (mul_left_comm C (S.coord x i) c (S.coord y j)) ∙ C.mul_assoc c (S.coord x i ⊗ S.coord y j) (g i j k))
+      ap (λ d. S.coord x i ⊗ d ⊗ g i j k) (S.coord-scale c y j b) ∙ ap (λ d. d ⊗ g i j k) (mul_left_comm (semiring C) (S.coord x i) c (S.coord y j)) ∙ C.mul_assoc c (S.coord x i ⊗ S.coord y j) (g i j k))
       ∙ sym (mul-sum2 C.ring n c (term x y k))
       ∙ sym (S.coord-scale c (table_mul x y) k l ∙ ap (λ d. c ⊗ d) (table_mul-term x y k l)))
 

@@ -3,14 +3,16 @@ use Rattle.std.specs.Prelude.{◌≡◌, ℕ, zero, suc, ◌<◌}
 use Rattle.std.proofs.Common.{refl, sym, ◌∙◌, ap, arith}
 use Rattle.theory_rings.specs.Ring.{CommRingOn, FieldOn}
 use Rattle.theory_rings.specs.Sum.{sum}
-use Rattle.theory_rings.proofs.RingLaws.{zero-mul}
-use Rattle.theory_rings.proofs.Sums.{sum_congr, sum_eq_zero, sum-add, map-sum, mul-sum}
+use Rattle.theory_rings.specs.Power.{power}
+use Rattle.theory_rings.proofs.Rings.RingLaws.{zero-mul, additive-zero, additive-neg}
+use Rattle.theory_rings.proofs.Powers.Powers.{power_last}
+use Rattle.theory_rings.proofs.Sums.Sums.{sum_congr, sum_eq_zero, sum-add, map-sum, mul-sum}
 use Rattle.theory_spaces.specs.Module.{ModuleOn, AlgebraOn, module_of}
 use Rattle.theory_spaces.specs.Linear.{comb, Independent, Basis, IsLinear}
-use Rattle.theory_spaces.specs.Algebra.{map_trace, iterate, power, IsNilpotent, trace}
-use Rattle.theory_spaces.proofs.Modules.{scale-zero, comb_congr_right, comb-comb, comb_injective, map-comb, rows_of, independent_none}
+use Rattle.theory_spaces.specs.Algebra.{map_trace, iterate, IsNilpotent, trace}
+use Rattle.theory_spaces.proofs.Modules.{left_linear, scale-zero, comb_congr_right, comb-comb, comb_injective, map-comb, rows_of, independent_none}
 use Rattle.theory_spaces.proofs.Matrices.{mat_trace_comm}
-use Rattle.theory_spaces.proofs.Families.{choose}
+use Rattle.theory_spaces.proofs.Families.{choose_each}
 use Rattle.theory_spaces.proofs.Spaces.{coords_of, coord-comb, Grown, grow}
 
 module _ {K V : Type 0} (C : CommRingOn K) (M : ModuleOn C.ring V) (m : ℕ) (B : Basis M m) where
@@ -70,7 +72,7 @@ module _ {K V : Type 0} (F : FieldOn K) (M : ModuleOn F.ring V) (m : ℕ) (B : B
       swapped = mat_trace_comm F.cring n image.size C d
 
   source : (k : ℕ) (u : ℕ → V) (w : ℕ → ℕ → K) → Kept k u w → (d : ℕ → ℕ → K) × ((l : ℕ) → l < (image k u).size → (image k u).vec l ≡ comb M k (d l) u)
-  source k u w h = choose (image k u).size (λ l c. (image k u).vec l ≡ comb M k c u) (λ _. F.zero)
+  source k u w h = choose_each (image k u).size (λ l c. (image k u).vec l ≡ comb M k c u) (λ _. F.zero)
       (λ l q. let t = (image k u).taken l (omega arith) q in (w t.0, t.2 ∙ h.maps t.0 t.1))
 
   -- the diagonal of a nilpotent matrix sums to 0
@@ -114,12 +116,6 @@ module _ {K V : Type 0} (C : CommRingOn K) (A : AlgebraOn C.ring V) (m : ℕ) (B
   abbrev M : ModuleOn C.ring V
   M = module_of A
 
-  pub left_linear : (a : V) → IsLinear M M (λ x. a ⊗ x)
-  left_linear a = record { map-add = A.mul-add a; map-scale = λ b x. A.scale-right b a x }
-
-  pub right_linear : (a : V) → IsLinear M M (λ x. x ⊗ a)
-  right_linear a = record { map-add = λ x y. A.add-mul x y a; map-scale = λ b x. A.scale-left b x a }
-
   abbrev tr : V → K
   tr = trace A m B
 
@@ -127,7 +123,7 @@ module _ {K V : Type 0} (C : CommRingOn K) (A : AlgebraOn C.ring V) (m : ℕ) (B
   pub trace_comm : (a b : V) → tr (a ⊗ b) ≡ tr (b ⊗ a)
   trace_comm a b =
       sum_congr C.monoid m (λ j. B.coord (a ⊗ b ⊗ B.vec j) j) (λ j. B.coord (a ⊗ (b ⊗ B.vec j)) j) (λ j _. ap (λ y. B.coord y j) (A.mul_assoc a b (B.vec j)))
-      ∙ map_trace_comm C M m B (λ x. a ⊗ x) (λ x. b ⊗ x) (left_linear a) (left_linear b)
+      ∙ map_trace_comm C M m B (λ x. a ⊗ x) (λ x. b ⊗ x) (left_linear A a) (left_linear A b)
       ∙ sum_congr C.monoid m (λ j. B.coord (b ⊗ (a ⊗ B.vec j)) j) (λ j. B.coord (b ⊗ a ⊗ B.vec j) j) (λ j _. ap (λ y. B.coord y j) (sym (A.mul_assoc b a (B.vec j))))
 
   pub trace-add : (a b : V) → tr (a ⊕ b) ≡ C.◌⊕◌ (tr a) (tr b)
@@ -143,7 +139,10 @@ module _ {K V : Type 0} (C : CommRingOn K) (A : AlgebraOn C.ring V) (m : ℕ) (B
       ∙ sym (mul-sum C.ring m c (λ j. B.coord (a ⊗ B.vec j) j))
 
   pub trace-zero : tr A.zero ≡ C.zero
-  trace-zero = ap tr (sym (scale-zero M C.zero)) ∙ trace-scale C.zero A.zero ∙ zero-mul C.ring (tr A.zero)
+  trace-zero = additive-zero A.additive C.additive tr trace-add
+
+  pub trace-neg : (x : V) → tr (A.neg x) ≡ C.neg (tr x)
+  trace-neg = additive-neg A.additive C.additive tr trace-add
 
   pub trace-comb : (n : ℕ) (c : ℕ → K) (v : ℕ → V) → tr (comb M n c v) ≡ sum C.monoid n (λ i. C.◌⊗◌ (c i) (tr (v i)))
   trace-comb n c v = map-sum A.monoid C.monoid tr trace-zero trace-add n (λ i. c i • v i)
@@ -151,10 +150,10 @@ module _ {K V : Type 0} (C : CommRingOn K) (A : AlgebraOn C.ring V) (m : ℕ) (B
 
   iterate-power : (a x : V) (e : ℕ) → iterate (λ y. a ⊗ y) e x ≡ power A.ring a e ⊗ x
   iterate-power a x zero = sym (A.one-mul x)
-  iterate-power a x (suc e) = iterate-power a (a ⊗ x) e ∙ sym (A.mul_assoc (power A.ring a e) a x)
+  iterate-power a x (suc e) = iterate-power a (a ⊗ x) e ∙ sym (A.mul_assoc (power A.ring a e) a x) ∙ ap (λ y. y ⊗ x) (sym (power_last A.ring a e))
 
 -- a nilpotent element has trace 0
 pub trace-nilpotent : {K V : Type 0} (F : FieldOn K) (A : AlgebraOn F.ring V) (m : ℕ) (B : Basis (module_of A) m) (a : V)
     → IsNilpotent A.ring a → trace A m B a ≡ F.zero
-trace-nilpotent F A m B a h = map_trace-nilpotent F (module_of A) m B (λ x. A.◌⊗◌ a x) (left_linear F.cring A m B a) h.exponent
+trace-nilpotent F A m B a h = map_trace-nilpotent F (module_of A) m B (λ x. A.◌⊗◌ a x) (left_linear A a) h.exponent
     (λ x. iterate-power F.cring A m B a x h.exponent ∙ ap (λ t. A.◌⊗◌ t x) h.vanishes ∙ zero-mul A.ring x)

@@ -6,12 +6,14 @@ use Rattle.theory_rings.specs.Ring.{FieldOn}
 use Rattle.theory_rings.specs.Ops.{Ops, IsElem, FieldLaws}
 use Rattle.theory_rings.specs.Elements.{Elem, elements}
 use Rattle.theory_rings.specs.Sum.{sum, sum_of, table}
+use Rattle.theory_rings.proofs.Sums.Lists.{table_congr}
+use Rattle.theory_rings.proofs.Rings.Elements.{at-elem, sum_of-elements, sum_of_congr}
 use Rattle.theory_spaces.specs.Module.{ModuleOn, AlgebraOn, module_of}
 use Rattle.theory_spaces.specs.Linear.{Basis}
 use Rattle.theory_spaces.specs.Space.{SpaceOn, ProductOn, sum2}
 use Rattle.theory_spaces.specs.Tuples.{IsTuple, Tuple, tuple_add, tuple_scale, basis, constant, product, AssociativeTable, IsTableOne, IsTableAlgebra}
 use Rattle.theory_spaces.proofs.Tables.{unit, in_units, space_basis, table_mul, coord-unit_mul, table_on, associative_of_basis, one-mul_of_basis, mul-one_of_basis, central_of_basis, algebra_of}
-use Rattle.theory_spaces.proofs.Tuples.{IsTuple-is_tuple, is_tuple-IsTuple, IsTuple-table, IsTuple-ext, at-table, table_congr, at-elem, sum_of-elements, sum_of_congr, Tuple-path, tuples, tuple_space, tuples-zero, tuples-add, tuples-neg, tuples-scale, unit-basis}
+use Rattle.theory_spaces.proofs.Tuples.{IsTuple-is_tuple, is_tuple-IsTuple, IsTuple-table, IsTuple-ext, at-table, Tuple-path, tuples, tuple_space, tuples-zero, tuples-add, tuples-neg, tuples-scale, unit-basis}
 
 module _ {E : Type 0} (o : Ops E) (L : FieldLaws o) (n : ℕ) (cs : List E) (constants : All (IsElem o) cs) where
   abbrev K : FieldOn (Elem o)
@@ -39,7 +41,7 @@ module _ {E : Type 0} (o : Ops E) (L : FieldLaws o) (n : ℕ) (cs : List E) (con
   tuple_product-list a b =
       let term : ℕ → ℕ → ℕ → Elem o = λ k i j. K.◌⊗◌ (K.◌⊗◌ (S.coord a i) (S.coord b j)) (element_constant i j k) in
       table_congr n (λ k. (sum2 K.ring n (term k)).0) (λ k. sum_of o n (λ i. sum_of o n (λ j. (term k i j).0))) (λ k l.
-      sym (sum_of_congr o L n (λ i. sum_of o n (λ j. (term k i j).0)) (λ i. (sum K.monoid n (term k i)).0) (λ i g. sum_of-elements o L n (term k i))
+      sym (sum_of_congr o n (λ i. sum_of o n (λ j. (term k i j).0)) (λ i. (sum K.monoid n (term k i)).0) (λ i g. sum_of-elements o L n (term k i))
       ∙ sum_of-elements o L n (λ i. sum K.monoid n (term k i))))
 
   abbrev as_tuple : (a : List E) → IsTuple o n a → Tuple o n

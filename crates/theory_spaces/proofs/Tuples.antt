@@ -1,55 +1,34 @@
 -- Tuples are a module over the field of elements, and a space of coordinates.
-use Rattle.std.specs.Prelude.{◌≡◌, ℕ, zero, suc, ◌<◌, ◌≤◌, Bool, true, false, IsTrue, ◌&&◌, cond, eqb, List, [], ◌∷◌, ◌++◌, length}
-use Rattle.std.specs.List.{All, list_all}
-use Rattle.std.proofs.Common.{refl, sym, ◌∙◌, ap, ap₂, subst, arith, ⊎_elim, ext_get_or}
+use Rattle.std.specs.Prelude.{◌≡◌, ℕ, ◌<◌, Bool, true, false, IsTrue, cond, eqb, List, length}
+use Rattle.std.specs.List.{list_all}
+use Rattle.std.proofs.Common.{refl, sym, ◌∙◌, ap, ap₂, arith, ext_get_or}
 use Rattle.std.proofs.Math.Bool.{Bool-set}
-use Rattle.std.proofs.lemmas.Bool.{cases_lt, eq-eqb, eqb-true}
-use Rattle.std.proofs.lemmas.List.{get_or_past}
-use Rattle.std.proofs.lemmas.List.Elements.{All-nil, All-push, All-get_or}
+use Rattle.std.proofs.lemmas.Bool.{eq-eqb, eqb-true, and_from, and_parts}
 use Rattle.std.proofs.lemmas.List.Sums.{AllPass-from_list_all, list_all-from_AllPass}
 use mathlib.Core.HLevel.{Σ_prop_path}
 use Rattle.theory_rings.specs.Ring.{FieldOn, AddCommGroupOn}
 use Rattle.theory_rings.specs.Ops.{Ops, IsElem, FieldLaws}
 use Rattle.theory_rings.specs.Elements.{Elem, Elem-path, elements}
-use Rattle.theory_rings.specs.Sum.{sum, sum_of, table, at}
-use Rattle.theory_rings.proofs.Lists.{length-table, get_or-table}
+use Rattle.theory_rings.specs.Sum.{table, at}
+use Rattle.theory_rings.proofs.Sums.Lists.{length-table, get_or-table, table_congr, All-table}
+use Rattle.theory_rings.proofs.Rings.Elements.{at-elem}
 use Rattle.theory_spaces.specs.Module.{ModuleOn}
 use Rattle.theory_spaces.specs.Matrix.{delta}
 use Rattle.theory_spaces.specs.Space.{SpaceOn}
 use Rattle.theory_spaces.specs.Tuples.{IsTuple, is_tuple, Tuple, tuple_zero, tuple_add, tuple_neg, tuple_scale, basis}
 use Rattle.theory_spaces.proofs.Tables.{unit}
 
-pub and_left : (b c : Bool) → b && c ≡ true → b ≡ true
-and_left true c h = refl
-and_left false c h = h
-
-pub and_right : (b c : Bool) → b && c ≡ true → c ≡ true
-and_right true c h = h
-and_right false c h = cc
-
-pub and_both : (b c : Bool) → b ≡ true → c ≡ true → b && c ≡ true
-and_both true c h g = g
-and_both false c h g = h
-
-pub table_congr : {X : Type 0} (n : ℕ) (f g : ℕ → X) → ((k : ℕ) → k < n → f k ≡ g k) → table n f ≡ table n g
-table_congr zero f g h = refl
-table_congr (suc n) f g h = ap₂ (λ xs x. xs ++ x ∷ []) (table_congr n f g (λ k l. h k (omega arith))) (h n (omega arith))
-
-pub All-table : {X : Type 0} (P : X → Type 0) (n : ℕ) (f : ℕ → X) → ((k : ℕ) → k < n → P (f k)) → All P (table n f)
-All-table P zero f h = All-nil P
-All-table P (suc n) f h = All-push P (table n f) (f n) (All-table P n f (λ k l. h k (omega arith))) (h n (omega arith))
-
 module _ {E : Type 0} (o : Ops E) where
   pub at-table : (n : ℕ) (f : ℕ → E) (k : ℕ) → k < n → at o (table n f) k ≡ f k
   at-table n f k l = get_or-table n f k o.zero l
 
   pub IsTuple-is_tuple : (n : ℕ) (xs : List E) → IsTuple o n xs → IsTrue (is_tuple o n xs)
-  IsTuple-is_tuple n xs h = and_both (eqb (length xs) n) (list_all o.is_elem xs) (eq-eqb (length xs) n h.right_length) (list_all-from_AllPass o.is_elem xs h.of_elements)
+  IsTuple-is_tuple n xs h = and_from (eqb (length xs) n) (list_all o.is_elem xs) (eq-eqb (length xs) n h.right_length) (list_all-from_AllPass o.is_elem xs h.of_elements)
 
   pub is_tuple-IsTuple : (n : ℕ) (xs : List E) → IsTrue (is_tuple o n xs) → IsTuple o n xs
   is_tuple-IsTuple n xs h = record {
-    right_length = eqb-true (length xs) n (and_left (eqb (length xs) n) (list_all o.is_elem xs) h);
-    of_elements = AllPass-from_list_all o.is_elem xs (and_right (eqb (length xs) n) (list_all o.is_elem xs) h);
+    right_length = eqb-true (length xs) n (and_parts (eqb (length xs) n) (list_all o.is_elem xs) h).0;
+    of_elements = AllPass-from_list_all o.is_elem xs (and_parts (eqb (length xs) n) (list_all o.is_elem xs) h).1;
   }
 
   pub IsTuple-table : (n : ℕ) (f : ℕ → E) → ((k : ℕ) → k < n → IsElem o (f k)) → IsTuple o n (table n f)
@@ -59,23 +38,6 @@ module _ {E : Type 0} (o : Ops E) where
   IsTuple-ext n a b ha hb h = ext_get_or o.zero a b (ha.right_length ∙ sym hb.right_length) (λ i l. let e = ha.right_length in h i (omega arith))
 
 module _ {E : Type 0} (o : Ops E) (L : FieldLaws o) where
-  pub at-elem : (xs : List E) → All (IsElem o) xs → (i : ℕ) → IsElem o (at o xs i)
-  at-elem xs h i = ⊎_elim (λ (l : i < length xs). All-get_or (IsElem o) xs i o.zero l h)
-      (λ (l : length xs ≤ i). let P : E → Type 0 = IsElem o in subst P (sym (get_or_past xs i o.zero l)) L.zero-elem) (cases_lt i (length xs))
-
-  -- sums of elements are sums in their field
-  pub sum_of-elements : (n : ℕ) (f : ℕ → Elem o) → sum_of o n (λ i. (f i).0) ≡ (sum (elements o L).monoid n f).0
-  sum_of-elements zero f = refl
-  sum_of-elements (suc n) f = ap (λ x. o.add x (f n).0) (sum_of-elements n f)
-
-  pub sum_of_congr : (n : ℕ) (f g : ℕ → E) → ((i : ℕ) → i < n → f i ≡ g i) → sum_of o n f ≡ sum_of o n g
-  sum_of_congr zero f g h = refl
-  sum_of_congr (suc n) f g h = ap₂ o.add (sum_of_congr n f g (λ i l. h i (omega arith))) (h n (omega arith))
-
-  pub sum_of-elem : (n : ℕ) (f : ℕ → E) → ((i : ℕ) → i < n → IsElem o (f i)) → IsElem o (sum_of o n f)
-  sum_of-elem zero f h = L.zero-elem
-  sum_of-elem (suc n) f h = L.add-elem (sum_of o n f) (f n) (sum_of-elem n f (λ i l. h i (omega arith))) (h n (omega arith))
-
   module _ (n : ℕ) where
     abbrev K : FieldOn (Elem o)
     K = elements o L
@@ -86,7 +48,7 @@ module _ {E : Type 0} (o : Ops E) (L : FieldLaws o) where
 
     -- the entries of a tuple, and zero past its end
     abbrev pub entry : Tuple o n → ℕ → Elem o
-    entry a k = (at o a.0 k, at-elem a.0 (is_tuple-IsTuple o n a.0 a.1).of_elements k)
+    entry a k = (at o a.0 k, at-elem o L a.0 (is_tuple-IsTuple o n a.0 a.1).of_elements k)
 
     pub entry-make : (f : ℕ → Elem o) (k : ℕ) → k < n → entry (make f) k ≡ f k
     entry-make f k l = Elem-path o (entry (make f) k) (f k) (at-table o n (λ k. (f k).0) k l)

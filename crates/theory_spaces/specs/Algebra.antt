@@ -3,6 +3,7 @@
 use Rattle.std.specs.Prelude.{◌≡◌, ℕ, zero, suc, ◌<◌, ◌⊎◌}
 use Rattle.theory_rings.specs.Ring.{RingOn}
 use Rattle.theory_rings.specs.Sum.{sum}
+use Rattle.theory_rings.specs.Power.{power}
 use Rattle.theory_spaces.specs.Module.{ModuleOn, AlgebraOn, module_of}
 use Rattle.theory_spaces.specs.Linear.{InSpan, Basis}
 
@@ -10,11 +11,6 @@ use Rattle.theory_spaces.specs.Linear.{InSpan, Basis}
 abbrev pub iterate : {V : Type 0} → (V → V) → ℕ → V → V
 iterate f zero x = x
 iterate f (suc n) x = iterate f n (f x)
-
--- x to the power n
-abbrev pub power : {K : Type 0} → RingOn K → K → ℕ → K
-power R x zero = R.one
-power R x (suc n) = R.◌⊗◌ (power R x n) x
 
 -- some power of x is 0
 pub record IsNilpotent {K : Type 0} (R : RingOn K) (x : K) : Type 0 where

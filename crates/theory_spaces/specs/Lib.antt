@@ -9,3 +9,7 @@ pub mod Space
 pub mod Quotient
 pub mod Valuation
 pub mod Subspaces
+pub mod Form
+pub mod AlgebraMap
+pub mod MatrixAlgebra
+pub mod MinimalIdempotent

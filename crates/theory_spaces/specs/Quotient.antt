@@ -6,7 +6,7 @@ use Rattle.std.proofs.Math.Path.{fun_ext}
 use mathlib.Core.HLevel.{Π_set, Π_prop}
 use mathlib.Core.Quot.{Quot, mk, sound, ind, lift, Quot-set}
 use Rattle.theory_rings.specs.Ring.{AddCommGroupOn, RingOn}
-use Rattle.theory_rings.proofs.RingLaws.{add-neg, neg_add, add_add_add_comm}
+use Rattle.theory_rings.proofs.Rings.RingLaws.{add-neg, neg_add, add_add_add_comm}
 use Rattle.theory_spaces.specs.Module.{ModuleOn}
 use Rattle.theory_spaces.specs.Linear.{IsSubmodule}
 use Rattle.theory_spaces.specs.ModuleLaws.{scale-neg, neg_one-scale}

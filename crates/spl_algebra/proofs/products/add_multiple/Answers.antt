@@ -2,7 +2,7 @@ use Rattle.std.proofs.Common.{◌≡◌, ◌<◌, length, ◌∙◌, sym, ap, ap
 use Rattle.std.proofs.lemmas.List.{get_or_default}
 use Rattle.theory_rings.specs.Sum.{at}
 use Rattle.spl_algebra.proofs.Terms.{read-at, add-mul_zero}
-use Rattle.theory_spaces.proofs.Tuples.{at-elem}
+use Rattle.theory_rings.proofs.Rings.Elements.{at-elem}
 use Rattle.spl_algebra.proofs.Steps.{AddsBelow-set, AddsBelow-skip}
 use Rattle.spl_algebra.proofs.products.add_multiple.Goals as goal
 use Rattle.spl_algebra.proofs.products.add_multiple.Goals.{then-not-eq+in_ok-term+in_ok-sums, else-not-eq}

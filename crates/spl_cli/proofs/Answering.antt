@@ -1,0 +1,69 @@
+-- What `decide` answers to the text of a table.
+use Rattle.std.specs.Prelude.{◌≡◌, ◌≤◌, ℕ, List, length}
+use Rattle.std.proofs.Common.{inr}
+use Rattle.spl_algebra.specs.Algebra.{IsAssociative}
+use Rattle.spl_table.specs.TableText.{TableText, IsTableText}
+use Rattle.spl_table.specs.Table.{algebra_of, ops_of, IsTableOf}
+use Rattle.spl_table.specs.Triple.{IsFirstFailed}
+use Rattle.spl_table.specs.Refusal.{table_limit}
+use Rattle.spl_table.specs.declared.table.Table.{Table}
+use Rattle.spl_table.specs.declared.triple.Triple.{Triple}
+use Rattle.spl_table.specs.declared.refusal.Refusal.{Refusal}
+use Rattle.spl_table.specs.declared.refusal.Kind.TheVariants.{NotBuilt}
+use Rattle.spl_cli.specs.declared.status.Status.{Status}
+use Rattle.spl_cli.specs.declared.status.Status.TheVariants.{Done, Refused}
+use Rattle.spl_cli.specs.Forms.{IsDecide}
+use Rattle.spl_cli.specs.Report.{refusal_text, triple_text, line_of_end}
+use Rattle.spl_cli.specs.Run.{SinkState}
+use Rattle.spl_cli.specs.Finish.{Finishes, Answers}
+
+module _ (words : List (List ℕ)) (input : List ℕ) (sink sink' : SinkState) (status : Status) (form : IsDecide words)
+    (table : Table) (read : (t : TableText) × IsTableText input t × IsTableOf t table) (short : length input ≤ table_limit) (bytes : List ℕ) where
+  -- an associative table is refused at its last line
+  pub Answers-undecided : (refusal : Refusal) → IsAssociative (ops_of table) (algebra_of table)
+      → refusal.line ≡ line_of_end input → refusal.kind ≡ NotBuilt → bytes ≡ refusal_text refusal
+      → Finishes Refused bytes sink sink' status → Answers words input sink sink' status
+  Answers-undecided refusal associative line kind report finishes = record {
+    ends = inr (
+      Refused,
+      bytes,
+      (
+        form,
+        record {
+          refusal = refusal;
+          cause = inr (record {
+            table = table;
+            stands = record { short = short; text = read.0; is_text = read.1; is_table = read.2 };
+            associative = associative;
+            line = line;
+            kind = kind;
+          });
+          report = report;
+        },
+      ),
+      finishes,
+    );
+    stands = finishes.stands;
+  }
+
+  -- a failed triple is evidence
+  pub Answers-found : (triple : Triple) → IsFirstFailed (ops_of table) (algebra_of table) triple
+      → bytes ≡ triple_text triple → Finishes Done bytes sink sink' status → Answers words input sink sink' status
+  Answers-found triple first report finishes = record {
+    ends = inr (
+      Done,
+      bytes,
+      (
+        form,
+        record {
+          table = table;
+          stands = record { short = short; text = read.0; is_text = read.1; is_table = read.2 };
+          triple = triple;
+          first = first;
+          report = report;
+        },
+      ),
+      finishes,
+    );
+    stands = finishes.stands;
+  }

@@ -1,0 +1,59 @@
+// The texts of reports.
+ghost use Rattle.std.specs.Prelude.{◌≡◌, ℕ, ◌+◌, ◌<◌, ◌≤◌, ◌^◌, ◌==◌, ◌++◌, length, count_by, codes, decimal, IfOk};
+ghost use Rattle.spl_cli.specs.Report.{kind_word, refusal_text, triple_text, line_of_end};
+
+use arrayvec::ArrayString;
+use itoa::Buffer;
+use spl_field::field::NoMemory;
+use spl_table::refusal::{Kind, Refusal};
+use spl_table::triple::Triple;
+use std::alloc::Global;
+
+/// The usage text: the built forms, one a line.
+pub(crate) const USAGE: &[u8] = b"usage: spl decide\n";
+
+/// The line of `end` in a table text, which is its last.
+pub(crate) fn end_line(input: &[u8]) -> usize
+    ensures { result ≡ line_of_end input.now }
+{
+    input.iter().filter(|byte| **byte == b'\n').count()
+}
+
+/// The word for a kind of refusal.
+fn word_of(kind: Kind) -> &'static str
+    ensures { result.now ≡ kind_word kind }
+{
+    match kind {
+        Kind::TooLong => "TooLong",
+        Kind::NotBuilt => "NotBuilt",
+    }
+}
+
+/// The report of a refusal. It takes no memory.
+pub(crate) fn refusal_line(refusal: Refusal) -> ArrayString<64>
+    ensures { result.bytes ≡ refusal_text refusal }
+{
+    let mut buffer = Buffer::new();
+    let mut line = ArrayString::new();
+    line.push_str("refused ");
+    line.push_str(buffer.format(refusal.line));
+    line.push_str(" ");
+    line.push_str(word_of(refusal.kind));
+    line.push_str("\n");
+    line
+}
+
+/// The evidence text of a failed triple.
+pub(crate) fn triple_evidence(alloc: Global, triple: Triple) -> Result<Vec<u8>, NoMemory>
+    ensures { IfOk result (λ text. text.items ≡ triple_text triple) }
+{
+    let mut buffer = Buffer::new();
+    let mut text = Vec::from_slice(alloc, b"spl-evidence 1\ntriple ")?;
+    text.extend_from_slice(buffer.format(triple.i).as_bytes())?;
+    text.extend_from_slice(b" ")?;
+    text.extend_from_slice(buffer.format(triple.j).as_bytes())?;
+    text.extend_from_slice(b" ")?;
+    text.extend_from_slice(buffer.format(triple.k).as_bytes())?;
+    text.extend_from_slice(b"\nend\n")?;
+    Ok(text)
+}

@@ -1,0 +1,85 @@
+// The top call.
+ghost use Rattle.std.specs.Prelude.{◌≡◌, List, ℕ};
+ghost use Rattle.spl_cli.specs.Run.{IsRun};
+ghost use Rattle.spl_cli.specs.Report.{Report};
+ghost use Rattle.spl_cli.specs.Finish.{source_state, sink_state, Finishes, Answers};
+ghost use Rattle.spl_cli.specs.Forms.{IsDecide};
+
+use crate::input::{InputFault, read_input};
+use crate::report::{USAGE, end_line, refusal_line, triple_evidence};
+use crate::status::Status;
+use crate::words::Words;
+use spl_field::field::NoMemory;
+use spl_outside::outside::{Failed, Sink, Source};
+use spl_outside::write::write_whole;
+use spl_table::reader::read_table;
+use spl_table::refusal::{Kind, Refusal, TableFault};
+use spl_table::triple::first_failed_triple;
+use std::alloc::Global;
+
+/// The most bytes of an input of `decide`.
+const DECIDE_LIMIT: usize = 8388608;
+
+/// The bytes asked for at a call, at the most.
+const PIECE: usize = 65536;
+
+/// Writes the bytes, and answers the status that goes with them, or that a write failed.
+fn finish<K: Sink>(sink: &mut K, bytes: &[u8], answer: Status) -> Status
+    ensures { Finishes answer bytes.now (sink_state K.written K.faults K.steady sink.old)
+        (sink_state K.written K.faults K.steady sink.new) result }
+{
+    match write_whole(sink, bytes) {
+        Ok(()) => answer,
+        Err(Failed) => Status::WriteFault,
+    }
+}
+
+/// Writes the report on the input of `decide`.
+fn decide<K: Sink>(alloc: Global, input: &[u8], sink: &mut K) -> Status
+    ensures { (words : List (List ℕ)) → IsDecide words → Answers words input.now
+        (sink_state K.written K.faults K.steady sink.old) (sink_state K.written K.faults K.steady sink.new) result }
+{
+    match read_table(alloc, input) {
+        Err(TableFault::Memory) => Status::Memory,
+        Err(TableFault::Refused { refusal }) => finish(
+            sink,
+            refusal_line(refusal).as_str().as_bytes(),
+            Status::Refused,
+        ),
+        Ok(table) => match first_failed_triple(alloc, &table) {
+            Err(_) => Status::Memory,
+            Ok(None) => {
+                let refusal = Refusal {
+                    line: end_line(input) as u32,
+                    kind: Kind::NotBuilt,
+                };
+                finish(
+                    sink,
+                    refusal_line(refusal).as_str().as_bytes(),
+                    Status::Refused,
+                )
+            }
+            Ok(Some(triple)) => match triple_evidence(alloc, triple) {
+                Err(_) => Status::Memory,
+                Ok(text) => finish(sink, text.as_slice(), Status::Done),
+            },
+        },
+    }
+}
+
+/// Runs the program on these words: reads its input from the source and writes its report to the sink. The whole
+/// report is composed before the first write. The record `IsRun` says what each status means and when it comes.
+pub fn run<S: Source, K: Sink>(alloc: Global, words: &Words, source: &mut S, sink: &mut K) -> Status
+    ensures { IsRun words.now
+        (source_state S.left S.faults S.steady source.old) (source_state S.left S.faults S.steady source.new)
+        (sink_state K.written K.faults K.steady sink.old) (sink_state K.written K.faults K.steady sink.new) result }
+{
+    if !words.is_decide() {
+        return finish(sink, USAGE, Status::Usage);
+    }
+    match read_input(alloc, source, DECIDE_LIMIT, PIECE) {
+        Err(InputFault::Read) => Status::ReadFault,
+        Err(InputFault::Memory) => Status::Memory,
+        Ok(input) => decide(alloc, input.as_slice(), sink),
+    }
+}

@@ -1,0 +1,4 @@
+-- Fields of fractions.
+pub mod Fractions
+pub mod Lowest
+pub mod LowestTests
