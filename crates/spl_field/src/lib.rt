@@ -4,6 +4,7 @@
 #![tactic(auto)]
 
 pub mod admission;
+mod digits;
 pub mod field;
 pub mod small;
 mod tables;
