@@ -6,9 +6,18 @@ ghost use Rattle.spl_field.specs.Tables.{table_ops, table_power, AreElements, Ar
 ghost use Rattle.spl_field.specs.TableField.{field_laws};
 
 use crate::admission::{FieldFault, admits_numbers};
+use crate::codes::Codes;
 use crate::field::{Field, NoMemory};
 use crate::tables::{inverse_table, negative_table, product_table, root_table, sum_table};
 use std::alloc::Global;
+
+/// The sums and the products of all elements, each row by row: those of a and b at place a·size + b.
+#[derive(Drop)]
+pub struct Tables {
+    pub size: u16,
+    pub sum: Codes,
+    pub product: Codes,
+}
 
 /// A field of q = p^d elements, 2 to 256 of them, which are the numbers below q: each is read as d digits to the base
 /// p, lowest first, the coefficients of a polynomial in t; sums go digit by digit, and products are remainders by the
@@ -224,6 +233,23 @@ impl SmallField {
         ensures value { power_of (small_ops self.now) result (characteristic self.now) ≡ a }
     {
         self.roots[usize::from(a)]
+    }
+
+    /// The tables of the sums and the products. The one fault is want of memory.
+    pub fn tables(&self, alloc: Global) -> Result<Tables, NoMemory>
+        ensures size { IfOk result (λ t. t.size ≡ size_of self.now) }
+        ensures sums_full { IfOk result (λ t. length t.sum ≡ size_of self.now * size_of self.now) }
+        ensures products_full { IfOk result (λ t. length t.product ≡ size_of self.now * size_of self.now) }
+        ensures sums { IfOk result (λ t. (a b : ℕ) → a < size_of self.now → b < size_of self.now
+            → slice_index t.sum (a * size_of self.now + b) ≡ (small_ops self.now).add a b) }
+        ensures products { IfOk result (λ t. (a b : ℕ) → a < size_of self.now → b < size_of self.now
+            → slice_index t.product (a * size_of self.now + b) ≡ (small_ops self.now).mul a b) }
+    {
+        Ok(Tables {
+            size: self.size,
+            sum: Codes::from_slice(alloc, &self.sums)?,
+            product: Codes::from_slice(alloc, &self.products)?,
+        })
     }
 
     /// An equal field. The one fault is want of memory.
