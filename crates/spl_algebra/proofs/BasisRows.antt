@@ -6,15 +6,15 @@ use Rattle.std.proofs.lemmas.Bool.{eq-eqb, ne_eqb}
 use Rattle.std.proofs.lemmas.List.{get_or-drop, length-take, length-drop}
 use Rattle.theory_rings.specs.Ops.{Ops, IsElem, FieldLaws}
 use Rattle.theory_rings.specs.Sum.{at, sum_of, table}
-use Rattle.theory_spaces.specs.Tuples.{IsTuple, product, basis, constant}
+use Rattle.theory_spaces.specs.Tuples.{product, basis, constant}
 use Rattle.theory_rings.proofs.Sums.Lists.{table_congr}
 use Rattle.theory_rings.proofs.Rings.Elements.{at-elem, sum_of-elem, sum_of_congr}
-use Rattle.theory_spaces.proofs.Tuples.{at-table, IsTuple-table}
-use Rattle.theory_spaces.proofs.TupleProducts.{product_basis, IsTuple-product, IsTuple-basis}
+use Rattle.theory_spaces.proofs.Tuples.{at-table}
+use Rattle.theory_spaces.proofs.TupleProducts.{product_basis, IsTuple-basis}
 use Rattle.spl_algebra.specs.Products.{sum_of_rows}
 use Rattle.spl_algebra.proofs.Terms.{mul-one, mul-zero, zero-mul, sum_of_eq_single, sum_of_eq_zero}
 use Rattle.spl_algebra.proofs.Steps.{table-at, at-part}
-use Rattle.spl_algebra.proofs.Rows.{row_end-le}
+use Rattle.spl_algebra.proofs.Rows.{row_end-le, constant-row, constant-column}
 
 -- the row of the constants of i and j ends within them
 pub row_within : (i j start m n : ℕ) → start ≡ (i * m + j) * m → i < m → j < m → n ≡ m * m * m → start + m ≤ n
@@ -56,17 +56,6 @@ module _ {E : Type 0} (o : Ops E) (L : FieldLaws o) (m : ℕ) (cs : List E) (con
   term-left_one a b t i j hb e =
       ap (λ x. o.mul x (constant o m cs i j t)) (ap (λ x. o.mul x (at o b j)) e ∙ L.one-mul (at o b j) (at-elem o L b hb j))
 
-  -- the places of the constants in a part of their list
-  constant-column : (k l t : ℕ) → constant o m cs l k t ≡ at o (drop (k * m) cs) (l * (m * m) + t)
-  constant-column k l t =
-      let e : (l * m + k) * m + t ≡ k * m + (l * (m * m) + t) = omega (arith, nat.add-mul (l * m) k m, nat.mul_assoc l m m) in
-      ap (at o cs) e ∙ sym (get_or-drop (k * m) cs (l * (m * m) + t) o.zero)
-
-  constant-row : (i j t : ℕ) → constant o m cs i j t ≡ at o (drop (i * m * m) cs) (j * m + t)
-  constant-row i j t =
-      let e : (i * m + j) * m + t ≡ i * m * m + (j * m + t) = omega (arith, nat.add-mul (i * m) j m) in
-      ap (at o cs) e ∙ sym (get_or-drop (i * m * m) cs (j * m + t) o.zero)
-
   -- a product with a basis element on the right: the rows that begin each m·m items
   pub product-basis : (a : List E) (k : ℕ) → All (IsElem o) a → k < m
       → product o m cs a (basis o m k) ≡ table m (sum_of_rows o m a (drop (k * m) cs) (m * m))
@@ -81,7 +70,7 @@ module _ {E : Type 0} (o : Ops E) (L : FieldLaws o) (m : ℕ) (cs : List E) (con
       (term-elem a (basis o m k) t i k ha (IsTuple-basis o L m cs constants k).of_elements)
       (λ j l d. term-right_zero a (basis o m k) t i j ha (at-basis_other o m k j l d))
       ∙ term-right_one a (basis o m k) t i k ha (at-basis_same o m k h)
-      ∙ ap (o.mul (at o a i)) (constant-column k i t)))
+      ∙ ap (o.mul (at o a i)) (constant-column o m cs i k t)))
 
   -- and on the left: the rows from row i·m on
   pub basis-product : (b : List E) (i : ℕ) → All (IsElem o) b → i < m
@@ -96,7 +85,7 @@ module _ {E : Type 0} (o : Ops E) (L : FieldLaws o) (m : ℕ) (cs : List E) (con
       ∙ sum_of_congr o m
       (λ j. term (basis o m i) b t i j)
       (λ j. o.mul (at o b j) (at o (drop (i * m * m) cs) (j * m + t)))
-      (λ j _. term-left_one (basis o m i) b t i j hb (at-basis_same o m i h) ∙ ap (o.mul (at o b j)) (constant-row i j t)))
+      (λ j _. term-left_one (basis o m i) b t i j hb (at-basis_same o m i h) ∙ ap (o.mul (at o b j)) (constant-row o m cs i j t)))
 
   -- the product of two basis elements is the row of their constants
   pub row-product : (i j : ℕ) (start : ℕ) → start ≡ (i * m + j) * m → i < m → j < m → length cs ≡ m * m * m

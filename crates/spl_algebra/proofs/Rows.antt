@@ -1,16 +1,16 @@
 -- A product by its rows of constants: the places of the rows, and the loop over the items of the first factor.
 use Rattle.std.specs.Prelude.{◌≡◌, ℕ, ◌+◌, ◌-◌, ◌*◌, ◌<◌, ◌≤◌, List, length, drop, All}
-use Rattle.std.proofs.Common.{refl, sym, ◌∙◌, ap, ap₂, arith, length-drop}
+use Rattle.std.proofs.Common.{refl, sym, ◌∙◌, ap, ap₂, arith}
 use Rattle.std.proofs.Math.Nat as nat
 use Rattle.std.proofs.lemmas.List.{get_or-drop}
 use Rattle.theory_rings.specs.Ops.{Ops, IsElem, FieldLaws}
 use Rattle.theory_rings.specs.Sum.{at, sum_of, table}
-use Rattle.theory_rings.proofs.Sums.Lists.{length-table, get_or-table}
-use Rattle.theory_spaces.specs.Tuples.{IsTuple, product}
+use Rattle.theory_rings.proofs.Sums.Lists.{length-table}
+use Rattle.theory_spaces.specs.Tuples.{product, constant}
 use Rattle.spl_algebra.specs.Products.{AddsEach, scaled_rows, sum_of_rows}
-use Rattle.spl_algebra.proofs.Terms.{add-zero, mul-zero, zero-mul, sum_of-next, sum_of_eq_zero}
+use Rattle.spl_algebra.proofs.Terms.{add-zero, zero-mul, sum_of-next, sum_of_eq_zero}
 use Rattle.theory_rings.proofs.Rings.Elements.{at-elem, sum_of-elem, sum_of_congr}
-use Rattle.spl_algebra.proofs.Steps.{AddsEach-zero, AddsEach-then, AddsEach-congr, AddsEach-zeros, table-at, scaled_rows-elem}
+use Rattle.spl_algebra.proofs.Steps.{AddsEach-zero, AddsEach-then, AddsEach-congr, AddsEach-zeros}
 
 -- row i of n rows of m items ends within them
 pub row_end-le : (i n m : ℕ) → i < n → i * m + m ≤ n * m
@@ -21,6 +21,18 @@ pub row_end-le_rest : (i l m n : ℕ) → i < m → l < m → n ≡ m * m * m �
 row_end-le_rest i l m n h k e =
     let first : i + 1 ≤ m = omega arith in
     omega (arith, row_end-le l m m k, nat.mul-le-mul_right (m * m) first)
+
+-- the places of the constants in a part of their list
+module _ {E : Type 0} (o : Ops E) (m : ℕ) (cs : List E) where
+  pub constant-row : (i j k : ℕ) → constant o m cs i j k ≡ at o (drop (i * m * m) cs) (j * m + k)
+  constant-row i j k =
+      let e : (i * m + j) * m + k ≡ i * m * m + (j * m + k) = omega (arith, nat.add-mul (i * m) j m) in
+      ap (at o cs) e ∙ sym (get_or-drop (i * m * m) cs (j * m + k) o.zero)
+
+  pub constant-column : (i j k : ℕ) → constant o m cs i j k ≡ at o (drop (j * m) cs) (i * (m * m) + k)
+  constant-column i j k =
+      let e : (i * m + j) * m + k ≡ j * m + (i * (m * m) + k) = omega (arith, nat.add-mul (i * m) j m, nat.mul_assoc i m m) in
+      ap (at o cs) e ∙ sym (get_or-drop (j * m) cs (i * (m * m) + k) o.zero)
 
 module _ {E : Type 0} (o : Ops E) (L : FieldLaws o) where
   -- rows times one
@@ -36,7 +48,6 @@ module _ {E : Type 0} (o : Ops E) (L : FieldLaws o) where
       → new ≡ table m (sum_of_rows o m b rows stride)
   sum_of_rows-table m old new one b rows stride z e hb hr a =
       let long : length old ≡ m = ap length z ∙ length-table m (λ _. o.zero) in
-      let one_in : IsElem o one = rw e L.one-elem in
       AddsEach-zeros o L m old new (sum_of_rows o m b rows stride) z
       (AddsEach-congr o L old new (scaled_rows o (length old) one b rows stride) (sum_of_rows o m b rows stride)
       (λ k _. ap (λ n. scaled_rows o n one b rows stride k) long ∙ scaled_rows-one m one b rows stride k e hb) a)
@@ -49,7 +60,7 @@ module _ {E : Type 0} (o : Ops E) (L : FieldLaws o) where
 
 -- at k the part of a product that item i of the first factor gives, and the first n of these parts
 abbrev pub part_of_product : {E : Type 0} → Ops E → ℕ → List E → List E → List E → ℕ → ℕ → E
-part_of_product o m c a b i k = sum_of o m (λ j. o.mul (o.mul (at o a i) (at o b j)) (at o c ((i * m + j) * m + k)))
+part_of_product o m c a b i k = sum_of o m (λ j. o.mul (o.mul (at o a i) (at o b j)) (constant o m c i j k))
 
 abbrev pub parts_of_product : {E : Type 0} → Ops E → ℕ → List E → List E → List E → ℕ → ℕ → E
 parts_of_product o m c a b n k = sum_of o n (λ i. part_of_product o m c a b i k)
@@ -58,8 +69,8 @@ module _ {E : Type 0} (o : Ops E) (L : FieldLaws o) where
   part_of_product-elem : (m : ℕ) (c a b : List E) (i k : ℕ) → All (IsElem o) c → All (IsElem o) a → All (IsElem o) b
       → IsElem o (part_of_product o m c a b i k)
   part_of_product-elem m c a b i k hc ha hb =
-      sum_of-elem o L m (λ j. o.mul (o.mul (at o a i) (at o b j)) (at o c ((i * m + j) * m + k)))
-      (λ j _. L.mul-elem (o.mul (at o a i) (at o b j)) (at o c ((i * m + j) * m + k))
+      sum_of-elem o L m (λ j. o.mul (o.mul (at o a i) (at o b j)) (constant o m c i j k))
+      (λ j _. L.mul-elem (o.mul (at o a i) (at o b j)) (constant o m c i j k)
       (L.mul-elem (at o a i) (at o b j) (at-elem o L a ha i) (at-elem o L b hb j)) (at-elem o L c hc ((i * m + j) * m + k)))
 
   parts_of_product-elem : (m : ℕ) (c a b : List E) (n k : ℕ) → All (IsElem o) c → All (IsElem o) a → All (IsElem o) b
@@ -70,9 +81,8 @@ module _ {E : Type 0} (o : Ops E) (L : FieldLaws o) where
   scaled_rows-part : (m : ℕ) (c a b : List E) (i k : ℕ) → scaled_rows o m (at o a i) b (drop (i * m * m) c) m k ≡ part_of_product o m c a b i k
   scaled_rows-part m c a b i k =
       sum_of_congr o m (λ j. o.mul (o.mul (at o a i) (at o b j)) (at o (drop (i * m * m) c) (j * m + k)))
-      (λ j. o.mul (o.mul (at o a i) (at o b j)) (at o c ((i * m + j) * m + k)))
-      (λ j _. ap (o.mul (o.mul (at o a i) (at o b j))) (get_or-drop (i * m * m) c (j * m + k) o.zero
-      ∙ ap (at o c) (let e : i * m * m + (j * m + k) ≡ (i * m + j) * m + k = omega (arith, nat.add-mul (i * m) j m) in e)))
+      (λ j. o.mul (o.mul (at o a i) (at o b j)) (constant o m c i j k))
+      (λ j _. ap (o.mul (o.mul (at o a i) (at o b j))) (sym (constant-row o m c i j k)))
 
   pub parts-none : (m : ℕ) (old : List E) (c a b : List E) → All (IsElem o) old → AddsEach o old old (parts_of_product o m c a b 0)
   parts-none m old c a b h = AddsEach-zero o L old (parts_of_product o m c a b 0) h (λ k. refl)
@@ -96,12 +106,13 @@ module _ {E : Type 0} (o : Ops E) (L : FieldLaws o) where
   pub parts-skip : (m : ℕ) (old new : List E) (c a b : List E) (i : ℕ) → All (IsElem o) c → All (IsElem o) a → All (IsElem o) b → at o a i ≡ o.zero
       → AddsEach o old new (parts_of_product o m c a b i) → AddsEach o old new (parts_of_product o m c a b (i + 1))
   parts-skip m old new c a b i hc ha hb z p =
+      let vanishes : (k : ℕ) → part_of_product o m c a b i k ≡ o.zero = λ k.
+      sum_of_eq_zero o L m (λ j. o.mul (o.mul (at o a i) (at o b j)) (constant o m c i j k)) (λ j _.
+      ap (λ x. o.mul x (constant o m c i j k)) (ap (λ x. o.mul x (at o b j)) z ∙ zero-mul o L (at o b j) (at-elem o L b hb j))
+      ∙ zero-mul o L (constant o m c i j k) (at-elem o L c hc ((i * m + j) * m + k))) in
       AddsEach-congr o L old new (parts_of_product o m c a b i) (parts_of_product o m c a b (i + 1)) (λ k _.
       sym (sum_of-next o i (λ i. part_of_product o m c a b i k)
-      ∙ ap (o.add (parts_of_product o m c a b i k)) (sum_of_eq_zero o L m (λ j. o.mul (o.mul (at o a i) (at o b j)) (at o c ((i * m + j) * m + k)))
-      (λ j _. ap (λ x. o.mul (o.mul x (at o b j)) (at o c ((i * m + j) * m + k))) z
-      ∙ ap (λ x. o.mul x (at o c ((i * m + j) * m + k))) (zero-mul o L (at o b j) (at-elem o L b hb j))
-      ∙ zero-mul o L (at o c ((i * m + j) * m + k)) (at-elem o L c hc ((i * m + j) * m + k))))
+      ∙ ap (o.add (parts_of_product o m c a b i k)) (vanishes k)
       ∙ add-zero o L (parts_of_product o m c a b i k) (parts_of_product-elem m c a b i k hc ha hb))) p
 
   pub parts-all : (m : ℕ) (old new : List E) (c a b : List E) → old ≡ table m (λ _. o.zero) → All (IsElem o) c → All (IsElem o) a → All (IsElem o) b

@@ -1,14 +1,14 @@
 -- The steps of the loops that add rows to a list of sums.
 use Rattle.std.specs.Prelude.{◌≡◌, ℕ, ◌+◌, ◌-◌, ◌*◌, ◌<◌, ◌≤◌, List, length, take, drop, All}
-use Rattle.std.proofs.Common.{refl, sym, ◌∙◌, ap, ap₂, arith, below_more, get_or-set_same, get_or-set_other, ⊎_elim}
+use Rattle.std.proofs.Common.{refl, sym, ◌∙◌, ap, ap₂, arith, below_more, get_or-set_same, get_or-set_other}
 use Rattle.std.proofs.lemmas.List.{length-set, ext_get_or, get_or-take, get_or-drop}
 use Rattle.std.proofs.lemmas.List.Elements.{All-set}
 use Rattle.std.proofs.Math.ListN.{set}
 use Rattle.theory_rings.specs.Ops.{Ops, IsElem, FieldLaws}
-use Rattle.theory_rings.specs.Sum.{at, sum_of, table}
+use Rattle.theory_rings.specs.Sum.{at, table}
 use Rattle.theory_rings.proofs.Sums.Lists.{length-table, get_or-table}
 use Rattle.spl_algebra.specs.Products.{AddsEach, scaled_rows}
-use Rattle.spl_algebra.proofs.Terms.{add-zero, mul-zero, zero-mul, sum_of-next, sum_of_eq_zero}
+use Rattle.spl_algebra.proofs.Terms.{add-zero, mul-zero, zero-mul, sum_of-next}
 use Rattle.theory_rings.proofs.Rings.Elements.{at-elem, sum_of-elem}
 
 -- a list is the table of its items
@@ -28,9 +28,6 @@ module _ {E : Type 0} (o : Ops E) where
     pub of_elements : All (IsElem o) new
     pub done : (j : ℕ) → j < k → at o new j ≡ o.add (at o old j) (f j)
     pub rest : (j : ℕ) → k ≤ j → at o new j ≡ at o old j
-
-  pub AddsBelow-none : (old : List E) (f : ℕ → E) → All (IsElem o) old → AddsBelow 0 old old f
-  AddsBelow-none old f h = record { same_length = refl; of_elements = h; done = λ j l. absurd (omega arith); rest = λ j l. refl }
 
   -- the item at k is written
   pub AddsBelow-set : (k : ℕ) (old new : List E) (f : ℕ → E) (y : E) → k < length new → AddsBelow k old new f
@@ -53,9 +50,6 @@ module _ {E : Type 0} (o : Ops E) where
     done = below_more _ _ a.done (sym e ∙ ap (λ x. o.add x (f k)) (a.rest k (omega arith)));
     rest = λ j m. a.rest j (omega arith);
   }
-
-  pub AddsBelow-all : (k : ℕ) (old new : List E) (f : ℕ → E) → length old ≤ k → AddsBelow k old new f → AddsEach o old new f
-  AddsBelow-all k old new f l a = record { same_length = a.same_length; of_elements = a.of_elements; item = λ j m. a.done j (omega arith) }
 
 module _ {E : Type 0} (o : Ops E) (L : FieldLaws o) where
   -- nothing is added yet

@@ -1,6 +1,6 @@
 -- An algebra over a field by its structure constants, and the law of associativity on its basis.
 -- (Reiner, Maximal Orders, section 1a.)
-use Rattle.std.specs.Prelude.{◌≡◌, ◌≢◌, ℕ, ◌*◌, ◌+◌, ◌<◌, List, length}
+use Rattle.std.specs.Prelude.{◌≡◌, ℕ, ◌*◌, ◌<◌, List}
 use Rattle.theory_rings.specs.Ops.{Ops}
 use Rattle.theory_spaces.specs.Tuples.{IsTuple, product, basis}
 

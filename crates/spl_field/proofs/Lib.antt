@@ -1,3 +1,7 @@
-pub mod FieldByDigits
 pub mod Rows
-pub mod Fermat
+pub mod Roots
+pub mod DigitLoops
+pub mod TimesT
+pub mod NextProduct
+pub mod Inverses
+pub mod Sizes

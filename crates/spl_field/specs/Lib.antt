@@ -1,2 +1,4 @@
 pub mod FieldByDigits
+pub mod Tables
+pub mod TableField
 pub mod SmallField

@@ -1,7 +1,8 @@
 // Which numbers give a field.
-ghost use Rattle.std.specs.Prelude.{◌≡◌, ◌≢◌, ℕ, ◌*◌, ◌%◌, ◌<◌, ◌≤◌, ◌↔◌, length, IsTrue, MatchOption, OnOk, IsErrOf};
+ghost use Rattle.std.specs.Prelude.{◌≡◌, ◌≢◌, ℕ, ◌^◌, ◌<◌, length, MatchOption, IfOk, OnOk, IsErrOf};
 ghost use Rattle.spl_field.specs.FieldByDigits.{FitsField, IsAdmitted, IsFirstWithoutInverse, IsInverse, HasInverse};
 
+use crate::digits::{product_row, size_by_digits};
 use crate::field::NoMemory;
 use thiserror::Error;
 
@@ -32,43 +33,40 @@ impl From<NoMemory> for FieldFault {
     }
 }
 
-/// Whether p and the modulus give 2 to 256 elements.
-fn fits(p: u16, modulus: &[u8]) -> bool
-    requires { length modulus.now ≡ 1 }
-    ensures { IsTrue result ↔ FitsField p modulus.now }
-{
-    if p < 2 || 256 < p {
-        return false;
-    }
-    u16::from(modulus[0]) < p
-}
-
 /// The inverse of a, by trial.
-pub(crate) fn inverse_of(p: u16, modulus: &[u8], a: u16) -> Option<u16>
-    requires least { 2 ≤ p }
+pub(crate) fn inverse_of(p: u16, modulus: &[u8], size: u16, a: u16) -> Option<u16>
+    requires fits { FitsField p modulus.now }
+    requires size { size ≡ p ^ length modulus.now }
+    requires element { a < size }
     ensures { MatchOption result (HasInverse p modulus.now a → ⊥) (IsInverse p modulus.now a) }
 {
-    (0..p).find(|b| u32::from(a) * u32::from(*b) % u32::from(p) == 1)
+    let row = product_row(p, modulus, size, a);
+    for b in 0..size {
+        if row[usize::from(b)] == 1 {
+            return Some(b);
+        }
+    }
+    None
 }
 
-/// Whether the numbers give a field: p to the number of digits, of which there is one, is 2 to 256, the numbers of the
-/// modulus are below p, and each nonzero element has an inverse. A fault of size comes before one of the inverses,
-/// which carries the first element without one. It takes no memory.
-pub(crate) fn admits_numbers(p: u16, modulus: &[u8]) -> Result<(), FieldFault>
-    requires { length modulus.now ≡ 1 }
+/// Whether the numbers give a field: p to the number of digits is 2 to 256, the numbers of the modulus are below p, and
+/// each nonzero element has an inverse. A fault of size comes before one of the inverses, which carries the first element
+/// without one. It answers the number of elements, and takes no memory.
+pub(crate) fn admits_numbers(p: u16, modulus: &[u8]) -> Result<u16, FieldFault>
     ensures ok { OnOk result (IsAdmitted p modulus.now) }
+    ensures elements { IfOk result (λ q. q ≡ p ^ length modulus.now) }
     ensures size { IsErrOf result FieldFault.Size → FitsField p modulus.now → ⊥ }
     ensures no_inverse { (element : ℕ) → IsErrOf result (FieldFault.NoInverse element)
         → IsFirstWithoutInverse p modulus.now element }
     ensures no_memory_needed { result ≢ Err FieldFault.Memory }
 {
-    if !fits(p, modulus) {
+    let Some(size) = size_by_digits(p, modulus) else {
         return Err(FieldFault::Size);
-    }
-    for a in 1..p {
-        if inverse_of(p, modulus, a).is_none() {
+    };
+    for a in 1..size {
+        if inverse_of(p, modulus, size, a).is_none() {
             return Err(FieldFault::NoInverse { element: a as u8 });
         }
     }
-    Ok(())
+    Ok(size)
 }

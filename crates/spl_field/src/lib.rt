@@ -4,6 +4,8 @@
 #![tactic(auto)]
 
 pub mod admission;
+pub mod codes;
+mod digits;
 pub mod field;
 pub mod small;
 mod tables;

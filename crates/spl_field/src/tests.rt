@@ -1,5 +1,6 @@
 // The calls at values from outside.
 use crate::admission::FieldFault;
+use crate::codes::Codes;
 use crate::field::{Field, NoMemory};
 use crate::small::SmallField;
 use crate::vector::Vector;
@@ -26,6 +27,66 @@ fn admits_fields(rt: HostRuntime) {
             "at {p} and {number}"
         );
     }
+}
+
+#[test]
+fn admits_fields_of_several_digits(rt: HostRuntime) {
+    assert_eq!(rt; SmallField::admits(2, &[1, 1]), Ok(()));
+    assert_eq!(rt; SmallField::admits(2, &[1, 1, 0, 1, 1, 0, 0, 0]), Ok(()));
+    assert_eq!(rt; SmallField::admits(3, &[1, 0]), Ok(()));
+    let three = Err(FieldFault::NoInverse { element: 3 });
+    assert_eq!(rt; SmallField::admits(2, &[1, 0]), three);
+    assert_eq!(rt; SmallField::admits(2, &[]), Err(FieldFault::Size));
+    assert_eq!(rt; SmallField::admits(2, &[1, 2]), Err(FieldFault::Size));
+    assert_eq!(rt; SmallField::admits(17, &[1, 1]), Err(FieldFault::Size));
+    assert_eq!(rt;
+        SmallField::admits(2, &[1, 0, 0, 0, 1, 0, 0, 0, 0]),
+        Err(FieldFault::Size)
+    );
+}
+
+#[test]
+fn four_elements(rt: HostRuntime) -> Result<(), Fail> {
+    let alloc = rt.alloc();
+    let f = SmallField::new(alloc, 2, &[1, 1])?.duplicate(alloc)?;
+    assert_eq!(rt; (f.p(), f.size()), (2, 4));
+    assert_eq!(rt; f.modulus(), [1, 1].as_slice());
+    assert_eq!(rt; (f.sum(2, 3), f.negative(3)), (1, 3));
+    assert_eq!(rt; (f.product(2, 2), f.product(2, 3)), (3, 1));
+    assert_eq!(rt; (f.inverse(2), f.inverse(0)), (Some(3), None));
+    assert_eq!(rt; f.frobenius_root(3), 2);
+    let tables = f.tables(alloc)?;
+    assert_eq!(rt;
+        (tables.size, tables.sum.len(), tables.product.len()),
+        (4, 16, 16)
+    );
+    assert_eq!(rt;
+        (tables.product.at(11), tables.product.at(16)),
+        (Some(&1), None)
+    );
+    assert_eq!(rt; tables.sum.at(6), Some(&3));
+    Ok(())
+}
+
+#[test]
+fn lists_codes(rt: HostRuntime) -> Result<(), Fail> {
+    let mut codes = Codes::new(rt.alloc());
+    assert!(rt; codes.is_empty());
+    codes.push(7)?;
+    codes.push(255)?;
+    assert_eq!(rt; codes.as_slice(), [7, 255].as_slice());
+    Ok(())
+}
+
+/// Lidl and Niederreiter, Finite Fields: 9 elements, with i² = −1.
+#[test]
+fn nine_elements(rt: HostRuntime) -> Result<(), Fail> {
+    let f = SmallField::new(rt.alloc(), 3, &[1, 0])?;
+    assert_eq!(rt; (f.p(), f.size()), (3, 9));
+    assert_eq!(rt; (f.product(3, 3), f.product(4, 4)), (2, 6));
+    assert_eq!(rt; (f.inverse(3), f.inverse(4)), (Some(6), Some(5)));
+    assert_eq!(rt; f.frobenius_root(4), 7);
+    Ok(())
 }
 
 /// The negative of 1/2, with 0 in the place of 1/0, and whether it is 1/2.

@@ -1,6 +1,6 @@
-mod Words
+pub mod Words
 mod Places
-mod Lines
+pub mod Lines
 mod Filling
 mod Fields
 mod Entries

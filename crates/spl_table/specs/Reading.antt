@@ -1,4 +1,5 @@
 -- The text of a table, read on lists: the lines before the entries, an entry, the entries one after the other, and all.
+-- Contracts of private functions alone cite it; what a text says to a caller is in TableText.
 use Rattle.std.specs.Prelude.{◌≡◌, ℕ, ◌+◌, ◌-◌, ◌*◌, ◌%◌, ◌<◌, Bool, true, false, not, ◌==◌, ◌&&◌, nat_eq, nat_lt, nat_le, slice_index, length, if◌then◌else◌, List, [], ◌∷◌, codes, Option, Some, None}
 use Rattle.std.specs.Bool.{then_some}
 use Rattle.std.specs.List.{slice_split}

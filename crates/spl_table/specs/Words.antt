@@ -1,4 +1,5 @@
 -- The words of a text, read on lists: each reader gives what is spelled at the front, or as a whole, where something is.
+-- Contracts of private functions alone cite it.
 use Rattle.std.specs.Prelude.{◌≡◌, ℕ, ◌+◌, Bool, not, ◌==◌, ◌&&◌, ◌||◌, nat_eq, nat_lt, nat_le, List, length, take, drop, slice_index, Option, Some, None, option_and_then, position}
 use Rattle.std.specs.Bool.{then_some}
 use Rattle.std.specs.Str.{all_ascii_digits}

@@ -1,6 +1,5 @@
 // Tables.
 ghost use Rattle.std.specs.Prelude.{◌≡◌, ◌≢◌, ℕ, ◌*◌, ◌%◌, ◌<◌, ◌≤◌, length, slice_index, IfOk};
-ghost use Rattle.spl_field.specs.FieldByDigits.{digit_sum};
 
 use spl_algebra::algebra::Algebra;
 use spl_field::field::NoMemory;
@@ -20,12 +19,12 @@ pub struct Table {
     ghost characteristic_apart: { degree % field.p ≢ 0 },
     ghost dim: { algebra.dim ≡ degree * degree },
     ghost count: { length algebra.constants ≡ algebra.dim * algebra.dim * algebra.dim },
-    ghost over: { (s : ℕ) → s < length algebra.constants → (slice_index algebra.constants s < field.p) },
+    ghost over: { (s : ℕ) → s < length algebra.constants → (slice_index algebra.constants s < field.size) },
 }
 
 impl Table {
     ghost use Rattle.spl_algebra.specs.Algebra.{IsOver};
-    ghost use Rattle.spl_field.specs.SmallField.{characteristic};
+    ghost use Rattle.spl_field.specs.SmallField.{characteristic, size_of};
     ghost use Rattle.spl_table.specs.Table.{field_of, degree_of, algebra_of, ops_of};
 
     /// The table of a field, a degree and constants, which are taken as elements of the field.
@@ -39,7 +38,7 @@ impl Table {
         requires high { degree ≤ 5 }
         requires apart { degree % characteristic field ≢ 0 }
         requires full { length constants.items ≡ degree * degree * (degree * degree) * (degree * degree) }
-        requires below { (s : ℕ) → s < length constants.items → slice_index constants.items s < characteristic field }
+        requires below { (s : ℕ) → s < length constants.items → slice_index constants.items s < size_of field }
         ensures field { IfOk result (λ t. field_of t ≡ field) }
         ensures degree { IfOk result (λ t. degree_of t ≡ degree) }
         ensures algebra { IfOk result (λ t. algebra_of t ≡ record { dim = degree * degree; constants = constants.items }) }

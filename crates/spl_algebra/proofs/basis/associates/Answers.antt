@@ -1,4 +1,4 @@
-use Rattle.std.proofs.Common.{◌≡◌, ◌*◌, ◌-◌, length, take, drop, List, sym, ◌∙◌, ap}
+use Rattle.std.proofs.Common.{◌≡◌, ◌*◌, length, sym, ◌∙◌, ap}
 use Rattle.std.proofs.lemmas.List.{take_rest, length-drop}
 use Rattle.theory_rings.specs.Sum.{table}
 use Rattle.theory_spaces.specs.Tuples.{product, basis}

@@ -1,7 +1,6 @@
-use Rattle.std.proofs.Common.{◌≡◌, ◌<◌, ◌*◌, ◌+◌, ◌-◌, ◌++◌, length, take, drop, refl, sym, ◌∙◌, ap, arith}
+use Rattle.std.proofs.Common.{◌≡◌, ◌<◌, ◌*◌, ◌-◌, length, take, drop, sym, ◌∙◌, ap, arith}
 use Rattle.std.proofs.lemmas.List.{take_at, take_rest, length-drop}
 use Rattle.theory_rings.specs.Sum.{at}
-use Rattle.spl_algebra.specs.Products.{AddsEach, scaled_rows}
 use Rattle.spl_algebra.proofs.Terms.{read-at}
 use Rattle.spl_algebra.proofs.Rows.{row_end-le_rest, parts-none, parts-more, parts-skip, parts-all}
 use Rattle.spl_algebra.proofs.products.product_of_slices.Goals as goal

@@ -1,12 +1,9 @@
-use Rattle.std.proofs.Common.{◌≡◌, ◌≢◌, ◌*◌, ◌%◌, rules, tests, arith}
-use Rattle.std.proofs.lemmas.Iterator.{first_from_Range}
-use Rattle.spl_field.proofs.FieldByDigits.{IsInverse-first}
+use Rattle.std.proofs.Common.{◌<◌, arith, subst, sym}
+use Rattle.theory_rings.proofs.FiniteFields.FieldByDigits.{product_unique}
 use Rattle.spl_field.proofs.admission.inverse_of.Goals as goal
 
 pub returns : goal.returns
-returns c =
-    let a = c.args.a in
-    let p = c.args.p in
-    IsInverse-first p c.args.modulus.now a c.find.result _
-    (first_from_Range _ _ _ _ (λ b. (a * b) % p ≡ 1) (λ b. (a * b) % p ≢ 1) c.find.ensures.ran
-    (λ x q k. grind (arith, tests)) (λ x q k. (search rules, grind (arith, tests))))
+returns c = λ (b, i).
+    let below : b < c.args.size = subst (λ n. b < n) (sym c.requires.size) i.element in
+    c.loop-b.invariant b (omega arith)
+    (product_unique c.args.p c.requires.fits.least c.args.modulus.now c.args.a b _ 1 (c.product_row-row.ensures b below) i.product_one)

@@ -1,9 +1,10 @@
-use Rattle.std.proofs.Common.{◌≡◌, ℕ, ◌*◌, ◌%◌, ◌<◌, length, get_or}
+use Rattle.std.proofs.Common.{◌≡◌, ℕ, ◌<◌, length, get_or}
+use Rattle.theory_rings.specs.FieldByDigits.{IsProductByDigits}
 use Rattle.spl_field.proofs.tables.inverse_table.Given as goal
 
 abbrev pub invariant-loop-a : goal.invariant-loop-a
 invariant-loop-a l = record {
   full : length l.table.items ≡ l.a;
-  elements : (k : ℕ) → k < l.a → get_or l.table.items k 0 < l.p;
-  entries : (k : ℕ) → k < l.a → 0 < k → (k * get_or l.table.items k 0) % l.p ≡ 1;
+  elements : (k : ℕ) → k < l.a → get_or l.table.items k 0 < l.size;
+  entries : (k : ℕ) → k < l.a → 0 < k → IsProductByDigits l.p l.modulus k (get_or l.table.items k 0) 1;
 }

@@ -1,8 +1,10 @@
-use Rattle.std.proofs.Common.{◌≡◌, ℕ, ◌-◌, ◌%◌, ◌<◌, length, get_or}
+use Rattle.std.proofs.Common.{◌≡◌, ℕ, ◌<◌, length, get_or}
+use Rattle.theory_rings.specs.FieldByDigits.{IsSumByDigits}
 use Rattle.spl_field.proofs.tables.negative_table.Given as goal
 
 abbrev pub invariant-loop-a : goal.invariant-loop-a
 invariant-loop-a l = record {
   full : length l.table.items ≡ l.a;
-  entries : (k : ℕ) → k < l.a → get_or l.table.items k 0 ≡ (l.p - k) % l.p;
+  elements : (k : ℕ) → k < l.a → get_or l.table.items k 0 < l.size;
+  entries : (k : ℕ) → k < l.a → IsSumByDigits l.p l.modulus k (get_or l.table.items k 0) 0;
 }

@@ -1,0 +1,7 @@
+use Rattle.std.proofs.Common.{◌-◌, ◌%◌}
+use Rattle.theory_rings.specs.Digits.{digit}
+use Rattle.spl_field.proofs.DigitLoops.{IsPartial}
+use Rattle.spl_field.proofs.digits.negative_by_digits.Given as goal
+
+abbrev pub invariant-loop-k : goal.invariant-loop-k
+invariant-loop-k l = IsPartial l.p l._k l.place l.total (λ k. (l.p - digit l.p l.a k) % l.p)
