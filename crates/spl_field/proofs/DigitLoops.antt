@@ -1,11 +1,11 @@
 -- A loop that adds the digits of a number one by one, each times its place.
-use Rattle.std.specs.Prelude.{◌≡◌, ℕ, zero, suc, ◌+◌, ◌-◌, ◌*◌, ◌/◌, ◌%◌, ◌^◌, ◌<◌, ◌≤◌, List, length, get_or, All}
+use Rattle.std.specs.Prelude.{◌≡◌, ℕ, suc, ◌+◌, ◌*◌, ◌%◌, ◌^◌, ◌<◌, ◌≤◌, List, length, get_or}
 use Rattle.std.proofs.Common.{refl, sym, ◌∙◌, ap, ap₂, arith, add-one}
-use Rattle.std.proofs.Math.Nat.{pow-zero, pow-suc, one-le-pow, pow-le-pow_right, mul-le-mul_right, mul-le-mul}
+use Rattle.std.proofs.Math.Nat.{pow-zero, pow-suc, one-le-pow, pow-le-pow_right, mul-le-mul_right}
 use Rattle.std.proofs.lemmas.List.Elements.{All-get_or}
 use Rattle.std.proofs.lemmas.Nat.{mod_below}
-use Rattle.theory_rings.specs.Digits.{digit, of_digits}
-use Rattle.theory_rings.proofs.Numbers.Digits.{digit_lt, digit_past, digit-suc, digit-of_digits, of_digits_lt, le_pow_self}
+use Rattle.theory_rings.specs.Digits.{of_digits}
+use Rattle.theory_rings.proofs.Numbers.Digits.{of_digits_lt, le_pow_self}
 use Rattle.spl_field.specs.FieldByDigits.{FitsField}
 
 -- before digit k the place is p ^ k, and the total has the digits before it

@@ -1,5 +1,5 @@
 -- Tables of the answers of a field of q elements, which are the numbers below q. A table of two places goes row by row.
-use Rattle.std.specs.Prelude.{◌≡◌, ℕ, ◌+◌, ◌*◌, ◌<◌, List, length, slice_index, nat_lt, nat_eq}
+use Rattle.std.specs.Prelude.{ℕ, ◌+◌, ◌*◌, ◌<◌, List, slice_index, nat_lt, nat_eq}
 use Rattle.theory_rings.specs.Ops.{Ops}
 use Rattle.theory_rings.specs.Power.{power_by_ops}
 use Rattle.theory_rings.specs.FieldByDigits.{IsSumByDigits, IsProductByDigits}

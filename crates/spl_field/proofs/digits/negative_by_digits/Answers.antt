@@ -1,9 +1,8 @@
-use Rattle.std.proofs.Common.{◌≡◌, ℕ, ◌+◌, ◌-◌, ◌*◌, ◌/◌, ◌%◌, ◌^◌, ◌<◌, ◌≤◌, length, arith, subst}
+use Rattle.std.proofs.Common.{◌-◌, ◌/◌, ◌%◌, ◌^◌, ◌<◌, length, arith, subst}
 use Rattle.theory_rings.specs.Digits.{digit}
-use Rattle.theory_rings.specs.FieldByDigits.{IsSumByDigits, IsProductByDigits}
-use Rattle.spl_field.proofs.DigitLoops.{StaysSmall, stays_small_mod, IsPartial-last, p_le}
+use Rattle.theory_rings.specs.FieldByDigits.{IsSumByDigits}
+use Rattle.spl_field.proofs.DigitLoops.{stays_small_mod, IsPartial-last}
 use Rattle.std.proofs.lemmas.Nat.{mod_below}
-use Rattle.theory_rings.specs.Digits.{of_digits}
 use Rattle.theory_rings.proofs.Numbers.Digits.{of_digits_lt}
 use Rattle.theory_rings.proofs.FiniteFields.FieldByDigits.{neg_by_digits}
 use Rattle.spl_field.proofs.digits.negative_by_digits.Goals as goal

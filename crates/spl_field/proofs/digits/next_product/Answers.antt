@@ -1,4 +1,4 @@
-use Rattle.std.proofs.Common.{◌<◌, subst, arith}
+use Rattle.std.proofs.Common.{◌<◌, subst}
 use Rattle.spl_field.proofs.NextProduct.{product_at_zero, product_by_t, product_by_sum}
 use Rattle.spl_field.proofs.digits.next_product.Goals as goal
 

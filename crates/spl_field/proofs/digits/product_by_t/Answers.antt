@@ -1,7 +1,7 @@
-use Rattle.std.proofs.Common.{◌≡◌, ℕ, ◌+◌, ◌-◌, ◌*◌, ◌/◌, ◌%◌, ◌^◌, ◌<◌, ◌≤◌, length, get_or, arith, subst}
+use Rattle.std.proofs.Common.{◌+◌, ◌-◌, ◌*◌, ◌/◌, ◌%◌, ◌<◌, length, get_or, arith, subst}
 use Rattle.theory_rings.specs.Digits.{digit}
-use Rattle.theory_rings.specs.FieldByDigits.{IsSumByDigits, IsProductByDigits}
-use Rattle.spl_field.proofs.DigitLoops.{StaysSmall, stays_small_mod, IsPartial-last, IsPartial-next, p_le}
+use Rattle.theory_rings.specs.FieldByDigits.{IsProductByDigits}
+use Rattle.spl_field.proofs.DigitLoops.{stays_small_mod, IsPartial-last, IsPartial-next}
 use Rattle.spl_field.proofs.TimesT.{digit_by_t, digit_by_t_value, moved_le, times_last_le, digit_le, product_by_t_digits}
 use Rattle.spl_field.proofs.digits.product_by_t.Goals as goal
 

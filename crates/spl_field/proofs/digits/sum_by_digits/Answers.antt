@@ -1,7 +1,7 @@
-use Rattle.std.proofs.Common.{◌≡◌, ℕ, ◌+◌, ◌-◌, ◌*◌, ◌/◌, ◌%◌, ◌^◌, ◌<◌, ◌≤◌, length, arith, subst}
+use Rattle.std.proofs.Common.{◌+◌, ◌/◌, ◌%◌, arith, subst}
 use Rattle.theory_rings.specs.Digits.{digit}
-use Rattle.theory_rings.specs.FieldByDigits.{IsSumByDigits, IsProductByDigits}
-use Rattle.spl_field.proofs.DigitLoops.{StaysSmall, stays_small_mod, IsPartial-last, p_le}
+use Rattle.theory_rings.specs.FieldByDigits.{IsSumByDigits}
+use Rattle.spl_field.proofs.DigitLoops.{stays_small_mod, IsPartial-last, p_le}
 use Rattle.std.proofs.lemmas.Nat.{mod_below}
 use Rattle.theory_rings.proofs.FiniteFields.FieldByDigits.{sum_by_digits}
 use Rattle.spl_field.proofs.digits.sum_by_digits.Goals as goal

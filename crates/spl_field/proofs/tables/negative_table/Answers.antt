@@ -1,4 +1,4 @@
-use Rattle.std.proofs.Common.{◌≡◌, ℕ, ◌^◌, ◌<◌, List, [], ◌∷◌, ◌++◌, length, ap, arith, subst, sym, length-append}
+use Rattle.std.proofs.Common.{◌≡◌, ℕ, ◌<◌, List, [], ◌∷◌, ◌++◌, length, ap, arith, subst, sym, length-append}
 use Rattle.theory_rings.specs.FieldByDigits.{IsSumByDigits}
 use Rattle.spl_field.proofs.Rows.{get_or-more}
 use Rattle.spl_field.proofs.tables.negative_table.Goals as goal

@@ -1,4 +1,4 @@
-use Rattle.std.proofs.Common.{◌≡◌, ◌+◌, ◌*◌, ◌<◌, ap₂, length, arith, subst, subst₂, sym}
+use Rattle.std.proofs.Common.{◌≡◌, ◌+◌, ◌*◌, ◌<◌, ap₂, subst, subst₂, sym}
 use Rattle.std.proofs.lemmas.Nat.{mul-add-lt}
 use Rattle.theory_rings.specs.FieldByDigits.{IsProductByDigits}
 use Rattle.spl_field.specs.TableField.{product_of_merely}
