@@ -1,0 +1,3 @@
+pub mod Trimming
+pub mod Coefficients
+pub mod LongSteps
