@@ -1,3 +1,5 @@
 pub mod Trimming
 pub mod Coefficients
 pub mod LongSteps
+pub mod Writes
+pub mod PowerRemainders

@@ -23,8 +23,9 @@ IsTrimmed_of_last (x ∷ y ∷ ys) h = IsTrimmed_of_last (y ∷ ys) (λ l e. h (
 
 pub last-ne-zero_of_pos : (xs : List ℕ) → IsTrimmed 0 xs → 0 < length xs → get_or xs (length xs - 1) 0 ≢ 0
 last-ne-zero_of_pos [] t l = absurd (omega arith)
-last-ne-zero_of_pos (x ∷ xs) t l e =
-    last-ne-zero 0 x xs t (let p : suc (length xs) - 1 ≡ length xs = omega arith in ap (λ i. get_or (x ∷ xs) i 0) (sym p) ∙ e)
+last-ne-zero_of_pos (x ∷ xs) t l =
+    let p : suc (length xs) - 1 ≡ length xs = omega arith in
+    λ e. last-ne-zero 0 x xs t (ap (λ i. get_or (x ∷ xs) i 0) (sym p) ∙ e)
 
 -- a trimmed list with the items of another is that one without its zeros
 pub without_zeros_unique : (xs ys : List ℕ) → IsTrimmed 0 ys → ((k : ℕ) → get_or ys k 0 ≡ get_or xs k 0) → ys ≡ without_zeros xs
@@ -48,6 +49,19 @@ module _ (xs : List ℕ) (n : ℕ) (within : n ≤ length xs) (past : (k : ℕ) 
       (λ (l : k < n). get_or-take n xs k 0 l)
       (λ (l : n ≤ k). get_or_past (take n xs) k 0 (omega (arith, cut)) ∙ sym (past k l))
       (cases_lt k n))
+
+  -- the same, for a list that is such a beginning
+  pub IsTrimmed-cut : (ys : List ℕ) → ys ≡ take n xs → IsTrimmed 0 ys
+  IsTrimmed-cut ys e = subst (IsTrimmed 0) (sym e) IsTrimmed-take
+
+  pub cut-without_zeros : (ys zs : List ℕ) → zs ≡ xs → ys ≡ take n xs → ys ≡ without_zeros zs
+  cut-without_zeros ys zs ez e = e ∙ take-without_zeros ∙ ap without_zeros (sym ez)
+
+pub get_or-without_zeros : (xs : List ℕ) (k : ℕ) → get_or (without_zeros xs) k 0 ≡ get_or xs k 0
+get_or-without_zeros xs k = get_or-trim number_test xs k
+
+pub IsTrimmed-without_zeros : (xs : List ℕ) → IsTrimmed 0 (without_zeros xs)
+IsTrimmed-without_zeros xs = IsTrimmed-trim number_test xs
 
 -- items that are 0 from n on bound the length
 pub length_le_of_zeros : (xs : List ℕ) (n : ℕ) → IsTrimmed 0 xs → ((k : ℕ) → n ≤ k → get_or xs k 0 ≡ 0) → length xs ≤ n

@@ -38,6 +38,10 @@ module _ {E : Type 0} (o : Ops E) where
   abbrev pub IsDivision : List E → List E → List E → List E → Type 0
   IsDivision a b q r = IsDivisionOf (at o a) b q r
 
+  -- r is the remainder of the product of a and b by m
+  abbrev pub IsProductRemainder : List E → List E → List E → List E → Type 0
+  IsProductRemainder a b m r = (q : List E) × IsOver q × IsDivisionOf (convolution_of o (at o a) (at o b)) m q r
+
   -- the coefficients of the power with exponent n
   abbrev pub power_coefficients : List E → ℕ → ℕ → E
   power_coefficients a n = power_by_ops (constant_coefficients o.zero o.one) (convolution_of o) (at o a) n

@@ -3,7 +3,7 @@ ghost use Rattle.std.specs.Prelude.{◌≡◌, ◌≢◌, ◌↔◌, ℕ, suc, �
 ghost use Rattle.theory_rings.specs.Ops.{Ops};
 ghost use Rattle.theory_rings.specs.Polynomial.{IsTrimmed};
 ghost use Rattle.spl_field.specs.SmallField.{small_ops};
-ghost use Rattle.spl_poly.specs.Operations.{IsOver, IsSum, IsProduct, IsDivision, IsPowerRemainder, IsMonicOf, without_zeros};
+ghost use Rattle.spl_poly.specs.Operations.{IsOver, IsSum, IsProduct, IsDivision, IsProductRemainder, IsPowerRemainder, IsMonicOf, without_zeros};
 ghost use Rattle.spl_poly.specs.Order.{poly_cmp};
 
 use crate::elements::{inverse, know_laws};
@@ -52,6 +52,8 @@ fn zeros(alloc: Global, n: usize) -> Result<SmallVec<u8, 16>, NoMemory>
 fn without_zeros_at_end(mut c: SmallVec<u8, 16>) -> Poly
     ensures value { result ≡ without_zeros c.items }
     ensures trimmed { IsTrimmed 0 result }
+    ensures same { (k : ℕ) → slice_index result k ≡ slice_index c.items k }
+    ensures over { (o : Ops ℕ) → IsOver o c.items → IsOver o result }
 {
     let n = len_without_zeros(c.as_slice());
     c.truncate(n);
@@ -175,15 +177,52 @@ impl Poly {
         ensures trimmed { IfOk result (IsTrimmed 0) }
     {
         know_laws(f);
+        if self.coefficients.len() < modulus.coefficients.len() {
+            self.rest_of_power(alloc, f, exponent, modulus)
+        } else {
+            let base = self.divide(alloc, f, modulus)?.remainder;
+            base.rest_of_power(alloc, f, exponent, modulus)
+        }
+    }
+
+    /// The same, by squaring the power with half of the exponent.
+    fn rest_of_power(&self, alloc: Global, f: &SmallField, exponent: u64, modulus: &Poly) -> Result<Poly, NoMemory>
+        requires self_over { IsOver (small_ops f.now) self.now }
+        requires self_trimmed { IsTrimmed 0 self.now }
+        requires modulus_over { IsOver (small_ops f.now) modulus.now }
+        requires modulus_trimmed { IsTrimmed 0 modulus.now }
+        requires modulus_degree { 1 < length modulus.now }
+        ensures value { IfOk result (IsPowerRemainder (small_ops f.now) self.now exponent modulus.now) }
+        ensures over { IfOk result (IsOver (small_ops f.now)) }
+        ensures trimmed { IfOk result (IsTrimmed 0) }
+    {
+        know_laws(f);
         if exponent == 0 {
             return Poly::from_slice(alloc, &[1]);
         }
-        let half = self.pow_mod(alloc, f, exponent / 2, modulus)?;
-        let square = half.mul(alloc, f, &half)?.divide(alloc, f, modulus)?.remainder;
+        let half = self.rest_of_power(alloc, f, exponent / 2, modulus)?;
+        let square = half.product_rest(alloc, f, &half, modulus)?;
         if exponent % 2 == 0 {
             return Ok(square);
         }
-        Ok(square.mul(alloc, f, self)?.divide(alloc, f, modulus)?.remainder)
+        square.product_rest(alloc, f, self, modulus)
+    }
+
+    /// The remainder of a product.
+    fn product_rest(&self, alloc: Global, f: &SmallField, b: &Poly, modulus: &Poly) -> Result<Poly, NoMemory>
+        requires self_over { IsOver (small_ops f.now) self.now }
+        requires self_trimmed { IsTrimmed 0 self.now }
+        requires b_over { IsOver (small_ops f.now) b.now }
+        requires b_trimmed { IsTrimmed 0 b.now }
+        requires modulus_over { IsOver (small_ops f.now) modulus.now }
+        requires modulus_trimmed { IsTrimmed 0 modulus.now }
+        requires modulus_degree { 1 < length modulus.now }
+        ensures value { IfOk result (IsProductRemainder (small_ops f.now) self.now b.now modulus.now) }
+        ensures over { IfOk result (IsOver (small_ops f.now)) }
+        ensures trimmed { IfOk result (IsTrimmed 0) }
+    {
+        let product = self.mul(alloc, f, b)?;
+        Ok(product.divide(alloc, f, modulus)?.remainder)
     }
 
     /// An equal polynomial. The one fault is want of memory.
