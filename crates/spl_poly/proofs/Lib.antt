@@ -3,3 +3,5 @@ pub mod Coefficients
 pub mod LongSteps
 pub mod Writes
 pub mod PowerRemainders
+pub mod Results
+pub mod Orders

@@ -7,7 +7,7 @@ ghost use Rattle.spl_poly.specs.Operations.{IsOver, IsSum, IsProduct, IsDivision
 ghost use Rattle.spl_poly.specs.Order.{poly_cmp};
 
 use crate::elements::{inverse, know_laws};
-use crate::rows::{add_row, divide_row, len_without_zeros, scale_row, write_product};
+use crate::rows::{add_row, divide_row, len_without_zeros, order_of_rows, scale_row, write_product};
 use smallvec::SmallVec;
 use spl_field::field::NoMemory;
 use spl_field::small::SmallField;
@@ -60,6 +60,20 @@ fn without_zeros_at_end(mut c: SmallVec<u8, 16>) -> Poly
     Poly { coefficients: c }
 }
 
+/// The sum of two rows of coefficients, the longer one first.
+fn sum_of_rows(alloc: Global, f: &SmallField, long: &[u8], short: &[u8]) -> Result<Poly, NoMemory>
+    requires long_over { IsOver (small_ops f.now) long.now }
+    requires short_over { IsOver (small_ops f.now) short.now }
+    requires longer { length short.now ≤ length long.now }
+    ensures value { IfOk result (IsSum (small_ops f.now) long.now short.now) }
+    ensures over { IfOk result (IsOver (small_ops f.now)) }
+    ensures trimmed { IfOk result (IsTrimmed 0) }
+{
+    let mut c = SmallVec::from_slice(alloc, long)?;
+    add_row(f, c.as_mut_slice(), short);
+    Ok(without_zeros_at_end(c))
+}
+
 impl Poly {
     /// The polynomial with these coefficients, lowest first; zeros at the end are dropped. A slice of at most 16 takes no
     /// memory.
@@ -100,10 +114,11 @@ impl Poly {
         know_laws(f);
         let x = self.coefficients.as_slice();
         let y = b.coefficients.as_slice();
-        let (long, short) = if x.len() < y.len() { (y, x) } else { (x, y) };
-        let mut c = SmallVec::from_slice(alloc, long)?;
-        add_row(f, c.as_mut_slice(), short);
-        Ok(without_zeros_at_end(c))
+        if x.len() < y.len() {
+            Ok(sum_of_rows(alloc, f, y, x)?)
+        } else {
+            Ok(sum_of_rows(alloc, f, x, y)?)
+        }
     }
 
     /// The product.
@@ -178,10 +193,10 @@ impl Poly {
     {
         know_laws(f);
         if self.coefficients.len() < modulus.coefficients.len() {
-            self.rest_of_power(alloc, f, exponent, modulus)
+            Ok(self.rest_of_power(alloc, f, exponent, modulus)?)
         } else {
             let base = self.divide(alloc, f, modulus)?.remainder;
-            base.rest_of_power(alloc, f, exponent, modulus)
+            Ok(base.rest_of_power(alloc, f, exponent, modulus)?)
         }
     }
 
@@ -198,14 +213,14 @@ impl Poly {
     {
         know_laws(f);
         if exponent == 0 {
-            return Poly::from_slice(alloc, &[1]);
+            return Ok(Poly::from_slice(alloc, &[1])?);
         }
         let half = self.rest_of_power(alloc, f, exponent / 2, modulus)?;
         let square = half.product_rest(alloc, f, &half, modulus)?;
         if exponent % 2 == 0 {
             return Ok(square);
         }
-        square.product_rest(alloc, f, self, modulus)
+        Ok(square.product_rest(alloc, f, self, modulus)?)
     }
 
     /// The remainder of a product.
@@ -266,6 +281,9 @@ impl Poly {
     {
         let x = self.coefficients.as_slice();
         let y = b.coefficients.as_slice();
-        x.len().cmp(&y.len()).then(x.iter().rev().cmp(y.iter().rev()))
+        if x.len() != y.len() {
+            return x.len().cmp(&y.len());
+        }
+        order_of_rows(x, y)
     }
 }

@@ -1,5 +1,7 @@
 // What is computed in place on slices of coefficients.
-ghost use Rattle.std.specs.Prelude.{◌≡◌, ◌≢◌, ℕ, ◌+◌, ◌-◌, ◌<◌, ◌≤◌, length, slice_index, All};
+ghost use Rattle.std.specs.Prelude.{◌≡◌, ◌≢◌, ℕ, ◌+◌, ◌-◌, ◌<◌, ◌≤◌, length, reverse, slice_index};
+ghost use Rattle.std.specs.Ordering.{nat_cmp};
+ghost use Rattle.std.specs.Cmp.Lexicographic.{slice_cmp};
 ghost use Rattle.theory_rings.specs.Ops.{IsElem};
 ghost use Rattle.theory_rings.specs.Sum.{at};
 ghost use Rattle.theory_rings.specs.Polynomial.{convolution_of};
@@ -8,6 +10,7 @@ ghost use Rattle.spl_poly.specs.Operations.{IsOver};
 
 use crate::elements::{know_laws, negative, product, sum};
 use spl_field::small::SmallField;
+use std::cmp::Ordering;
 
 /// The number of coefficients without the zeros at the end.
 pub(crate) fn len_without_zeros(c: &[u8]) -> usize
@@ -123,4 +126,17 @@ pub(crate) fn divide_row(f: &SmallField, q: &mut [u8], r: &mut [u8], by: &[u8], 
         q[s] = c;
         add_scaled_row(f, r, s, negative(f, c), by);
     }
+}
+
+/// The order of rows of one length, by the numbers from the end down.
+pub(crate) fn order_of_rows(x: &[u8], y: &[u8]) -> Ordering
+    requires { length x.now ≡ length y.now }
+    ensures { result ≡ slice_cmp nat_cmp (reverse x.now) (reverse y.now) }
+{
+    for i in (0..x.len()).rev() {
+        if x[i] != y[i] {
+            return x[i].cmp(&y[i]);
+        }
+    }
+    Ordering::Equal
 }
