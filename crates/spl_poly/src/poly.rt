@@ -7,7 +7,9 @@ ghost use Rattle.spl_poly.specs.Operations.{IsOver, IsSum, IsProduct, IsDivision
 ghost use Rattle.spl_poly.specs.Order.{poly_cmp};
 
 use crate::elements::{inverse, know_laws};
-use crate::rows::{add_row, divide_row, len_without_zeros, order_of_rows, scale_row, write_product};
+use crate::rows::{
+    add_row, divide_row, len_without_zeros, order_of_rows, scale_row, write_product,
+};
 use smallvec::SmallVec;
 use spl_field::field::NoMemory;
 use spl_field::small::SmallField;
@@ -183,7 +185,13 @@ impl Poly {
     }
 
     /// The remainder of a power by a modulus of degree at least 1.
-    pub fn pow_mod(&self, alloc: Global, f: &SmallField, exponent: u64, modulus: &Poly) -> Result<Poly, NoMemory>
+    pub fn pow_mod(
+        &self,
+        alloc: Global,
+        f: &SmallField,
+        exponent: u64,
+        modulus: &Poly,
+    ) -> Result<Poly, NoMemory>
         requires self_over { IsOver (small_ops f.now) self.now }
         requires modulus_over { IsOver (small_ops f.now) modulus.now }
         requires modulus_degree { 1 < length modulus.now }
@@ -201,7 +209,13 @@ impl Poly {
     }
 
     /// The same, by squaring the power with half of the exponent.
-    fn rest_of_power(&self, alloc: Global, f: &SmallField, exponent: u64, modulus: &Poly) -> Result<Poly, NoMemory>
+    fn rest_of_power(
+        &self,
+        alloc: Global,
+        f: &SmallField,
+        exponent: u64,
+        modulus: &Poly,
+    ) -> Result<Poly, NoMemory>
         requires self_over { IsOver (small_ops f.now) self.now }
         requires self_trimmed { IsTrimmed 0 self.now }
         requires modulus_over { IsOver (small_ops f.now) modulus.now }
@@ -224,7 +238,13 @@ impl Poly {
     }
 
     /// The remainder of a product.
-    fn product_rest(&self, alloc: Global, f: &SmallField, b: &Poly, modulus: &Poly) -> Result<Poly, NoMemory>
+    fn product_rest(
+        &self,
+        alloc: Global,
+        f: &SmallField,
+        b: &Poly,
+        modulus: &Poly,
+    ) -> Result<Poly, NoMemory>
         requires self_over { IsOver (small_ops f.now) self.now }
         requires self_trimmed { IsTrimmed 0 self.now }
         requires b_over { IsOver (small_ops f.now) b.now }

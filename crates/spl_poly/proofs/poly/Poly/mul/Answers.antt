@@ -17,7 +17,7 @@ returns-clause-value c k =
     let len : length out ≡ length c.in_ok-c.c.items = omega (arith, c.write_product.auto.out, ap length c.as_mut_slice.ensures.value) in
     product_done o c.know_laws.ensures c.as_slice-x.result.now c.as_slice-y.result.now out c.without_zeros_at_end.result
     (subst (IsOver o) ex c.requires.self_over) (subst (IsOver o) ey c.requires.b_over)
-    (omega (arith, len, ap length c.in_ok-c.ensures, length-replicate c.saturating_sub.result 0, c.saturating_sub.ensures))
+    (omega (arith, len, ap length c.in_ok-c.ensures, length-replicate {A = ℕ} c.saturating_sub.result 0, c.saturating_sub.ensures))
     (λ i l. c.write_product.ensures.value i (omega (arith, l, c.write_product.auto.out)))
     (λ i. c.without_zeros_at_end.ensures.same i ∙ ap (λ l. get_or l i 0) (refill_same c.in_ok-c.c.items out len)) k
     ∙ ap₂ (λ a b. convolution_of o (at o a) (at o b) k) (sym ex) (sym ey)
