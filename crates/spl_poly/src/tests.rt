@@ -1,6 +1,5 @@
 // The calls at values from outside.
-ghost use Rattle.std.specs.Prelude.{IfOk};
-ghost use Rattle.theory_rings.specs.Polynomial.{IsTrimmed};
+ghost use Rattle.std.specs.Prelude.{◌≢◌, ◌<◌, [], length, IfOk};
 ghost use Rattle.spl_field.specs.SmallField.{small_ops};
 ghost use Rattle.spl_poly.specs.Operations.{IsOver};
 
@@ -15,8 +14,7 @@ use std::test::Fail;
 
 /// The polynomial with these elements of the field.
 fn poly(rt: &impl Abort, alloc: Global, f: &SmallField, c: &[u8]) -> Result<Poly, NoMemory>
-    ensures over { IfOk result (IsOver (small_ops f.now)) }
-    ensures trimmed { IfOk result (IsTrimmed 0) }
+    ensures { IfOk result (IsOver (small_ops f.now)) }
 {
     let size = f.size();
     for x in c {
@@ -25,99 +23,161 @@ fn poly(rt: &impl Abort, alloc: Global, f: &SmallField, c: &[u8]) -> Result<Poly
     Ok(Poly::from_slice(alloc, c)?)
 }
 
-fn same(a: &Poly, b: &Poly) -> bool {
-    order_of(a, b) == Ordering::Equal
+/// Whether these are its coefficients.
+fn is(p: &Poly, want: &[u8]) -> bool {
+    for (i, x) in want.iter().enumerate() {
+        if p.coefficient(i) != Some(x) {
+            return false;
+        }
+    }
+    p.coefficient(want.len()).is_none()
+}
+
+fn adds(
+    rt: &impl Abort,
+    alloc: Global,
+    f: &SmallField,
+    a: &Poly,
+    b: &Poly,
+    want: &[u8],
+) -> Result<(), NoMemory>
+    requires left { IsOver (small_ops f.now) a.now }
+    requires right { IsOver (small_ops f.now) b.now }
+{
+    let sum = a.add(alloc, f, b)?;
+    assert!(rt; is(&sum, want));
+    Ok(())
+}
+
+fn multiplies(
+    rt: &impl Abort,
+    alloc: Global,
+    f: &SmallField,
+    a: &Poly,
+    b: &Poly,
+    want: &[u8],
+) -> Result<(), NoMemory>
+    requires left { IsOver (small_ops f.now) a.now }
+    requires right { IsOver (small_ops f.now) b.now }
+{
+    let product = a.mul(alloc, f, b)?;
+    assert!(rt; is(&product, want));
+    Ok(())
+}
+
+fn divides(
+    rt: &impl Abort,
+    alloc: Global,
+    f: &SmallField,
+    a: &Poly,
+    b: &Poly,
+    quotient: &[u8],
+    remainder: &[u8],
+) -> Result<(), NoMemory>
+    requires left { IsOver (small_ops f.now) a.now }
+    requires right { IsOver (small_ops f.now) b.now }
+{
+    assert!(rt; !b.is_zero());
+    let division = a.divide(alloc, f, b)?;
+    assert!(rt; is(&division.quotient, quotient));
+    assert!(rt; is(&division.remainder, remainder));
+    Ok(())
 }
 
 #[test]
 fn sums_products_and_divisions(rt: HostRuntime) -> Result<(), Fail> {
     let alloc = rt.alloc();
     let f = SmallField::new(alloc, 5, &[0])?;
-    let none: &[u8] = &[];
-    let rows: [[&[u8]; 6]; 3] = [
-        [
-            &[1, 0, 1],
-            &[1, 1],
-            &[2, 1, 1],
-            &[1, 1, 1, 1],
-            &[4, 1],
-            &[2],
-        ],
-        [&[1, 1], &[4, 1], &[0, 2], &[4, 0, 1], &[1], &[2]],
-        [&[1, 1], &[4, 4], none, &[4, 3, 4], &[4], none],
-    ];
-    for [a, b, sum, product, quotient, remainder] in rows {
-        let a = poly(&rt, alloc, &f, a)?;
-        let b = poly(&rt, alloc, &f, b)?;
-        assert!(rt; same(&a.add(alloc, &f, &b)?, &poly(&rt, alloc, &f, sum)?));
-        assert!(rt; same(&a.mul(alloc, &f, &b)?, &poly(&rt, alloc, &f, product)?));
-        assert!(rt; !b.is_zero());
-        let division = a.divide(alloc, &f, &b)?;
-        assert!(rt; same(&division.quotient, &poly(&rt, alloc, &f, quotient)?));
-        assert!(rt; same(&division.remainder, &poly(&rt, alloc, &f, remainder)?));
-    }
+    let line = poly(&rt, alloc, &f, &[1, 1])?;
+    let square = poly(&rt, alloc, &f, &[1, 0, 1])?;
+    let minus = poly(&rt, alloc, &f, &[4, 4])?;
+    adds(&rt, alloc, &f, &line, &minus, &[])?;
+    adds(&rt, alloc, &f, &line, &square, &[2, 1, 1])?;
+    multiplies(&rt, alloc, &f, &square, &line, &[1, 1, 1, 1])?;
+    divides(&rt, alloc, &f, &square, &line, &[4, 1], &[2])?;
+    divides(&rt, alloc, &f, &line, &minus, &[4], &[])?;
+    let other = poly(&rt, alloc, &f, &[4, 1])?;
+    multiplies(&rt, alloc, &f, &line, &other, &[4, 0, 1])?;
+    Ok(())
+}
+
+fn has_power(
+    rt: &impl Abort,
+    alloc: Global,
+    f: &SmallField,
+    a: &Poly,
+    exponent: u64,
+    modulus: &Poly,
+    want: &[u8],
+) -> Result<(), NoMemory>
+    requires left { IsOver (small_ops f.now) a.now }
+    requires right { IsOver (small_ops f.now) modulus.now }
+    requires degree { 1 < length modulus.now }
+{
+    let power = a.pow_mod(alloc, f, exponent, modulus)?;
+    assert!(rt; is(&power, want));
     Ok(())
 }
 
 #[test]
-fn powers_and_monic_forms(rt: HostRuntime) -> Result<(), Fail> {
+fn powers(rt: HostRuntime) -> Result<(), Fail> {
     let alloc = rt.alloc();
     let f = SmallField::new(alloc, 5, &[0])?;
     let x = poly(&rt, alloc, &f, &[0, 1])?;
     let modulus = poly(&rt, alloc, &f, &[1, 0, 1])?;
-    if let Some(1..) = modulus.degree() {
-        for (exponent, want) in [
-            (0, [1, 0]),
-            (1, [0, 1]),
-            (3, [0, 4]),
-            (4, [1, 0]),
-            (65, [0, 1]),
-        ] {
-            let power = x.pow_mod(alloc, &f, exponent, &modulus)?;
-            assert!(rt;
-                same(&power, &poly(&rt, alloc, &f, &want)?),
-                "at {exponent}"
-            );
+    match modulus.degree() {
+        Some(1..) => {
+            has_power(&rt, alloc, &f, &x, 0, &modulus, &[1])?;
+            has_power(&rt, alloc, &f, &x, 3, &modulus, &[0, 4])?;
+            has_power(&rt, alloc, &f, &x, 4, &modulus, &[1])?;
+            has_power(&rt, alloc, &f, &modulus, 2, &modulus, &[])?;
         }
-    } else {
-        assert!(rt; false);
+        _ => assert!(rt; false),
     }
-    let line = poly(&rt, alloc, &f, &[1, 2])?;
-    assert!(rt; !line.is_zero());
-    assert!(rt;
-        same(
-            &line.monic(alloc, &f)?.copy(alloc, &f)?,
-            &poly(&rt, alloc, &f, &[3, 1])?
-        )
-    );
     Ok(())
 }
 
 #[test]
-fn coefficients_and_order(rt: HostRuntime) -> Result<(), Fail> {
+fn monic_forms(rt: HostRuntime) -> Result<(), Fail> {
     let alloc = rt.alloc();
     let f = SmallField::new(alloc, 5, &[0])?;
-    let list = Poly::from_slice(alloc, &[1, 1, 0])?;
-    assert_eq!(rt; list.degree(), Some(1));
-    assert_eq!(rt;
-        (list.coefficient(1), list.coefficient(2)),
-        (Some(&1), None)
-    );
+    let line = poly(&rt, alloc, &f, &[1, 2])?;
+    assert!(rt; !line.is_zero());
+    let monic = line.monic(alloc, &f)?;
+    assert!(rt; is(&monic, &[3, 1]));
+    let copy = monic.copy(alloc, &f)?;
+    assert!(rt; is(&copy, &[3, 1]));
+    Ok(())
+}
+
+#[test]
+fn lists(rt: HostRuntime) -> Result<(), Fail> {
+    let alloc = rt.alloc();
+    let f = SmallField::new(alloc, 5, &[0])?;
+    let line = Poly::from_slice(alloc, &[1, 1, 0])?;
+    assert!(rt; is(&line, &[1, 1]));
+    assert_eq!(rt; line.degree(), Some(1));
     let zero = Poly::from_list(alloc, &f, Vec::new(alloc))?;
     assert!(rt; zero.is_zero());
     assert_eq!(rt; zero.degree(), None);
-    let rows: [[&[u8]; 2]; 4] = [
-        [&[], &[1]],
-        [&[4], &[0, 1]],
-        [&[3, 1], &[1, 2]],
-        [&[4, 1, 1], &[0, 2, 1]],
-    ];
-    for [a, b] in rows {
-        let a = Poly::from_slice(alloc, a)?;
-        let b = Poly::from_slice(alloc, b)?;
-        assert_eq!(rt; order_of(&a, &b), Ordering::Less);
-        assert_eq!(rt; order_of(&b, &a), Ordering::Greater);
-        assert_eq!(rt; order_of(&a, &a), Ordering::Equal);
-    }
+    Ok(())
+}
+
+fn is_below(rt: &impl Abort, alloc: Global, a: &[u8], b: &[u8]) -> Result<(), NoMemory> {
+    let a = Poly::from_slice(alloc, a)?;
+    let b = Poly::from_slice(alloc, b)?;
+    assert_eq!(rt; order_of(&a, &b), Ordering::Less);
+    assert_eq!(rt; order_of(&b, &a), Ordering::Greater);
+    assert_eq!(rt; order_of(&a, &a), Ordering::Equal);
+    Ok(())
+}
+
+#[test]
+fn order(rt: HostRuntime) -> Result<(), Fail> {
+    let alloc = rt.alloc();
+    is_below(&rt, alloc, &[], &[1])?;
+    is_below(&rt, alloc, &[4], &[0, 1])?;
+    is_below(&rt, alloc, &[3, 1], &[1, 2])?;
+    is_below(&rt, alloc, &[4, 1, 1], &[0, 2, 1])?;
     Ok(())
 }
