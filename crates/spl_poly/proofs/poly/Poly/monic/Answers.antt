@@ -1,10 +1,17 @@
-use Rattle.std.proofs.Common.{arith, sym, ◌∙◌, ap, subst, get_or, length, List, ℕ, ◌≡◌}
+use Rattle.std.proofs.Common.{arith, ◌-◌, sym, ◌∙◌, ap, subst, get_or, length, List, ℕ, ◌≡◌}
 use Rattle.theory_rings.specs.Polynomial.{IsTrimmed}
 use Rattle.spl_field.specs.SmallField.{small_ops}
 use Rattle.spl_poly.specs.Operations.{IsOver, IsMonicOf}
 use Rattle.spl_poly.proofs.Trimming.{last-ne-zero_of_pos, length_pos_of_ne, refill_same}
 use Rattle.spl_poly.proofs.Results.{monic_done}
+use Rattle.theory_rings.proofs.Rings.Elements.{at-elem}
 use Rattle.spl_poly.proofs.poly.Poly.monic.Goals as goal
+
+pub inverse-unit-requires-clause-elem : goal.inverse-unit-requires-clause-elem
+inverse-unit-requires-clause-elem c =
+    let o = small_ops c.args.f.now in
+    let ex : c.as_slice-x.result.now ≡ c.args.self.now = c.as_slice-x.ensures ∙ c.self.view_is in
+    at-elem o c.know_laws.ensures c.as_slice-x.result.now (subst (IsOver o) (sym ex) c.requires.over) (length c.as_slice-x.result.now - 1)
 
 pub inverse-unit-requires-clause-nonzero : goal.inverse-unit-requires-clause-nonzero
 inverse-unit-requires-clause-nonzero c =
