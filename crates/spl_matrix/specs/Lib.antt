@@ -1,0 +1,4 @@
+pub mod Echelon
+pub mod Elimination
+pub mod Matrix
+pub mod Solve

@@ -1,0 +1,6 @@
+// Linear algebra over any field: matrices, their reduced row echelon form, and linear systems.
+//
+// It stands on spl_field. Read the type `Matrix` first, then `Echelon` and `Solution`.
+#![tactic(auto)]
+
+pub mod matrix;
