@@ -1,4 +1,4 @@
--- The reduced row echelon form of a matrix, and the matrix that makes it.
+-- The reduced row echelon form of a matrix, and the invertible matrix that makes it.
 use Rattle.std.specs.Prelude.{◌≡◌, ◌+◌, ◌<◌, ◌≤◌, ℕ, List, [], length, get_or, cond, nat_eq}
 use Rattle.theory_rings.specs.Ops.{Ops}
 use Rattle.theory_spaces.specs.Tuples.{IsTuple}
@@ -18,15 +18,16 @@ pub record IsReduced {E : Type 0} (o : Ops E) (h : ℕ) (rows : List (List E)) (
   -- the other rows are 0
   pub rest : (i j : ℕ) → length pivots ≤ i → i < h → j < col → entry o rows i j ≡ o.zero
 
--- some h by h matrix times this one is the identity
-pub record HasLeftInverse {E : Type 0} (o : Ops E) (h : ℕ) (m : List (List E)) : Type 0 where
+-- some h by h matrix is the inverse of this one, on both sides
+pub record IsInvertible {E : Type 0} (o : Ops E) (h : ℕ) (m : List (List E)) : Type 0 where
   pub inverse : List (List E)
   pub shape : IsMatrix o h inverse
   pub height : length inverse ≡ h
   pub inverse-mul : product o h h h inverse m ≡ identity o h
+  pub mul-inverse : product o h h h m inverse ≡ identity o h
 
--- rows is the reduced row echelon form of the h by w matrix a, with these pivots; transform·a = rows, and transform has a
--- left inverse
+-- rows is the reduced row echelon form of the h by w matrix a, with these pivots; transform·a = rows, and transform is
+-- invertible
 pub record IsEchelon {E : Type 0} (o : Ops E) (h w : ℕ) (a rows : List (List E)) (pivots : List ℕ) (transform : List (List E)) : Type 0 where
   pub rows_shape : IsMatrix o w rows
   pub rows_height : length rows ≡ h
@@ -34,4 +35,4 @@ pub record IsEchelon {E : Type 0} (o : Ops E) (h w : ℕ) (a rows : List (List E
   pub transform_height : length transform ≡ h
   pub reduced : IsReduced o h rows pivots w
   pub makes : product o h h w transform a ≡ rows
-  pub invertible : HasLeftInverse o h transform
+  pub invertible : IsInvertible o h transform

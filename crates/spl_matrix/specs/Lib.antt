@@ -2,3 +2,4 @@ pub mod Echelon
 pub mod Elimination
 pub mod Matrix
 pub mod Solve
+pub mod Solution

@@ -17,9 +17,9 @@ module _ {E : Type 0} (o : Ops E) where
     pub kills : (j : ℕ) → j < w → sum_of o h (λ i. o.mul (at o multipliers i) (entry o a i j)) ≡ o.zero
     pub refutes : sum_of o h (λ i. o.mul (at o multipliers i) (at o right i)) ≡ o.one
 
-  -- a system has no solution that is refuted, and the other way round
-  abbrev pub ExactlyOneHolds : Type 0
-  ExactlyOneHolds = (h w : ℕ) (a : List (List E)) (right v multipliers : List E) → IsMatrix o w a → length a ≡ h → IsTuple o h right
+  -- no system has both a solution and multipliers that refute it
+  abbrev pub NotBoth : Type 0
+  NotBoth = (h w : ℕ) (a : List (List E)) (right v multipliers : List E) → IsMatrix o w a
       → IsSolved h w a right v → IsRefuted h w a right multipliers → ⊥
 
   -- the item x at j is that of the pivot s, in column j

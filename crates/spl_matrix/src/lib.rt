@@ -3,4 +3,9 @@
 // It stands on spl_field. Read the type `Matrix` first, then `Echelon` and `Solution`.
 #![tactic(auto)]
 
+pub mod echelon;
+mod elimination;
+pub mod laws;
 pub mod matrix;
+mod rows;
+pub mod solve;

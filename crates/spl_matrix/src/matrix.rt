@@ -1,7 +1,7 @@
 // Matrices, as lists of rows of one length, and lists of indices.
 ghost use Rattle.std.specs.Prelude.{◌≡◌, ◌<◌, ◌≤◌, ◌↔◌, List, [], ◌∷◌, ◌++◌, length, IfOk, IfSome, OnOk, OnErr, slice_index_or, All};
 ghost use Rattle.theory_rings.specs.Ops.{IsElem};
-ghost use Rattle.spl_matrix.specs.Matrix.{width_of, IsRectangular};
+ghost use Rattle.spl_matrix.specs.Matrix.{width_of, trace_of, IsMatrix, IsRectangular};
 
 use spl_field::field::{Field, NoMemory};
 use spl_field::vector::Vector;
@@ -148,4 +148,29 @@ impl<F: Field> Matrix<F> {
         }
         Ok(Matrix { rows })
     }
+
+    /// The sum of the diagonal of a square matrix.
+    pub fn trace(&self, alloc: Global, f: &F) -> Result<F::Elem, NoMemory>
+        requires elems { All (All (IsElem (F.ops f.now))) self.now }
+        requires square { width_of self.now ≡ length self.now }
+        ensures elem { IfOk result (IsElem (F.ops f.now)) }
+        ensures value { IfOk result (λ r. r ≡ trace_of (F.ops f.now) (length self.now) self.now) }
+    {
+        let _ = self.width();
+        diagonal_sum(alloc, f, self.as_slice())
+    }
+}
+
+/// The sum of the diagonal of these rows, each as long as there are rows.
+fn diagonal_sum<F: Field>(alloc: Global, f: &F, rows: &[Vector<F>]) -> Result<F::Elem, NoMemory>
+    requires shape { IsMatrix (F.ops f.now) (length rows.now) rows.now }
+    ensures elem { IfOk result (IsElem (F.ops f.now)) }
+    ensures value { IfOk result (λ r. r ≡ trace_of (F.ops f.now) (length rows.now) rows.now) }
+{
+    let mut sum = f.zero(alloc)?;
+    for i in 0..rows.len() {
+        let row = rows[i].as_slice();
+        sum = f.add(alloc, &sum, &row[i])?;
+    }
+    Ok(sum)
 }
