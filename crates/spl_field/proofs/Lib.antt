@@ -5,3 +5,4 @@ pub mod TimesT
 pub mod NextProduct
 pub mod Inverses
 pub mod Sizes
+pub mod LawOrder

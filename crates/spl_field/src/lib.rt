@@ -7,6 +7,7 @@ pub mod admission;
 pub mod codes;
 mod digits;
 pub mod field;
+pub mod laws;
 pub mod small;
 mod tables;
 #[cfg(test)]

@@ -98,6 +98,7 @@ impl Field for SmallField {
 
 impl SmallField {
     ghost use Rattle.theory_rings.specs.Power.{power_of};
+    ghost use Rattle.spl_field.specs.Laws.{AreTables};
     ghost use Rattle.spl_field.specs.SmallField.{characteristic, size_of, modulus_of, small_ops};
 
     /// Whether p and the modulus give a field: p to the number of digits is 2 to 256, the numbers of the modulus are
@@ -238,8 +239,7 @@ impl SmallField {
     /// The tables of the sums and the products. The one fault is want of memory.
     pub fn tables(&self, alloc: Global) -> Result<Tables, NoMemory>
         ensures size { IfOk result (λ t. t.size ≡ size_of self.now) }
-        ensures sums_full { IfOk result (λ t. length t.sum ≡ size_of self.now * size_of self.now) }
-        ensures products_full { IfOk result (λ t. length t.product ≡ size_of self.now * size_of self.now) }
+        ensures tables { IfOk result (λ t. AreTables t.size t.sum t.product) }
         ensures sums { IfOk result (λ t. (a b : ℕ) → a < size_of self.now → b < size_of self.now
             → slice_index t.sum (a * size_of self.now + b) ≡ (small_ops self.now).add a b) }
         ensures products { IfOk result (λ t. (a b : ℕ) → a < size_of self.now → b < size_of self.now

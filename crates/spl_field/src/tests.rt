@@ -2,7 +2,8 @@
 use crate::admission::FieldFault;
 use crate::codes::Codes;
 use crate::field::{Field, NoMemory};
-use crate::small::SmallField;
+use crate::laws::{LawAt, check_laws};
+use crate::small::{SmallField, Tables};
 use crate::vector::Vector;
 use std::alloc::Global;
 use std::test::Fail;
@@ -65,6 +66,27 @@ fn four_elements(rt: HostRuntime) -> Result<(), Fail> {
         (Some(&1), None)
     );
     assert_eq!(rt; tables.sum.at(6), Some(&3));
+    Ok(())
+}
+
+/// The laws of the tables of 4 elements, and of these with the sums in the place of the products and the other way round.
+#[test]
+fn laws_of_tables(rt: HostRuntime) -> Result<(), Fail> {
+    let f = SmallField::new(rt.alloc(), 2, &[1, 1])?;
+    let good = f.tables(rt.alloc())?;
+    assert_eq!(rt; check_laws(&good), Ok(()));
+    let exchanged = Tables {
+        size: good.size,
+        sum: good.product,
+        product: good.sum,
+    };
+    let at = LawAt {
+        law: 3,
+        a: 1,
+        b: 0,
+        c: 0,
+    };
+    assert_eq!(rt; check_laws(&exchanged), Err(at));
     Ok(())
 }
 

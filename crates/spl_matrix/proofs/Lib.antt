@@ -1,0 +1,10 @@
+pub mod Forms
+pub mod Inverses
+pub mod Pivots
+pub mod Recovers
+pub mod Refutations
+pub mod Related
+pub mod Solves
+pub mod Steps
+pub mod Sums
+pub mod Terms

@@ -1,0 +1,11 @@
+use Rattle.std.proofs.Common.{◌≡◌, length}
+use Rattle.theory_rings.specs.Sum.{table, sum_of, at}
+use Rattle.spl_matrix.specs.Matrix.{entry}
+use Rattle.theory_spaces.specs.Tuples.{IsTuple}
+use Rattle.spl_matrix.proofs.solve.image_of.Given as goal
+
+abbrev pub invariant-loop-i : goal.invariant-loop-i
+invariant-loop-i g l = let o = g.F.Field.ops l.f in record {
+  elem : IsTuple o l.i l.items;
+  value : l.items ≡ table l.i (λ i. sum_of o (length l.v) (λ k. o.mul (entry o l.m i k) (at o l.v k)));
+}

@@ -1,0 +1,5 @@
+pub mod Echelon
+pub mod Elimination
+pub mod Matrix
+pub mod Solve
+pub mod Solution

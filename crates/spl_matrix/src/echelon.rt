@@ -1,0 +1,106 @@
+// The reduced row echelon form.
+ghost use Rattle.std.specs.Prelude.{◌≡◌, ◌≢◌, ◌+◌, ◌^◌, ◌<◌, ◌≤◌, ◌↔◌, ℕ, List, [], ◌∷◌, ◌++◌, length, IfOk, IfSome, OnOk, OnErr, MatchOption, get_or, All};
+ghost use Rattle.theory_rings.specs.Ops.{IsElem};
+ghost use Rattle.theory_rings.specs.Sum.{sum_of, table, at};
+ghost use Rattle.theory_spaces.specs.Tuples.{IsTuple};
+ghost use Rattle.spl_matrix.specs.Matrix.{entry, IsMatrix, width_of};
+ghost use Rattle.spl_matrix.specs.Echelon.{IsEchelon};
+ghost use Rattle.spl_matrix.specs.Elimination.{columns};
+
+use crate::elimination::{State, advance, augmented_of};
+use crate::matrix::{Indices, Matrix};
+use spl_field::field::{Field, NoMemory};
+use spl_field::vector::Vector;
+use std::alloc::{AllocError, Global};
+
+/// A reduced row echelon form.
+#[derive(Drop)]
+pub struct Echelon<F: Field> {
+    pub rows: Matrix<F>,
+    pub pivots: Indices,
+    pub transform: Matrix<F>,
+}
+
+fn part_of<F: Field>(
+    alloc: Global,
+    f: &F,
+    row: &[F::Elem],
+    from: usize,
+    count: usize,
+) -> Result<Vector<F>, NoMemory>
+    requires row { All (IsElem (F.ops f.now)) row.now }
+    requires within { from + count ≤ length row.now }
+    ensures elem { IfOk result (IsTuple (F.ops f.now) count) }
+    ensures value { IfOk result (λ r. r ≡ table count (λ j. at (F.ops f.now) row.now (from + j))) }
+{
+    let mut items = Vector::new(alloc);
+    for j in 0..count {
+        items.push(f.copy(alloc, &row[from + j])?)?;
+    }
+    Ok(items)
+}
+
+fn columns_of<F: Field>(
+    alloc: Global,
+    f: &F,
+    n: usize,
+    rows: &[Vector<F>],
+    from: usize,
+    count: usize,
+) -> Result<Matrix<F>, NoMemory>
+    requires shape { IsMatrix (F.ops f.now) n rows.now }
+    requires within { from + count ≤ n }
+    ensures elem { IfOk result (IsMatrix (F.ops f.now) count) }
+    ensures value { IfOk result (λ r. r ≡ columns (F.ops f.now) (length rows.now) from count rows.now) }
+{
+    let mut out = Matrix::new(alloc);
+    for i in 0..rows.len() {
+        let row = part_of(alloc, f, rows[i].as_slice(), from, count)?;
+        out.push(row)?;
+    }
+    Ok(out)
+}
+
+/// The reduced row echelon form of the matrix a with w columns.
+pub(crate) fn echelon_of<F: Field>(
+    alloc: Global,
+    f: &F,
+    w: usize,
+    a: &[Vector<F>],
+) -> Result<Echelon<F>, NoMemory>
+    requires shape { IsMatrix (F.ops f.now) w a.now }
+    requires fits { w + length a.now < 2 ^ 64 }
+    ensures { IfOk result (λ e. IsEchelon (F.ops f.now) (length a.now) w a.now e.rows e.pivots e.transform) }
+{
+    let h = a.len();
+    let rows = augmented_of(alloc, f, w, a)?;
+    let mut state = State {
+        rows,
+        pivots: Indices::new(alloc),
+    };
+    for col in 0..w {
+        state = advance(alloc, f, w + h, state, col)?;
+    }
+    let State { rows, pivots } = state;
+    let left = columns_of(alloc, f, w + h, rows.as_slice(), 0, w)?;
+    let transform = columns_of(alloc, f, w + h, rows.as_slice(), w, h)?;
+    Ok(Echelon {
+        rows: left,
+        pivots,
+        transform,
+    })
+}
+
+impl<F: Field> Matrix<F> {
+    /// The reduced row echelon form.
+    pub fn echelon(&self, alloc: Global, f: &F) -> Result<Echelon<F>, NoMemory>
+        requires { All (All (IsElem (F.ops f.now))) self.now }
+        ensures { IfOk result (λ e. IsEchelon (F.ops f.now) (length self.now) (width_of self.now) self.now e.rows e.pivots e.transform) }
+    {
+        let w = self.width();
+        match w.checked_add(self.len()) {
+            Some(_) => echelon_of(alloc, f, w, self.as_slice()),
+            None => Err(NoMemory::from(AllocError)),
+        }
+    }
+}

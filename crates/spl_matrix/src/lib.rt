@@ -1,0 +1,11 @@
+// Linear algebra over any field: matrices, their reduced row echelon form, and linear systems.
+//
+// It stands on spl_field. Read the type `Matrix` first, then `Echelon` and `Solution`.
+#![tactic(auto)]
+
+pub mod echelon;
+mod elimination;
+pub mod laws;
+pub mod matrix;
+mod rows;
+pub mod solve;

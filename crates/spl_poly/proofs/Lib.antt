@@ -1,0 +1,7 @@
+pub mod Trimming
+pub mod Coefficients
+pub mod LongSteps
+pub mod Writes
+pub mod PowerRemainders
+pub mod Results
+pub mod Orders
