@@ -2,9 +2,11 @@ pub mod Forms
 pub mod Inverses
 pub mod Pivots
 pub mod Recovers
+pub mod ReducedBases
 pub mod Refutations
 pub mod Related
 pub mod Solves
+pub mod Spans
 pub mod Steps
 pub mod Sums
 pub mod Terms

@@ -3,3 +3,5 @@ pub mod Elimination
 pub mod Matrix
 pub mod Solve
 pub mod Solution
+pub mod Spanning
+pub mod Subspace
