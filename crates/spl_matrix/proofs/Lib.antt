@@ -1,5 +1,10 @@
+pub mod EchelonSpans
 pub mod Forms
 pub mod Inverses
+pub mod KernelRows
+pub mod Meets
+pub mod Members
+pub mod PivotRows
 pub mod Pivots
 pub mod Recovers
 pub mod ReducedBases
@@ -7,6 +12,7 @@ pub mod Refutations
 pub mod Related
 pub mod Solves
 pub mod Spans
+pub mod Stacks
 pub mod Steps
 pub mod Sums
 pub mod Terms
