@@ -1,10 +1,11 @@
+pub mod Changes
+pub mod Combinations
 pub mod Forms
 pub mod Inverses
 pub mod Pivots
-pub mod Recovers
 pub mod ReducedBases
 pub mod Refutations
-pub mod Related
+pub mod Regular
 pub mod Solves
 pub mod Spans
 pub mod Steps

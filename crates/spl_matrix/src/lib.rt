@@ -5,7 +5,9 @@
 
 pub mod echelon;
 mod elimination;
+pub mod inverse;
 pub mod laws;
 pub mod matrix;
+mod reduced;
 mod rows;
 pub mod solve;
