@@ -7,6 +7,7 @@ pub mod echelon;
 mod elimination;
 pub mod inverse;
 pub mod laws;
+pub mod lists;
 pub mod matrix;
 mod reduced;
 mod rows;
