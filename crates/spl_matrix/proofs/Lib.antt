@@ -1,4 +1,5 @@
-pub mod EchelonSpans
+pub mod Changes
+pub mod Combinations
 pub mod Forms
 pub mod Inverses
 pub mod KernelRows
@@ -6,10 +7,9 @@ pub mod Meets
 pub mod Members
 pub mod PivotRows
 pub mod Pivots
-pub mod Recovers
 pub mod ReducedBases
 pub mod Refutations
-pub mod Related
+pub mod Regular
 pub mod Solves
 pub mod Spans
 pub mod Stacks

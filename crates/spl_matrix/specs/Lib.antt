@@ -1,5 +1,6 @@
 pub mod Echelon
 pub mod Elimination
+pub mod Inverse
 pub mod Matrix
 pub mod Solve
 pub mod Solution

@@ -6,8 +6,10 @@
 mod basis;
 pub mod echelon;
 mod elimination;
+pub mod inverse;
 pub mod kernel;
 pub mod laws;
+pub mod lists;
 pub mod matrix;
 mod meet;
 mod reduced;
