@@ -12,3 +12,5 @@ pub mod matrix;
 mod reduced;
 mod rows;
 pub mod solve;
+#[cfg(test)]
+mod tests;
