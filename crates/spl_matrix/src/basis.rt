@@ -8,7 +8,7 @@ ghost use Rattle.spl_matrix.specs.Echelon.{IsReduced};
 ghost use Rattle.spl_matrix.specs.Subspace.{SameSpan, IsReducedBasis};
 ghost use Rattle.spl_matrix.specs.Spanning.{IsLeadingPlace};
 
-use crate::matrix::{Indices, Matrix};
+use crate::matrix::Indices;
 use crate::reduced::{Reduced, reduced_rows};
 use spl_field::field::{Field, NoMemory};
 use spl_field::vector::Vector;
@@ -19,13 +19,13 @@ pub(crate) fn basis_of<F: Field>(
     alloc: Global,
     f: &F,
     w: usize,
-    rows: Matrix<F>,
+    rows: &[Vector<F>],
 ) -> Result<Reduced<F>, NoMemory>
-    requires shape { IsMatrix (F.ops f.now) w rows }
+    requires shape { IsMatrix (F.ops f.now) w rows.now }
     ensures shape { IfOk result (λ r. IsMatrix (F.ops f.now) w r.rows) }
     ensures each { IfOk result (λ r. length r.pivots ≡ length r.rows) }
     ensures reduced { IfOk result (λ r. IsReduced (F.ops f.now) (length r.rows) r.rows r.pivots w) }
-    ensures same { IfOk result (λ r. SameSpan (F.ops f.now) w rows r.rows) }
+    ensures same { IfOk result (λ r. SameSpan (F.ops f.now) w rows.now r.rows) }
 {
     let Reduced { mut rows, pivots } = reduced_rows(alloc, f, w, rows)?;
     rows.truncate(pivots.len());

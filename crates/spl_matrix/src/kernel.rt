@@ -118,17 +118,17 @@ fn kernel_of<F: Field>(
     alloc: Global,
     f: &F,
     w: usize,
-    rows: Matrix<F>,
+    rows: &[Vector<F>],
 ) -> Result<Subspace<F>, NoMemory>
-    requires shape { IsMatrix (F.ops f.now) w rows }
+    requires shape { IsMatrix (F.ops f.now) w rows.now }
     ensures basis { IfOk result (λ s. IsSubspace (F.ops f.now) s) }
     ensures width { IfOk result (λ s. s.width ≡ w) }
-    ensures members { IfOk result (λ s. SpansKernel (F.ops f.now) (length rows) w rows s.rows) }
+    ensures members { IfOk result (λ s. SpansKernel (F.ops f.now) (length rows.now) w rows.now s.rows) }
 {
     let e = basis_of(alloc, f, w, rows)?;
     let places = places_of(alloc, e.pivots.as_slice(), w)?;
     let vectors = kernel_rows_of(alloc, f, w, e.rows.as_slice(), places.as_slice())?;
-    span_of(alloc, f, w, vectors)
+    span_of(alloc, f, w, vectors.as_slice())
 }
 
 impl<F: Field> Matrix<F> {
@@ -140,8 +140,6 @@ impl<F: Field> Matrix<F> {
         ensures width { IfOk result (λ s. s.width ≡ width_of self.now) }
         ensures members { IfOk result (λ s. SpansKernel (F.ops f.now) (length self.now) (width_of self.now) self.now s.rows) }
     {
-        let w = self.width();
-        let rows = self.copy(alloc, f)?;
-        kernel_of(alloc, f, w, rows)
+        kernel_of(alloc, f, self.width(), self.as_slice())
     }
 }

@@ -16,3 +16,5 @@ mod reduced;
 mod rows;
 pub mod solve;
 pub mod subspace;
+#[cfg(test)]
+mod tests;

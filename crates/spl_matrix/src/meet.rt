@@ -168,7 +168,7 @@ pub(crate) fn meet_rows<F: Field>(
         Some(n) => {
             let rows = stacked(alloc, f, w, a, b)?;
             let twice = doubled_of(alloc, f, w, a.len(), rows.as_slice())?;
-            let e = basis_of(alloc, f, n, twice)?;
+            let e = basis_of(alloc, f, n, twice.as_slice())?;
             let k = count_below(e.pivots.as_slice(), w);
             right_part_of(alloc, f, w, k, e.rows.as_slice())
         }

@@ -11,7 +11,8 @@ use crate::matrix::Matrix;
 use crate::meet::{meet_rows, stacked};
 use crate::reduced::Reduced;
 use spl_field::field::{Field, NoMemory};
-use std::alloc::{AllocError, Global};
+use spl_field::vector::Vector;
+use std::alloc::Global;
 use std::marker::Model;
 
 /// A subspace of the tuples of `width` elements of a field, by its one basis in reduced row echelon form (Lang, Linear
@@ -39,12 +40,12 @@ pub(crate) fn span_of<F: Field>(
     alloc: Global,
     f: &F,
     w: usize,
-    rows: Matrix<F>,
+    rows: &[Vector<F>],
 ) -> Result<Subspace<F>, NoMemory>
-    requires shape { IsMatrix (F.ops f.now) w rows }
+    requires shape { IsMatrix (F.ops f.now) w rows.now }
     ensures basis { IfOk result (λ s. IsSubspace (F.ops f.now) s) }
     ensures width { IfOk result (λ s. s.width ≡ w) }
-    ensures members { IfOk result (λ s. SameSpan (F.ops f.now) w s.rows rows) }
+    ensures members { IfOk result (λ s. SameSpan (F.ops f.now) w s.rows rows.now) }
 {
     let Reduced { rows, .. } = basis_of(alloc, f, w, rows)?;
     Ok(Subspace { width: w, rows })
@@ -58,8 +59,7 @@ impl<F: Field> Subspace<F> {
         ensures width { IfOk result (λ s. s.width ≡ width) }
         ensures members { IfOk result (λ s. SameSpan (F.ops f.now) width s.rows rows.now) }
     {
-        let copied = rows.copy(alloc, f)?;
-        span_of(alloc, f, width, copied)
+        span_of(alloc, f, width, rows.as_slice())
     }
 
     /// The sum: the set of the sums of a vector of this subspace and one of the other.
@@ -72,7 +72,7 @@ impl<F: Field> Subspace<F> {
         ensures members { IfOk result (λ s. SpansSum (F.ops f.now) self.now.width s.rows self.now.rows b.now.rows) }
     {
         let rows = stacked(alloc, f, self.width, &self.rows, b.rows.as_slice())?;
-        span_of(alloc, f, self.width, rows)
+        span_of(alloc, f, self.width, rows.as_slice())
     }
 
     /// The meet: the set of the vectors of this subspace that are in the other too.

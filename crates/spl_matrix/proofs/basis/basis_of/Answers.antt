@@ -16,5 +16,5 @@ returns-clause-same g c =
     let P : ℕ → Type 0 = λ h. IsReduced o h rows pivots w in
     let form : IsReduced o (length rows) rows pivots w = subst P (sym e.height) e.reduced in
     let is : c.truncate.new.self ≡ take (length pivots) rows = c.truncate.ensures ∙ ap (λ (n : ℕ). take n rows) c.len.ensures in
-    let S : List (List g.row.F-Elem.Denot) → Type 0 = λ m. SameSpan o w c.args.rows m in
-    subst S (sym is) (SameSpan_trans o L w c.args.rows rows (take (length pivots) rows) e.same (kept_same o L w rows pivots e.shape form))
+    let S : List (List g.row.F-Elem.Denot) → Type 0 = λ m. SameSpan o w c.args.rows.now m in
+    subst S (sym is) (SameSpan_trans o L w c.args.rows.now rows (take (length pivots) rows) e.same (kept_same o L w rows pivots e.shape form))

@@ -17,9 +17,9 @@ returns-clause-members g c =
     let A : List ℕ → Type 0 = λ ps. (j : ℕ) → j < w → IsPlace ps j (get_or places j 0) in
     let place = subst A c.as_slice.ensures c.in_ok-places.ensures.each in
     let vectors_is : vectors ≡ kernel_rows o w e.rows places = c.in_ok-vectors.ensures.value ∙ ap₂ (λ r p. kernel_rows o w r p) c.as_slice-2.ensures c.as_slice-3.ensures in
-    let P : Rows g.row.F-Elem.Denot → Type 0 = λ s. SameSpan o w s.rows vectors in
-    let Q : Rows g.row.F-Elem.Denot → Type 0 = λ s. SpansKernel o (length c.args.rows) w c.args.rows s.rows in
+    let P : Rows g.row.F-Elem.Denot → Type 0 = λ s. SameSpan o w s.rows c.as_slice-4.result.now in
+    let Q : Rows g.row.F-Elem.Denot → Type 0 = λ s. SpansKernel o (length c.args.rows.now) w c.args.rows.now s.rows in
     IfOk-weaker c.span_of.result P Q (λ s same.
     let V : List (List g.row.F-Elem.Denot) → Type 0 = λ m. SameSpan o w s.rows m in
-    spans_kernel o L w e.rows e.pivots reduced.shape reduced.each reduced.reduced places place c.args.rows s.rows c.requires.shape reduced.same (subst V vectors_is same))
+    spans_kernel o L w e.rows e.pivots reduced.shape reduced.each reduced.reduced places place c.args.rows.now s.rows c.requires.shape reduced.same (subst V (c.as_slice-4.ensures ∙ vectors_is) same))
     c.span_of.ensures.members
