@@ -2,12 +2,17 @@ pub mod Changes
 pub mod Combinations
 pub mod Forms
 pub mod Inverses
+pub mod KernelRows
+pub mod Meets
+pub mod Members
+pub mod PivotRows
 pub mod Pivots
 pub mod ReducedBases
 pub mod Refutations
 pub mod Regular
 pub mod Solves
 pub mod Spans
+pub mod Stacks
 pub mod Steps
 pub mod Sums
 pub mod Terms

@@ -1,19 +1,20 @@
 -- Bases in reduced row echelon form: the weights of a combination are its items at the pivots, so that the rows are
 -- independent; the pivots are the places where vectors of the span begin, so that the basis is unique.
-use Rattle.std.specs.Prelude.{◌≡◌, ◌≢◌, ◌⊎◌, ◌↔◌, ℕ, zero, suc, ◌+◌, ◌<◌, ◌≤◌, List, [], length, get_or, cond, nat_eq}
-use Rattle.std.proofs.Common.{refl, sym, ◌∙◌, ap, ap₂, subst, arith, inl, inr, ⊎_elim, ext_get_or}
+use Rattle.std.specs.Prelude.{◌≡◌, ◌≢◌, ◌⊎◌, ℕ, zero, suc, ◌+◌, ◌<◌, ◌≤◌, List, [], length, get_or, cond, nat_eq}
+use Rattle.std.proofs.Common.{refl, sym, ◌∙◌, ap, subst, arith, inl, inr, ⊎_elim, ext_get_or}
 use Rattle.std.proofs.lemmas.Bool.{cases_eq, cases_lt}
 use Rattle.theory_rings.specs.Ops.{Ops, IsElem, FieldLaws}
-use Rattle.theory_rings.specs.Sum.{sum_of, table, at}
+use Rattle.theory_rings.specs.Sum.{at}
 use Rattle.theory_rings.proofs.Rings.Elements.{at-elem, sum_of_congr}
 use Rattle.theory_spaces.specs.Tuples.{IsTuple}
 use Rattle.theory_spaces.proofs.Tuples.{IsTuple-ext}
 use Rattle.spl_matrix.specs.Matrix.{entry, IsMatrix}
 use Rattle.spl_matrix.specs.Echelon.{IsReduced}
 use Rattle.spl_matrix.specs.Subspace.{InSpan, SameSpan, IsReducedBasis, AreIndependent, SameSubspaceSameRows, ReducedBasisIsIndependent}
+use Rattle.spl_matrix.specs.Spanning.{IsLeadingPlace}
 use Rattle.spl_matrix.proofs.Terms.{mul-zero, zero-mul, cond_yes, cond_no, cond_either}
 use Rattle.spl_matrix.proofs.Sums.{sum_of_zeros, sum_of-delta_mul, entry-elem}
-use Rattle.spl_matrix.proofs.Spans.{combined, combined_congr, InSpan-member, rows_in, SameSpan_sym}
+use Rattle.spl_matrix.proofs.Spans.{combined, combined_congr, rows_in, SameSpan_sym}
 
 -- some of n numbers is j, or none is
 pub find_place : (n : ℕ) (p : ℕ → ℕ) (j : ℕ) → ((s : ℕ) × (s < n) × (p s ≡ j)) ⊎ ((s : ℕ) → s < n → p s ≢ j)
@@ -177,3 +178,26 @@ module _ {E : Type 0} (o : Ops E) (L : FieldLaws o) where
 
   pub reduced_basis_is_independent : ReducedBasisIsIndependent o
   reduced_basis_is_independent w rows x = independent o L w rows x.shape x.pivots x.each x.reduced
+
+  -- the places where the rows begin are the pivots
+  pub leading_pivots : (w : ℕ) (rows : List (List E)) (x : IsReducedBasis o w rows) (p : List ℕ) → length p ≡ length rows
+      → ((k : ℕ) → k < length rows → IsLeadingPlace o (get_or rows k []) (get_or p k 0)) → IsReduced o (length rows) rows p w
+  leading_pivots w rows x p long leads =
+      let each = x.each in
+      let e : length x.pivots ≡ length p = omega arith in
+      let is : x.pivots ≡ p = ext_get_or 0 x.pivots p e (λ k k_piv.
+      let k_in : k < length rows = omega arith in
+      let lead = leads k k_in in
+      let row_long = (x.shape k [] k_in).right_length in
+      let q_in = x.reduced.below k k_piv in
+      ⊎_elim
+      (λ (low : get_or x.pivots k 0 < get_or p k 0). absurd (pivot-nonzero o L w rows x.shape x.pivots each x.reduced k k_piv (lead.before (get_or x.pivots k 0) low)))
+      (λ (high : get_or p k 0 ≤ get_or x.pivots k 0). ⊎_elim
+      (λ (less : get_or p k 0 < get_or x.pivots k 0).
+      let here : get_or p k 0 < length (get_or rows k []) = omega arith in
+      absurd (lead.nonzero here (x.reduced.left k (get_or p k 0) k_piv less)))
+      (λ (other : get_or x.pivots k 0 ≤ get_or p k 0). let same : get_or x.pivots k 0 ≡ get_or p k 0 = omega arith in same)
+      (cases_lt (get_or p k 0) (get_or x.pivots k 0)))
+      (cases_lt (get_or x.pivots k 0) (get_or p k 0))) in
+      let P : List ℕ → Type 0 = λ ps. IsReduced o (length rows) rows ps w in
+      subst P is x.reduced

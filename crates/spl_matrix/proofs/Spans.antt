@@ -1,19 +1,19 @@
 -- Combinations of the rows of a matrix: by weights, of rows that are combinations themselves, and of two matrices together.
-use Rattle.std.specs.Prelude.{◌≡◌, ◌↔◌, ℕ, zero, suc, ◌+◌, ◌-◌, ◌<◌, ◌≤◌, List, [], ◌∷◌, ◌++◌, length, get_or, cond, nat_eq, nat_lt}
+use Rattle.std.specs.Prelude.{◌≡◌, ℕ, ◌+◌, ◌<◌, ◌≤◌, List, [], ◌∷◌, ◌++◌, length, get_or, cond, nat_eq}
 use Rattle.std.specs.List.{All}
-use Rattle.std.proofs.Common.{refl, sym, ◌∙◌, ap, ap₂, subst, arith}
-use Rattle.std.proofs.lemmas.List.{get_or_append_left, get_or-append-add}
+use Rattle.std.proofs.Common.{sym, ◌∙◌, ap, ap₂, subst, arith, ⊎_elim}
+use Rattle.std.proofs.lemmas.Bool.{cases_lt}
+use Rattle.std.proofs.lemmas.List.{get_or_append_left, get_or_push}
 use Rattle.std.proofs.lemmas.List.Elements.{All-nil}
 use Rattle.theory_rings.specs.Ops.{Ops, IsElem, FieldLaws}
 use Rattle.theory_rings.specs.Elements.{Elem, elements}
-use Rattle.theory_rings.specs.Sum.{sum, sum_of, table, at}
+use Rattle.theory_rings.specs.Sum.{sum_of, table, at}
 use Rattle.theory_rings.proofs.Rings.Elements.{at-elem, sum_of-elem, sum_of-elements, sum_of_congr}
 use Rattle.theory_rings.proofs.Sums.Sums as sums
-use Rattle.theory_spaces.specs.Tuples.{IsTuple}
-use Rattle.theory_spaces.proofs.Families.{choose_each, join, join-below, join-above}
+use Rattle.theory_spaces.proofs.Families.{choose_each}
 use Rattle.theory_spaces.proofs.Tuples.{at-table, IsTuple-table}
 use Rattle.spl_matrix.specs.Matrix.{entry, IsMatrix}
-use Rattle.spl_matrix.specs.Subspace.{InSpan, SameSpan, IsSum, IsKilled}
+use Rattle.spl_matrix.specs.Subspace.{InSpan, SameSpan, IsKilled}
 use Rattle.spl_matrix.proofs.Terms.{add-zero, mul-zero, zero-mul, cond_either}
 use Rattle.spl_matrix.proofs.Sums.{sum_of_zeros, sum_of-delta_mul, sums_assoc, entry-elem}
 
@@ -97,3 +97,21 @@ module _ {E : Type 0} (o : Ops E) (L : FieldLaws o) where
       let F : ℕ → Elem o = λ k. (f k, f_in k) in
       sum_of-elements o L (n + m) F ∙ ap (λ x. x.0) (sums.sum-split M n m F)
       ∙ ap₂ o.add (sym (sum_of-elements o L n F)) (sym (sum_of-elements o L m (λ i. F (n + i))))
+
+  -- a product with a factor 0 adds nothing
+  pub add_zero_left : (s a b : E) → IsElem o s → IsElem o b → a ≡ o.zero → s ≡ o.add s (o.mul a b)
+  add_zero_left s a b hs hb e = sym (ap (o.add s) (ap (λ x. o.mul x b) e ∙ zero-mul o L b hb) ∙ add-zero o L s hs)
+
+  pub add_zero_right : (s a b : E) → IsElem o s → IsElem o a → b ≡ o.zero → s ≡ o.add s (o.mul a b)
+  add_zero_right s a b hs ha e = sym (ap (o.add s) (ap (o.mul a) e ∙ mul-zero o L a ha) ∙ add-zero o L s hs)
+
+-- a fact of each item, after one more
+pub grow_at : {X : Type 0} (Q : ℕ → X → Type 0) (d : X) (j : ℕ) (before after : List X) (item : X) → length before ≡ j → ((k : ℕ) → k < j → Q k (get_or before k d)) → Q j item
+    → after ≡ before ++ item ∷ [] → (k : ℕ) → k < j + 1 → Q k (get_or after k d)
+grow_at Q d j before after item long h q e k k_in = ⊎_elim
+    (λ (low : k < j). let low' : k < length before = omega arith in subst (Q k) (sym (ap (λ xs. get_or xs k d) e ∙ get_or_append_left before (item ∷ []) d k low')) (h k low))
+    (λ (high : j ≤ k).
+    let is : j ≡ k = omega arith in
+    let P = λ (k : ℕ). Q k (get_or after k d) in
+    subst P is (subst (Q j) (sym (ap (λ xs. get_or xs j d) e ∙ get_or_push before item d j long)) q))
+    (cases_lt k j)

@@ -1,5 +1,5 @@
 -- The vectors and matrices that the calls on subspaces make on their way.
-use Rattle.std.specs.Prelude.{◌≡◌, ◌≢◌, ◌⊎◌, ◌+◌, ◌-◌, ◌<◌, ℕ, Bool, List, [], ◌++◌, length, get_or, cond, nat_eq, nat_lt}
+use Rattle.std.specs.Prelude.{◌≡◌, ◌≢◌, ◌⊎◌, ◌+◌, ◌-◌, ◌<◌, ℕ, Bool, List, [], length, get_or, cond, nat_eq, nat_lt}
 use Rattle.theory_rings.specs.Ops.{Ops}
 use Rattle.theory_rings.specs.Sum.{sum_of, table, at}
 use Rattle.spl_matrix.specs.Matrix.{entry}

@@ -1,7 +1,7 @@
 -- Subspaces of tuples, by a basis in reduced row echelon form; the vectors that a matrix sends to 0.
-use Rattle.std.specs.Prelude.{◌≡◌, ◌↔◌, ◌+◌, ◌-◌, ◌<◌, ℕ, Bool, List, [], ◌++◌, length, get_or, cond, nat_eq, nat_lt}
+use Rattle.std.specs.Prelude.{◌≡◌, ◌↔◌, ◌<◌, ℕ, List, length}
 use Rattle.theory_rings.specs.Ops.{Ops}
-use Rattle.theory_rings.specs.Sum.{sum_of, table, at}
+use Rattle.theory_rings.specs.Sum.{sum_of, at}
 use Rattle.theory_spaces.specs.Tuples.{IsTuple}
 use Rattle.spl_matrix.specs.Matrix.{entry, IsMatrix}
 use Rattle.spl_matrix.specs.Echelon.{IsReduced}

@@ -69,15 +69,15 @@ pub(crate) fn reduced_rows<F: Field>(
     alloc: Global,
     f: &F,
     w: usize,
-    rows: Matrix<F>,
+    rows: &[Vector<F>],
 ) -> Result<Reduced<F>, NoMemory>
-    requires shape { IsMatrix (F.ops f.now) w rows }
+    requires shape { IsMatrix (F.ops f.now) w rows.now }
     ensures shape { IfOk result (λ r. IsMatrix (F.ops f.now) w r.rows) }
-    ensures height { IfOk result (λ r. length r.rows ≡ length rows) }
-    ensures reduced { IfOk result (λ r. IsReduced (F.ops f.now) (length rows) r.rows r.pivots w) }
-    ensures same { IfOk result (λ r. SameSpan (F.ops f.now) w rows r.rows) }
+    ensures height { IfOk result (λ r. length r.rows ≡ length rows.now) }
+    ensures reduced { IfOk result (λ r. IsReduced (F.ops f.now) (length rows.now) r.rows r.pivots w) }
+    ensures same { IfOk result (λ r. SameSpan (F.ops f.now) w rows.now r.rows) }
 {
-    let mut changed = rows_of(alloc, f, w, rows.as_slice())?;
+    let mut changed = rows_of(alloc, f, w, rows)?;
     let pivots = eliminate(alloc, f, w, w, &mut changed)?;
     let rows = matrix_of(alloc, w, &mut changed)?;
     Ok(Reduced { rows, pivots })

@@ -5,6 +5,7 @@ ghost use Rattle.theory_spaces.specs.Tuples.{IsTuple};
 ghost use Rattle.spl_matrix.specs.Matrix.{width_of, IsMatrix};
 
 mod boxed;
+mod subspaces;
 mod systems;
 
 use crate::matrix::Matrix;
