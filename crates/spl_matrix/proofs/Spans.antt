@@ -28,9 +28,12 @@ module _ {E : Type 0} (o : Ops E) (L : FieldLaws o) where
 
   pub InSpan-by : (w : ℕ) (rows : List (List E)) (v : List E) (c : ℕ → E) → ((i : ℕ) → IsElem o (c i))
       → ((j : ℕ) → j < w → at o v j ≡ combined rows c j) → InSpan o w rows v
-  InSpan-by w rows v c c_in e =
-      (table (length rows) c, IsTuple-table o (length rows) c (λ k _. c_in k), λ j j_in.
-      e j j_in ∙ combined_congr rows c (at o (table (length rows) c)) j (λ i i_in. sym (at-table o (length rows) c i i_in)))
+  InSpan-by w rows v c c_in e = (
+    table (length rows) c,
+    IsTuple-table o (length rows) c (λ k _. c_in k),
+    λ j j_in.
+        e j j_in ∙ combined_congr rows c (at o (table (length rows) c)) j (λ i i_in. sym (at-table o (length rows) c i i_in)),
+  )
 
   pub InSpan_congr : (w : ℕ) (rows : List (List E)) (u v : List E) → ((j : ℕ) → j < w → at o u j ≡ at o v j) → InSpan o w rows u → InSpan o w rows v
   InSpan_congr w rows u v e s = (s.0, s.1, λ j j_in. sym (e j j_in) ∙ s.2 j j_in)
