@@ -1,19 +1,18 @@
 -- What an echelon form gives of a linear system.
-use Rattle.std.proofs.Common.{◌≡◌, ◌≢◌, ◌⊎◌, inl, inr, ℕ, zero, suc, ◌+◌, ◌<◌, ◌≤◌, List, [], ◌∷◌, ◌++◌, length, get_or, cond, nat_eq, refl, sym, ap, ap₂, subst, ◌∙◌, arith}
+use Rattle.std.proofs.Common.{◌≡◌, ◌≢◌, inl, inr, ℕ, ◌+◌, ◌<◌, ◌≤◌, List, [], ◌∷◌, ◌++◌, length, get_or, cond, nat_eq, sym, ap, ap₂, subst, ◌∙◌, arith}
 use Rattle.std.proofs.lemmas.Bool.{cases_eq, cases_lt}
 use Rattle.std.proofs.lemmas.List.{get_or_append_left, get_or_push}
 use Rattle.theory_rings.specs.Ops.{Ops, IsElem, FieldLaws}
-use Rattle.theory_rings.specs.Sum.{sum_of, table, at}
-use Rattle.spl_matrix.specs.Matrix.{entry, product, IsMatrix}
+use Rattle.theory_rings.specs.Sum.{sum_of, at}
+use Rattle.spl_matrix.specs.Matrix.{entry, IsMatrix}
 use Rattle.theory_spaces.specs.Tuples.{IsTuple}
-use Rattle.spl_matrix.specs.Echelon.{IsReduced, IsEchelon}
-use Rattle.spl_matrix.specs.Matrix.{identity}
+use Rattle.spl_matrix.specs.Echelon.{IsEchelon}
 use Rattle.spl_matrix.specs.Matrix.{image}
-use Rattle.spl_matrix.specs.Solve.{IsSolved, IsRefuted, Lands, Misses, IsScattered}
-use Rattle.theory_rings.proofs.Rings.Elements.{sum_of_congr, sum_of-elem, at-elem}
+use Rattle.spl_matrix.specs.Solve.{IsSolved, IsRefuted, IsScattered}
+use Rattle.theory_rings.proofs.Rings.Elements.{sum_of_congr, at-elem}
 use Rattle.theory_rings.proofs.Sums.Lists.{get_or-table}
-use Rattle.spl_matrix.proofs.Terms.{add-zero, add-neg, mul-one, mul-zero, zero-mul, add-mul, mul-inv, cond_yes, cond_no, cond_either}
-use Rattle.spl_matrix.proofs.Sums.{sum_of-add, mul-sum_of, sum_of-mul, sum_of_zeros, sum_of_comm, sum_of-delta_mul, sums_assoc, cancel, entry-elem, table_matrix, entry_table}
+use Rattle.spl_matrix.proofs.Terms.{mul-zero, zero-mul, mul-inv, cond_yes, cond_no}
+use Rattle.spl_matrix.proofs.Sums.{mul-sum_of, sum_of_zeros, sum_of-delta_mul, sums_assoc, entry-elem, entry_table}
 
 -- a fact of each item, after one more
 pub grow : {E : Type 0} (o : Ops E) (Q : ℕ → E → Type 0) (j : ℕ) (before after : List E) (item : E) → length before ≡ j → ((k : ℕ) → k < j → Q k (at o before k)) → Q j item → after ≡ before ++ item ∷ [] → (k : ℕ) → k < j + 1 → Q k (at o after k)

@@ -1,7 +1,7 @@
 -- The steps of the elimination, and what it leaves.
 use Rattle.std.proofs.Common.{◌≡◌, ◌≢◌, inl, inr, ℕ, ◌+◌, ◌<◌, ◌≤◌, List, [], ◌∷◌, ◌++◌, length, get_or, cond, nat_eq, nat_lt, refl, sym, ap, ap₂, subst, ◌∙◌, arith}
 use Rattle.std.proofs.lemmas.Bool.{cases_eq, lt-ltb, le-ltb}
-use Rattle.theory_rings.specs.Ops.{Ops, IsElem, FieldLaws}
+use Rattle.theory_rings.specs.Ops.{Ops, FieldLaws}
 use Rattle.theory_rings.specs.Sum.{sum_of, table, at}
 use Rattle.theory_rings.proofs.Rings.Elements.{at-elem, sum_of_congr}
 use Rattle.theory_rings.proofs.Sums.Lists.{get_or-table, length-table, All-table, table_congr}
@@ -17,7 +17,7 @@ use Rattle.spl_matrix.proofs.Inverses.{right_inverse}
 use Rattle.spl_matrix.proofs.Pivots.{lead_of-tuple}
 use Rattle.spl_matrix.proofs.Spans.{InSpan-by, SameSpan-by}
 use Rattle.spl_matrix.proofs.Terms.{cond_yes, cond_no, cond_either}
-use Rattle.spl_matrix.proofs.Sums.{sum_of-delta_mul, entry-elem, table_matrix, entry_table}
+use Rattle.spl_matrix.proofs.Sums.{entry-elem, table_matrix, entry_table}
 
 module _ {E : Type 0} (o : Ops E) (L : FieldLaws o) where
   pivoted-shape : (h n : ℕ) (rows : List (List E)) (p r col : ℕ) → IsMatrix o n rows → IsMatrix o n (pivoted o h n rows p r col)

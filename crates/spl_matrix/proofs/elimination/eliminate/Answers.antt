@@ -1,4 +1,4 @@
-use Rattle.std.proofs.Common.{◌≡◌, ℕ, ◌<◌, List, length, refl, sym, subst, arith}
+use Rattle.std.proofs.Common.{ℕ, ◌<◌, List, length, refl, sym, subst, arith}
 use Rattle.spl_matrix.specs.Elimination.{IsStep, IsEliminated}
 use Rattle.spl_matrix.proofs.Steps.{start_eliminated, step_eliminated}
 use Rattle.spl_matrix.proofs.elimination.eliminate.Goals as goal

@@ -1,9 +1,8 @@
-use Rattle.std.proofs.Common.{◌≡◌, ◌≢◌, ℕ, ◌<◌, List, [], length, get_or, cond, nat_eq, refl, sym, ap, subst, ◌∙◌, arith}
+use Rattle.std.proofs.Common.{◌≡◌, ◌<◌, [], length, get_or, cond, nat_eq, sym, ap, subst, ◌∙◌, arith}
 use Rattle.std.proofs.Math.ListN.{set}
 use Rattle.std.proofs.lemmas.List.{length-set, get_or_default}
 use Rattle.theory_spaces.specs.Tuples.{IsTuple}
-use Rattle.theory_rings.specs.Sum.{table}
-use Rattle.spl_matrix.specs.Elimination.{lead_of, cleared_row}
+use Rattle.spl_matrix.specs.Elimination.{lead_of}
 use Rattle.spl_matrix.proofs.Pivots.{taken_row, pivoted_by, lead_by, lead_of-tuple}
 use Rattle.spl_matrix.proofs.Terms.{cond_either}
 use Rattle.spl_matrix.proofs.elimination.pivot.Goals as goal
