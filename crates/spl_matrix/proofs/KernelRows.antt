@@ -14,7 +14,7 @@ use Rattle.theory_spaces.specs.Tuples.{IsTuple}
 use Rattle.spl_matrix.specs.Matrix.{entry, IsMatrix}
 use Rattle.spl_matrix.specs.Echelon.{IsReduced}
 use Rattle.spl_matrix.specs.Subspace.{InSpan, SameSpan, IsKilled, SpansKernel}
-use Rattle.spl_matrix.specs.Spanning.{IsPlace, kernel_item, kernel_rows, AreKernelRows}
+use Rattle.spl_matrix.specs.Spanning.{IsPlace, kernel_item, AreKernelRows}
 use Rattle.spl_matrix.proofs.Terms.{add-zero, add-neg, mul-zero, zero-mul, cond_yes, cond_no, cond_either}
 use Rattle.spl_matrix.proofs.Sums.{sum_of-add, mul-sum_of, sum_of_zeros, sum_of-delta_mul, sums_assoc, entry-elem, table_matrix, entry_table}
 use Rattle.spl_matrix.proofs.Spans.{combined, InSpan-by, InSpan-zero, InSpan-member, SameSpan-by, rows_in, IsKilled_trans, SameSpan_sym}
@@ -72,8 +72,9 @@ module _ {E : Type 0} (o : Ops E) (L : FieldLaws o) where
 
   module _ (w : ℕ) (rows : List (List E)) (pivots : List ℕ) (shape : IsMatrix o w rows) (each : length pivots ≡ length rows) (form : IsReduced o (length rows) rows pivots w)
       (places : List ℕ) (place : (j : ℕ) → j < w → IsPlace pivots j (get_or places j 0)) where
-    abbrev vectors : List (List E)
-    vectors = kernel_rows o w rows places
+    -- one such vector for each column
+    abbrev pub vectors : List (List E)
+    vectors = table w (λ j. table w (kernel_item o rows places j))
 
     -- item j of the row whose pivot is in column l
     abbrev row_item : ℕ → ℕ → E
