@@ -1,16 +1,15 @@
 -- A pivot keeps the form of the columns before it, and brings its own column into it.
-use Rattle.std.proofs.Common.{◌≡◌, ◌≢◌, ◌⊎◌, inl, inr, ℕ, ◌+◌, ◌<◌, ◌≤◌, List, [], ◌∷◌, ◌++◌, length, get_or, cond, nat_eq, refl, sym, ap, ap₂, ◌∙◌, arith}
-use Rattle.std.proofs.lemmas.Bool.{cases_eq, cases_lt, eq-eqb, ne_eqb}
+use Rattle.std.proofs.Common.{◌≡◌, ◌≢◌, ◌⊎◌, inl, inr, ℕ, ◌+◌, ◌<◌, ◌≤◌, List, [], ◌∷◌, ◌++◌, length, get_or, cond, nat_eq, refl, sym, ap, ◌∙◌, arith}
+use Rattle.std.proofs.lemmas.Bool.{cases_eq, cases_lt}
 use Rattle.std.proofs.lemmas.List.{get_or_append_left, get_or_push, length_push}
 use Rattle.theory_rings.specs.Ops.{Ops, IsElem, FieldLaws}
-use Rattle.theory_rings.specs.Sum.{table, at}
+use Rattle.theory_rings.specs.Sum.{at}
 use Rattle.spl_matrix.specs.Matrix.{entry}
 use Rattle.spl_matrix.specs.Elimination.{lead_of, reduced_by, pivoted_row, pivoted}
 use Rattle.spl_matrix.specs.Echelon.{IsReduced}
 use Rattle.theory_rings.proofs.Sums.Lists.{get_or-table}
 use Rattle.spl_matrix.proofs.Pivots.{pivoted_row-same}
-use Rattle.spl_matrix.proofs.Terms.{add-zero, add-neg, mul-one, mul-zero, zero-mul, add-mul, mul-inv, cond_yes, cond_no, cond_either}
-use Rattle.spl_matrix.proofs.Sums.{sum_of-add, mul-sum_of, sum_of-mul, sum_of_zeros, sum_of_comm, sum_of-delta_mul, sums_assoc, cancel, entry-elem, table_matrix, entry_table}
+use Rattle.spl_matrix.proofs.Terms.{add-zero, add-neg, mul-one, mul-zero, mul-inv, cond_yes, cond_no}
 
 module _ {E : Type 0} (o : Ops E) (L : FieldLaws o) (h n : ℕ) (rows : List (List E)) (rows_in : (i j : ℕ) → IsElem o (entry o rows i j))
     (p r col : ℕ) (col_in : col < n) (p_in : p < h) (r_le : r ≤ p) (nonzero : entry o rows p col ≢ o.zero) where

@@ -1,13 +1,13 @@
 -- A left inverse of a square matrix over a field is a right inverse.
 use Rattle.std.specs.Prelude.{◌≡◌, ℕ, zero, suc, ◌<◌, ◌≤◌, List, cond, eqb, ltb}
-use Rattle.std.proofs.Common.{refl, sym, ◌∙◌, ap, ap₂, arith, ⊎_elim}
+use Rattle.std.proofs.Common.{refl, sym, ◌∙◌, ap, ap₂, ⊎_elim}
 use Rattle.std.proofs.lemmas.Bool.{cases_lt, cases_eq, lt-ltb, le-ltb}
 use Rattle.std.proofs.Math.Path.{fun_ext}
 use Rattle.theory_rings.specs.Ring.{FieldOn}
 use Rattle.theory_rings.specs.Ops.{Ops, IsElem, FieldLaws}
 use Rattle.theory_rings.specs.Elements.{Elem, Elem-path, elements}
 use Rattle.theory_rings.specs.Sum.{sum, sum_of}
-use Rattle.theory_rings.proofs.Rings.RingLaws.{mul-zero, neg-mul, add-neg, neg_unique, neg_neg}
+use Rattle.theory_rings.proofs.Rings.RingLaws.{mul-zero, add-neg, neg_unique, neg_neg}
 use Rattle.theory_rings.proofs.Rings.Elements.{sum_of-elements}
 use Rattle.theory_rings.proofs.Sums.Sums.{sum_congr, sum_eq_zero}
 use Rattle.theory_spaces.specs.Matrix.{Matrix, mat_mul, delta}

@@ -1,11 +1,10 @@
 -- A system that has a solution is not refuted.
-use Rattle.std.specs.Prelude.{◌≡◌, ℕ, List}
 use Rattle.std.proofs.Common.{sym, ◌∙◌, ap}
-use Rattle.theory_rings.specs.Ops.{Ops, IsElem, FieldLaws}
+use Rattle.theory_rings.specs.Ops.{Ops, FieldLaws}
 use Rattle.theory_rings.specs.Sum.{sum_of, at}
 use Rattle.theory_rings.proofs.Rings.Elements.{at-elem, sum_of_congr}
-use Rattle.spl_matrix.specs.Matrix.{entry, IsMatrix}
-use Rattle.spl_matrix.specs.Solve.{IsSolved, IsRefuted, NotBoth}
+use Rattle.spl_matrix.specs.Matrix.{entry}
+use Rattle.spl_matrix.specs.Solve.{NotBoth}
 use Rattle.spl_matrix.proofs.Terms.{zero-mul}
 use Rattle.spl_matrix.proofs.Sums.{sums_assoc, sum_of_zeros, entry-elem}
 

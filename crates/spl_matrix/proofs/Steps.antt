@@ -1,68 +1,37 @@
--- The turns of the elimination.
-use Rattle.std.proofs.Common.{◌≡◌, ◌≢◌, ◌⊎◌, inl, inr, ℕ, zero, suc, ◌+◌, ◌<◌, ◌≤◌, Bool, true, false, List, [], ◌∷◌, ◌++◌, length, get_or, cond, nat_eq, nat_lt, refl, sym, ap, ap₂, subst, ◌∙◌, arith}
-use Rattle.std.specs.List.{All}
-use Rattle.std.proofs.lemmas.Bool.{cases_eq, cases_lt, eq-eqb, ne_eqb, lt-ltb, le-ltb}
-use Rattle.std.proofs.lemmas.List.{get_or_past}
-use Rattle.theory_rings.specs.Ops.{Ops, IsElem, FieldLaws}
+-- The steps of the elimination, and what it leaves.
+use Rattle.std.proofs.Common.{◌≡◌, ◌≢◌, inl, inr, ℕ, ◌+◌, ◌<◌, ◌≤◌, List, [], ◌∷◌, ◌++◌, length, get_or, cond, nat_eq, nat_lt, refl, sym, ap, ap₂, subst, ◌∙◌, arith}
+use Rattle.std.proofs.lemmas.Bool.{cases_eq, lt-ltb, le-ltb}
+use Rattle.theory_rings.specs.Ops.{Ops, FieldLaws}
 use Rattle.theory_rings.specs.Sum.{sum_of, table, at}
-use Rattle.spl_matrix.specs.Matrix.{entry, product, IsMatrix}
-use Rattle.theory_spaces.specs.Tuples.{IsTuple}
-use Rattle.spl_matrix.specs.Elimination.{lead_of, reduced_by, pivoted_row, pivoted, IsRelated, IsStep, Skips, Pivots, augmented_item, augmented, columns}
-use Rattle.spl_matrix.specs.Echelon.{IsReduced, IsEchelon, IsInvertible}
+use Rattle.theory_rings.proofs.Rings.Elements.{at-elem, sum_of_congr}
 use Rattle.theory_rings.proofs.Sums.Lists.{get_or-table, length-table, All-table, table_congr}
-use Rattle.theory_rings.proofs.Rings.Elements.{at-elem, sum_of_congr, sum_of-elem}
+use Rattle.theory_spaces.specs.Tuples.{IsTuple}
+use Rattle.theory_spaces.proofs.Tuples.{IsTuple-table}
+use Rattle.spl_matrix.specs.Matrix.{entry, product, IsMatrix}
+use Rattle.spl_matrix.specs.Elimination.{lead_of, reduced_by, pivoted_row, pivoted, IsStep, Combines, IsEliminated, augmented_item, augmented, columns}
+use Rattle.spl_matrix.specs.Echelon.{IsReduced, IsEchelon, IsInvertible}
+use Rattle.spl_matrix.specs.Subspace.{SameSpan}
+use Rattle.spl_matrix.proofs.Combinations.{sum_of-mul_delta, Combines-refl, Combines-trans, pivoted_forth, pivoted_back}
 use Rattle.spl_matrix.proofs.Forms.{form_after, form_skipped}
-use Rattle.spl_matrix.proofs.Related.{related-scaled, related-combined}
-use Rattle.spl_matrix.proofs.Terms.{add-zero, add-neg, mul-one, mul-zero, zero-mul, add-mul, mul-inv, cond_yes, cond_no, cond_either}
-use Rattle.spl_matrix.proofs.Sums.{sum_of-add, mul-sum_of, sum_of-mul, sum_of_zeros, sum_of_comm, sum_of-delta_mul, sums_assoc, cancel, entry-elem, table_matrix, entry_table}
+use Rattle.spl_matrix.proofs.Inverses.{right_inverse}
+use Rattle.spl_matrix.proofs.Pivots.{lead_of-tuple}
+use Rattle.spl_matrix.proofs.Spans.{InSpan-by, SameSpan-by}
+use Rattle.spl_matrix.proofs.Terms.{cond_yes, cond_no, cond_either}
+use Rattle.spl_matrix.proofs.Sums.{entry-elem, table_matrix, entry_table}
 
 module _ {E : Type 0} (o : Ops E) (L : FieldLaws o) where
-  pub step_long : (h n col : ℕ) (rows rows' : List (List E)) (pivots pivots' : List ℕ) → IsStep o h n col rows rows' pivots pivots' → length rows ≡ h → length rows' ≡ h
-  step_long h n col rows rows' pivots pivots' step long = elim step [
-    | inl s ↦ ap length s.same_rows ∙ long
-    | inr s ↦ ap length s.new_rows ∙ length-table h (pivoted_row o n rows s.p (length pivots) col)
-  ]
+  pivoted-shape : (h n : ℕ) (rows : List (List E)) (p r col : ℕ) → IsMatrix o n rows → IsMatrix o n (pivoted o h n rows p r col)
+  pivoted-shape h n rows p r col shape =
+      let rows_in = entry-elem o L n rows shape in
+      let lead = lead_of o n rows p col in
+      let lead_tuple = lead_of-tuple o L n rows p col shape in
+      All-table (IsTuple o n) h (pivoted_row o n rows p r col) (λ i _.
+      let source = cond (nat_eq i p) r i in
+      cond_either (IsTuple o n) (nat_eq i r) lead (reduced_by o n (get_or rows source []) col lead) lead_tuple
+      (IsTuple-table o n (λ j. o.add (entry o rows source j) (o.mul (o.neg (entry o rows source col)) (at o lead j)))
+      (λ j _. L.add-elem _ _ (rows_in source j) (L.mul-elem _ _ (L.neg-elem _ (rows_in source col)) (at-elem o L lead lead_tuple.of_elements j)))))
 
-  pub step_form : (h n col : ℕ) (rows rows' : List (List E)) (pivots pivots' : List ℕ) → IsMatrix o n rows → col < n → IsStep o h n col rows rows' pivots pivots' → IsReduced o h rows pivots col → IsReduced o h rows' pivots' (col + 1)
-  step_form h n col rows rows' pivots pivots' shape col_in step form = elim step [
-    | inl s ↦
-        let P = λ (m : List (List E)) (ps : List ℕ). IsReduced o h m ps (col + 1) in
-        let Q = λ (m : List (List E)). IsReduced o h m pivots' (col + 1) in
-        let R = λ (ps : List ℕ). IsReduced o h rows ps (col + 1) in
-        subst Q (sym s.same_rows) (subst R (sym s.same_pivots) (form_skipped o h rows pivots col s.none form))
-    | inr s ↦
-        let Q = λ (m : List (List E)). IsReduced o h m pivots' (col + 1) in
-        let R = λ (ps : List ℕ). IsReduced o h (pivoted o h n rows s.p (length pivots) col) ps (col + 1) in
-        subst Q (sym s.new_rows) (subst R (sym s.new_pivots) (form_after o L h n rows (entry-elem o L n rows shape) s.p (length pivots) col col_in s.within s.from s.nonzero pivots refl form))
-  ]
-
-  pub step_related : (h w col : ℕ) (a rows rows' : List (List E)) (pivots pivots' : List ℕ) → IsMatrix o w a → IsMatrix o (w + h) rows → length rows ≡ h → IsStep o h (w + h) col rows rows' pivots pivots' → All (IsRelated o h w a) rows → All (IsRelated o h w a) rows'
-  step_related h w col a rows rows' pivots pivots' a_shape shape long step related = elim step [
-    | inl s ↦ let Q = λ (m : List (List E)). All (IsRelated o h w a) m in subst Q (sym s.same_rows) related
-    | inr s ↦
-        let Q = λ (m : List (List E)). All (IsRelated o h w a) m in
-        let R = IsRelated o h w a in
-        let n = w + h in
-        let p = s.p in
-        let r = length pivots in
-        let a_in = entry-elem o L w a a_shape in
-        let rows_in = entry-elem o L n rows shape in
-        let r_in : r < h = omega (arith, s.from, s.within) in
-        let row_related = λ (i : ℕ) (i_in : i < h). let low : i < length rows = omega arith in related i [] low in
-        let factor_in = L.inv-elem (entry o rows p col) (rows_in p col) in
-        let lead = lead_of o n rows p col in
-        let lead_related = related-scaled o L h w a a_in (o.inv (entry o rows p col)) (get_or rows p []) factor_in (rows_in p) (row_related p s.within) in
-        let lead_all : All (IsElem o) lead = All-table (IsElem o) n (λ j. o.mul (o.inv (entry o rows p col)) (entry o rows p j)) (λ j _. L.mul-elem _ _ factor_in (rows_in p j)) in
-        let lead_in = at-elem o L lead lead_all in
-        subst Q (sym s.new_rows) (All-table R h (pivoted_row o n rows p r col) (λ i i_in.
-        let source = cond (nat_eq i p) r i in
-        let source_in = cond_either (λ k. k < h) (nat_eq i p) r i r_in i_in in
-        let c_in = L.neg-elem (entry o rows source col) (rows_in source col) in
-        cond_either R (nat_eq i r) lead (reduced_by o n (get_or rows source []) col lead) lead_related
-        (related-combined o L h w a a_in (o.neg (entry o rows source col)) (get_or rows source []) lead c_in (rows_in source) lead_in (row_related source source_in) lead_related)))
-  ]
-
-  pub start_form : (h : ℕ) (rows : List (List E)) → IsReduced o h rows [] 0
+  start_form : (h : ℕ) (rows : List (List E)) → IsReduced o h rows [] 0
   start_form h rows = record {
     count = omega arith;
     below = λ s s_in. absurd (omega arith);
@@ -72,13 +41,63 @@ module _ {E : Type 0} (o : Ops E) (L : FieldLaws o) where
     rest = λ i j i_high i_in j_low. absurd (omega arith);
   }
 
+  pub start_eliminated : (h n : ℕ) (rows : List (List E)) → IsMatrix o n rows → length rows ≡ h → IsEliminated o h n 0 rows rows []
+  start_eliminated h n rows shape long = record {
+    shape = shape;
+    height = long;
+    reduced = start_form h rows;
+    forth = Combines-refl o L h n rows (entry-elem o L n rows shape);
+    back = Combines-refl o L h n rows (entry-elem o L n rows shape);
+  }
+
+  pub step_eliminated : (h n col : ℕ) (origin rows rows' : List (List E)) (pivots pivots' : List ℕ) → IsMatrix o n origin → col < n
+      → IsStep o h n col rows rows' pivots pivots' → IsEliminated o h n col origin rows pivots → IsEliminated o h n (col + 1) origin rows' pivots'
+  step_eliminated h n col origin rows rows' pivots pivots' origin_shape col_in step before = elim step [
+    | inl s ↦
+        let Q = λ (m : List (List E)). IsEliminated o h n (col + 1) origin m pivots' in
+        let R = λ (ps : List ℕ). IsEliminated o h n (col + 1) origin rows ps in
+        let after : IsEliminated o h n (col + 1) origin rows pivots = record {
+          shape = before.shape;
+          height = before.height;
+          reduced = form_skipped o h rows pivots col s.none before.reduced;
+          forth = before.forth;
+          back = before.back;
+        } in
+        subst Q (sym s.same_rows) (subst R (sym s.same_pivots) after)
+    | inr s ↦
+        let r = length pivots in
+        let new = pivoted o h n rows s.p r col in
+        let Q = λ (m : List (List E)). IsEliminated o h n (col + 1) origin m pivots' in
+        let R = λ (ps : List ℕ). IsEliminated o h n (col + 1) origin new ps in
+        let rows_in = entry-elem o L n rows before.shape in
+        let new_shape = pivoted-shape h n rows s.p r col before.shape in
+        let new_in = entry-elem o L n new new_shape in
+        let after : IsEliminated o h n (col + 1) origin new (pivots ++ col ∷ []) = record {
+          shape = new_shape;
+          height = length-table h (pivoted_row o n rows s.p r col);
+          reduced = form_after o L h n rows rows_in s.p r col col_in s.within s.from s.nonzero pivots refl before.reduced;
+          forth = Combines-trans o L h n origin rows new (entry-elem o L n origin origin_shape) before.forth (pivoted_forth o L h n rows rows_in s.p r col col_in s.within s.from s.nonzero new_in);
+          back = Combines-trans o L h n new rows origin new_in (pivoted_back o L h n rows rows_in s.p r col col_in s.within s.from s.nonzero new_in) before.back;
+        } in
+        subst Q (sym s.new_rows) (subst R (sym s.new_pivots) after)
+  ]
+
+  -- the rows before and after have the same combinations
+  pub same_span : (n w : ℕ) (a b : List (List E)) (pivots : List ℕ) → IsMatrix o n a → IsEliminated o (length a) n w a b pivots → SameSpan o n a b
+  same_span n w a b pivots shape e =
+      let P : ℕ → Type 0 = λ h. Combines o h n b a in
+      let back : Combines o (length b) n b a = subst P (sym e.height) e.back in
+      SameSpan-by o L n a b shape e.shape
+      (λ i i_in. let i_in' : i < length b = omega (arith, e.height) in InSpan-by o L n b (get_or a i []) (back.weight i) (back.weight-elem i) (λ j j_in. sym (back.combines i j i_in' j_in)))
+      (λ i i_in. let i_in' : i < length a = omega (arith, e.height) in InSpan-by o L n a (get_or b i []) (e.forth.weight i) (e.forth.weight-elem i) (λ j j_in. sym (e.forth.combines i j i_in' j_in)))
+
   cond_low : (j w : ℕ) (x y : E) → j < w → cond (nat_lt j w) x y ≡ x
   cond_low j w x y h = rw (lt-ltb j w h) refl
 
   cond_high : (j w : ℕ) (x y : E) → w ≤ j → cond (nat_lt j w) x y ≡ y
   cond_high j w x y h = rw (le-ltb j w h) refl
 
-  pub after_width : (w k i : ℕ) (row : List E) → augmented_item o w row i (w + k) ≡ cond (nat_eq k i) o.one o.zero
+  after_width : (w k i : ℕ) (row : List E) → augmented_item o w row i (w + k) ≡ cond (nat_eq k i) o.one o.zero
   after_width w k i row =
       cond_high (w + k) w (at o row (w + k)) (cond (nat_eq (w + k) (w + i)) o.one o.zero) (omega arith)
       ∙ elim (cases_eq k i) [
@@ -86,22 +105,7 @@ module _ {E : Type 0} (o : Ops E) (L : FieldLaws o) where
         | inr d ↦ let f : w + k ≢ w + i = omega arith in cond_no (w + k) (w + i) o.one o.zero f ∙ sym (cond_no k i o.one o.zero d)
       ]
 
-  pub start_related : (h w : ℕ) (a rows : List (List E)) → IsMatrix o w a → rows ≡ augmented o h w a → All (IsRelated o h w a) rows
-  start_related h w a rows shape e =
-      let Q = λ (m : List (List E)). All (IsRelated o h w a) m in
-      let a_in = entry-elem o L w a shape in
-      subst Q (sym e) (All-table (IsRelated o h w a) h (λ i. table (w + h) (augmented_item o w (get_or a i []) i)) (λ i i_in j j_in.
-      let row = get_or a i [] in
-      let f = augmented_item o w row i in
-      let j_all : j < w + h = omega arith in
-      get_or-table (w + h) f j o.zero j_all
-      ∙ cond_low j w (at o row j) (cond (nat_eq j (w + i)) o.one o.zero) j_in
-      ∙ sym (sum_of-delta_mul o L h i (λ k. entry o a k j) (λ k. a_in k j) i_in)
-      ∙ sum_of_congr o h _ _ (λ k k_in.
-      let k_all : w + k < w + h = omega arith in
-      ap (λ x. o.mul x (entry o a k j)) (sym (get_or-table (w + h) f (w + k) o.zero k_all ∙ after_width w k i row)))))
-
-  pub entry_columns : (h k n : ℕ) (rows : List (List E)) (i j : ℕ) → i < h → j < n → entry o (columns o h k n rows) i j ≡ entry o rows i (k + j)
+  entry_columns : (h k n : ℕ) (rows : List (List E)) (i j : ℕ) → i < h → j < n → entry o (columns o h k n rows) i j ≡ entry o rows i (k + j)
   entry_columns h k n rows i j i_in j_in =
       ap (λ row. at o row j) (get_or-table h (λ i. table n (λ j. entry o rows i (k + j))) i [] i_in)
       ∙ get_or-table n (λ j. entry o rows i (k + j)) j o.zero j_in
@@ -125,21 +129,66 @@ module _ {E : Type 0} (o : Ops E) (L : FieldLaws o) where
     rest = λ i j i_high i_in j_low. entry_left h w rows i j i_in j_low ∙ form.rest i j i_high i_in j_low;
   }
 
-  pub finish : (h w : ℕ) (a rows left : List (List E)) (pivots : List ℕ) (transform : List (List E)) → length rows ≡ h → IsReduced o h rows pivots w → All (IsRelated o h w a) rows → IsMatrix o w left → IsMatrix o h transform → left ≡ columns o h 0 w rows → transform ≡ columns o h w h rows → IsInvertible o h transform → IsEchelon o h w a left pivots transform
-  finish h w a rows left pivots transform long form related left_shape transform_shape left_is transform_is invertible = record {
-    invertible = invertible;
+  invertible : (h w : ℕ) (a rows transform : List (List E)) → IsMatrix o h transform → Combines o h (w + h) rows (augmented o h w a) → transform ≡ columns o h w h rows → IsInvertible o h transform
+  invertible h w a rows transform transform_shape undo e =
+      let u : List (List E) = table h (λ i. table h (undo.weight i)) in
+      let u_shape : IsMatrix o h u = table_matrix o L h h undo.weight undo.weight-elem in
+      let left : (i j : ℕ) → i < h → j < h → sum_of o h (λ k. o.mul (entry o u i k) (entry o transform k j)) ≡ cond (nat_eq j i) o.one o.zero = λ i j i_in j_in.
+      let j_all : w + j < w + h = omega arith in
+      sum_of_congr o h _ _ (λ k k_in. ap₂ o.mul (entry_table o L h h undo.weight i k i_in k_in) (ap (λ m. entry o m k j) e ∙ entry_columns h w h rows k j k_in j_in))
+      ∙ undo.combines i (w + j) i_in j_all
+      ∙ entry_table o L h (w + h) (λ i. augmented_item o w (get_or a i []) i) i (w + j) i_in j_all
+      ∙ after_width w j i (get_or a i []) in
+      record {
+        inverse = u;
+        shape = u_shape;
+        height = length-table h (λ i. table h (undo.weight i));
+        inverse-mul = table_congr h _ _ (λ i i_in. table_congr h _ _ (λ j j_in. left i j i_in j_in));
+        mul-inverse = table_congr h _ _ (λ i i_in. table_congr h _ _ (λ j j_in.
+            right_inverse o L h u transform (entry-elem o L h u u_shape) (entry-elem o L h transform transform_shape) left i j i_in j_in));
+      }
+
+  -- the transform stands after the first w columns
+  unit_after : (h w : ℕ) (a : List (List E)) (m k : ℕ) → m < h → k < h → entry o (augmented o h w a) m (w + k) ≡ cond (nat_eq k m) o.one o.zero
+  unit_after h w a m k m_in k_in =
+      let k_all : w + k < w + h = omega arith in
+      entry_table o L h (w + h) (λ i. augmented_item o w (get_or a i []) i) m (w + k) m_in k_all ∙ after_width w k m (get_or a m [])
+
+  same_before : (h w : ℕ) (a : List (List E)) (m j : ℕ) → m < h → j < w → entry o (augmented o h w a) m j ≡ entry o a m j
+  same_before h w a m j m_in j_in =
+      let j_all : j < w + h = omega arith in
+      entry_table o L h (w + h) (λ i. augmented_item o w (get_or a i []) i) m j m_in j_all
+      ∙ cond_low j w (entry o a m j) (cond (nat_eq j (w + m)) o.one o.zero) j_in
+
+  transform_at : (h w : ℕ) (a rows : List (List E)) (e : Combines o h (w + h) (augmented o h w a) rows) (i k : ℕ) → i < h → k < h → entry o rows i (w + k) ≡ e.weight i k
+  transform_at h w a rows e i k i_in k_in =
+      let k_all : w + k < w + h = omega arith in
+      sym (e.combines i (w + k) i_in k_all)
+      ∙ sum_of_congr o h _ _ (λ m m_in. ap (o.mul (e.weight i m)) (unit_after h w a m k m_in k_in))
+      ∙ sum_of-mul_delta o L h k (e.weight i) (e.weight-elem i) k_in
+
+  transforms : (h w : ℕ) (a rows : List (List E)) → Combines o h (w + h) (augmented o h w a) rows → (i j : ℕ) → i < h → j < w
+      → sum_of o h (λ k. o.mul (entry o rows i (w + k)) (entry o a k j)) ≡ entry o rows i j
+  transforms h w a rows e i j i_in j_in =
+      let j_all : j < w + h = omega arith in
+      sum_of_congr o h _ _ (λ k k_in. ap₂ o.mul (transform_at h w a rows e i k i_in k_in) (sym (same_before h w a k j k_in j_in)))
+      ∙ e.combines i j i_in j_all
+
+  pub finish : (h w : ℕ) (a rows left : List (List E)) (pivots : List ℕ) (transform : List (List E)) → IsEliminated o h (w + h) w (augmented o h w a) rows pivots
+      → IsMatrix o w left → IsMatrix o h transform → left ≡ columns o h 0 w rows → transform ≡ columns o h w h rows → IsEchelon o h w a left pivots transform
+  finish h w a rows left pivots transform e left_shape transform_shape left_is transform_is = record {
     rows_shape = left_shape;
-    transform_shape = transform_shape;
     rows_height = ap length left_is ∙ length-table h _;
+    transform_shape = transform_shape;
     transform_height = ap length transform_is ∙ length-table h _;
-    reduced = let Q = λ (m : List (List E)). IsReduced o h m pivots w in subst Q (sym left_is) (form_left h w rows pivots form);
+    reduced = let Q = λ (m : List (List E)). IsReduced o h m pivots w in subst Q (sym left_is) (form_left h w rows pivots e.reduced);
     makes =
         ap (λ t. product o h h w t a) transform_is
         ∙ table_congr h _ _ (λ i i_in. table_congr w _ _ (λ j j_in.
-        let low : i < length rows = omega arith in
-        let e : j ≡ 0 + j = omega arith in
+        let f : j ≡ 0 + j = omega arith in
         sum_of_congr o h _ _ (λ k k_in. ap (λ x. o.mul x (entry o a k j)) (entry_columns h w h rows i k i_in k_in))
-        ∙ sym (related i [] low j j_in)
-        ∙ ap (entry o rows i) e))
+        ∙ transforms h w a rows e.forth i j i_in j_in
+        ∙ ap (entry o rows i) f))
         ∙ sym left_is;
+    invertible = invertible h w a rows transform transform_shape e.back transform_is;
   }

@@ -1,20 +1,20 @@
 -- Sums over the elements of a program's field, and tables of them.
 use Rattle.std.specs.Prelude.{◌≡◌, ℕ, zero, suc, ◌+◌, ◌<◌, ◌≤◌, List, [], ◌∷◌, ◌++◌, length, get_or, cond, nat_eq}
 use Rattle.std.specs.List.{All}
-use Rattle.std.proofs.Common.{refl, sym, ◌∙◌, ap, ap₂, subst, arith, add-one, ⊎_elim}
+use Rattle.std.proofs.Common.{refl, sym, ◌∙◌, ap, ap₂, subst, add-one, ⊎_elim}
 use Rattle.std.proofs.lemmas.Bool.{cases_lt}
 use Rattle.std.proofs.lemmas.List.{get_or_past, get_or_default}
 use Rattle.std.proofs.lemmas.List.Elements.{All-push}
 use Rattle.theory_rings.specs.Ops.{Ops, IsElem, FieldLaws}
 use Rattle.theory_rings.specs.Elements.{Elem, Elem-path, elements}
 use Rattle.theory_rings.specs.Sum.{sum, sum_of, table, at}
-use Rattle.theory_rings.proofs.Rings.Elements.{at-elem, sum_of-elem, sum_of-elements, sum_of_congr}
+use Rattle.theory_rings.proofs.Rings.Elements.{at-elem, sum_of-elements, sum_of_congr}
 use Rattle.theory_rings.proofs.Rings.Solver.{◌⊞◌, ◌⊠◌, minus, ring3}
 use Rattle.theory_rings.proofs.Sums.Sums as sums
 use Rattle.theory_rings.proofs.Sums.Lists.{length-table, get_or-table, All-table}
 use Rattle.theory_spaces.specs.Tuples.{IsTuple}
 use Rattle.spl_matrix.specs.Matrix.{entry, IsMatrix}
-use Rattle.spl_matrix.proofs.Terms.{add-zero, add-neg, mul-one, mul-zero, zero-mul, add-mul, cond_yes, cond_no, cond_either}
+use Rattle.spl_matrix.proofs.Terms.{zero-mul, cond_yes, cond_no, cond_either}
 
 pub sum_of-next : {E : Type 0} (o : Ops E) (n : ℕ) (f : ℕ → E) → sum_of o (n + 1) f ≡ o.add (sum_of o n f) (f n)
 sum_of-next o n f = rw add-one refl

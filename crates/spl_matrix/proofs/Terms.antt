@@ -13,6 +13,9 @@ module _ {E : Type 0} (o : Ops E) (L : FieldLaws o) where
   pub add-neg : (a : E) → IsElem o a → o.add a (o.neg a) ≡ o.zero
   add-neg a h = ap (λ x. x.0) (ring.add-neg (elements o L).additive (a, h))
 
+  pub neg-zero : o.neg o.zero ≡ o.zero
+  neg-zero = ap (λ x. x.0) (ring.neg_zero (elements o L).additive)
+
   pub mul-one : (a : E) → IsElem o a → o.mul a o.one ≡ a
   mul-one a h = ap (λ x. x.0) ((elements o L).mul-one (a, h))
 

@@ -1,7 +1,6 @@
 -- The reduced row echelon form of a matrix, and the invertible matrix that makes it.
-use Rattle.std.specs.Prelude.{◌≡◌, ◌+◌, ◌<◌, ◌≤◌, ℕ, List, [], length, get_or, cond, nat_eq}
+use Rattle.std.specs.Prelude.{◌≡◌, ◌<◌, ◌≤◌, ℕ, List, length, get_or, cond, nat_eq}
 use Rattle.theory_rings.specs.Ops.{Ops}
-use Rattle.theory_spaces.specs.Tuples.{IsTuple}
 use Rattle.spl_matrix.specs.Matrix.{entry, product, identity, IsMatrix}
 
 -- the first col columns of the h rows are in reduced row echelon form, with these pivots

@@ -2,16 +2,25 @@
 use Rattle.std.specs.Prelude.{◌≡◌, ◌≢◌, ◌⊎◌, ◌+◌, ◌<◌, ◌≤◌, ℕ, List, [], ◌∷◌, ◌++◌, length, get_or, cond, nat_eq, nat_lt}
 use Rattle.theory_rings.specs.Ops.{Ops, IsElem}
 use Rattle.theory_rings.specs.Sum.{sum_of, table, at}
-use Rattle.spl_matrix.specs.Matrix.{entry}
+use Rattle.spl_matrix.specs.Matrix.{entry, IsMatrix}
+use Rattle.spl_matrix.specs.Echelon.{IsReduced}
 
 module _ {E : Type 0} (o : Ops E) where
+  -- the row divided by its item in column col
+  abbrev pub divided : ℕ → List E → ℕ → List E
+  divided n row col = table n (λ j. o.mul (o.inv (at o row col)) (at o row j))
+
   -- row p divided by its item in column col
   abbrev pub lead_of : ℕ → List (List E) → ℕ → ℕ → List E
-  lead_of n rows p col = table n (λ j. o.mul (o.inv (entry o rows p col)) (entry o rows p j))
+  lead_of n rows p col = divided n (get_or rows p []) col
 
   -- the row minus its item in column col times the lead
   abbrev pub reduced_by : ℕ → List E → ℕ → List E → List E
   reduced_by n row col lead = table n (λ j. o.add (at o row j) (o.mul (o.neg (at o row col)) (at o lead j)))
+
+  -- row i after the lead, which is to stand in row r, cleared column col
+  abbrev pub cleared_row : ℕ → List (List E) → ℕ → ℕ → List E → ℕ → List E
+  cleared_row n rows r col lead i = cond (nat_eq i r) (get_or rows i []) (reduced_by n (get_or rows i []) col lead)
 
   -- row i after the pivot is moved from row p to row r and cleared from the other rows
   abbrev pub pivoted_row : ℕ → List (List E) → ℕ → ℕ → ℕ → ℕ → List E
@@ -53,12 +62,17 @@ module _ {E : Type 0} (o : Ops E) where
   abbrev pub columns : ℕ → ℕ → ℕ → List (List E) → List (List E)
   columns h k n rows = table h (λ i. table n (λ j. entry o rows i (k + j)))
 
-  -- the first w items of v are the combination of the rows of a with the h multipliers after them
-  abbrev pub IsRelated : ℕ → ℕ → List (List E) → List E → Type 0
-  IsRelated h w a v = (j : ℕ) → j < w → at o v j ≡ sum_of o h (λ k. o.mul (at o v (w + k)) (entry o a k j))
+  -- each of the first h rows of b is a combination of the first h rows of a, over the first n columns
+  pub record Combines (h n : ℕ) (a b : List (List E)) : Type 0 where
+    pub weight : ℕ → ℕ → E
+    pub weight-elem : (i k : ℕ) → IsElem o (weight i k)
+    pub combines : (i j : ℕ) → i < h → j < n → sum_of o h (λ k. o.mul (weight i k) (entry o a k j)) ≡ entry o b i j
 
-  -- each row of origin is a combination of the rows, over the first n columns
-  pub record Recovers (h n : ℕ) (rows origin : List (List E)) : Type 0 where
-    pub inverse : ℕ → ℕ → E
-    pub inverse-elem : (i j : ℕ) → IsElem o (inverse i j)
-    pub recovers : (i j : ℕ) → i < h → j < n → sum_of o h (λ k. o.mul (inverse i k) (entry o rows k j)) ≡ entry o origin i j
+  -- the first w columns of the h by n matrix are brought into reduced row echelon form, and its rows and the new ones are
+  -- combinations of each other
+  pub record IsEliminated (h n w : ℕ) (rows rows' : List (List E)) (pivots : List ℕ) : Type 0 where
+    pub shape : IsMatrix o n rows'
+    pub height : length rows' ≡ h
+    pub reduced : IsReduced o h rows' pivots w
+    pub forth : Combines h n rows rows'
+    pub back : Combines h n rows' rows

@@ -7,8 +7,9 @@ ghost use Rattle.spl_matrix.specs.Matrix.{entry, IsMatrix, width_of};
 ghost use Rattle.spl_matrix.specs.Echelon.{IsEchelon};
 ghost use Rattle.spl_matrix.specs.Elimination.{columns};
 
-use crate::elimination::{State, advance, augmented_of};
+use crate::elimination::{augmented_of, eliminate};
 use crate::matrix::{Indices, Matrix};
+use crate::rows::Row;
 use spl_field::field::{Field, NoMemory};
 use spl_field::vector::Vector;
 use std::alloc::{AllocError, Global};
@@ -44,7 +45,7 @@ fn columns_of<F: Field>(
     alloc: Global,
     f: &F,
     n: usize,
-    rows: &[Vector<F>],
+    rows: &[Row<F>],
     from: usize,
     count: usize,
 ) -> Result<Matrix<F>, NoMemory>
@@ -73,15 +74,8 @@ pub(crate) fn echelon_of<F: Field>(
     ensures { IfOk result (λ e. IsEchelon (F.ops f.now) (length a.now) w a.now e.rows e.pivots e.transform) }
 {
     let h = a.len();
-    let rows = augmented_of(alloc, f, w, a)?;
-    let mut state = State {
-        rows,
-        pivots: Indices::new(alloc),
-    };
-    for col in 0..w {
-        state = advance(alloc, f, w + h, state, col)?;
-    }
-    let State { rows, pivots } = state;
+    let mut rows = augmented_of(alloc, f, w, a)?;
+    let pivots = eliminate(alloc, f, w + h, w, &mut rows)?;
     let left = columns_of(alloc, f, w + h, rows.as_slice(), 0, w)?;
     let transform = columns_of(alloc, f, w + h, rows.as_slice(), w, h)?;
     Ok(Echelon {

@@ -1,5 +1,5 @@
 // Matrices, as lists of rows of one length, and lists of indices.
-ghost use Rattle.std.specs.Prelude.{◌≡◌, ◌<◌, ◌≤◌, ◌↔◌, List, [], ◌∷◌, ◌++◌, length, IfOk, IfSome, OnOk, OnErr, slice_index_or, All};
+ghost use Rattle.std.specs.Prelude.{◌≡◌, ◌<◌, ◌≤◌, ◌↔◌, List, [], ◌∷◌, ◌++◌, length, IfOk, IfSome, OnOk, OnErr, slice_index_or, All, take};
 ghost use Rattle.theory_rings.specs.Ops.{IsElem};
 ghost use Rattle.spl_matrix.specs.Matrix.{width_of, trace_of, IsMatrix, IsRectangular};
 
@@ -147,6 +147,13 @@ impl<F: Field> Matrix<F> {
             rows.push(row.copy(alloc, f)?)?;
         }
         Ok(Matrix { rows })
+    }
+
+    /// Drops the rows from place n on.
+    pub(crate) fn truncate(&mut self, n: usize)
+        ensures { self.new ≡ take n self.old }
+    {
+        self.rows.truncate(n);
     }
 
     /// The sum of the diagonal of a square matrix.

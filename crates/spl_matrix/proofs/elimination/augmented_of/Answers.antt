@@ -15,6 +15,6 @@ loop-i-preserved g c =
     let read = row_at a i c.index-a-i.result c.as_slice.result.now c.loop-i-test.true c.index-a-i.is c.as_slice.ensures in
     let item = c.in_ok-row.row in
     record {
-      shape = All_step (IsTuple o n) c.loop-i.rows c.push.new.self item c.loop-i.invariant.shape c.in_ok-row.ensures.elem c.in_ok-push.ensures.ok;
-      value = table_step i (λ i. table n (augmented_item o w (get_or a i []) i)) c.loop-i.rows c.push.new.self item c.loop-i.invariant.value (rw read at c.in_ok-row.ensures.value) c.in_ok-push.ensures.ok;
+      shape = All_step (IsTuple o n) c.loop-i.rows.items c.push.new.self.items item c.loop-i.invariant.shape c.in_ok-row.ensures.elem c.in_ok-push.ensures.items;
+      value = table_step i (λ i. table n (augmented_item o w (get_or a i []) i)) c.loop-i.rows.items c.push.new.self.items item c.loop-i.invariant.value (rw read at c.in_ok-row.ensures.value) c.in_ok-push.ensures.items;
     }

@@ -6,6 +6,6 @@ use Rattle.spl_matrix.proofs.elimination.augmented_of.Given as goal
 
 abbrev pub invariant-loop-i : goal.invariant-loop-i
 invariant-loop-i g l = let o = g.F.Field.ops l.f in record {
-  shape : IsMatrix o (l.w + length l.a) l.rows;
-  value : l.rows ≡ table l.i (λ i. table (l.w + length l.a) (augmented_item o l.w (get_or l.a i []) i));
+  shape : IsMatrix o (l.w + length l.a) l.rows.items;
+  value : l.rows.items ≡ table l.i (λ i. table (l.w + length l.a) (augmented_item o l.w (get_or l.a i []) i));
 }

@@ -1,4 +1,4 @@
-use Rattle.std.proofs.Common.{◌≡◌, ℕ, ◌<◌, ◌≤◌, length}
+use Rattle.std.proofs.Common.{◌≡◌, ℕ, ◌<◌, ◌≤◌}
 use Rattle.spl_matrix.specs.Matrix.{entry}
 use Rattle.spl_matrix.proofs.elimination.find_pivot.Given as goal
 

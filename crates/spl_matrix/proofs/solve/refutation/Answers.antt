@@ -1,6 +1,5 @@
-use Rattle.std.proofs.Common.{◌≡◌, ℕ, ◌<◌, List, [], length, get_or, sym, ap, subst, ◌∙◌, arith}
-use Rattle.theory_rings.specs.Sum.{table, at}
-use Rattle.spl_matrix.specs.Matrix.{entry}
+use Rattle.std.proofs.Common.{◌≡◌, ℕ, ◌<◌, List, [], length, get_or, ap, subst, ◌∙◌, arith}
+use Rattle.theory_rings.specs.Sum.{at}
 use Rattle.theory_spaces.specs.Tuples.{IsTuple}
 use Rattle.spl_matrix.proofs.Sums.{read_at, row_at}
 use Rattle.theory_rings.proofs.Rings.Elements.{at-elem}

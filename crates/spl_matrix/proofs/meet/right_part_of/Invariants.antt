@@ -1,0 +1,10 @@
+use Rattle.std.proofs.Common.{◌≡◌, ◌+◌}
+use Rattle.theory_rings.specs.Sum.{table}
+use Rattle.spl_matrix.specs.Matrix.{entry, IsMatrix}
+use Rattle.spl_matrix.proofs.meet.right_part_of.Given as goal
+
+abbrev pub invariant-loop-i : goal.invariant-loop-i
+invariant-loop-i g l = let o = g.F.Field.ops l.f in record {
+  shape : IsMatrix o l.w l.out;
+  value : l.out ≡ table l.i (λ i. table l.w (λ j. entry o l.rows (l.k + i) (l.w + j)));
+}

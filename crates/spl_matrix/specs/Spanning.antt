@@ -1,0 +1,39 @@
+-- The vectors and matrices that the calls on subspaces make on their way.
+use Rattle.std.specs.Prelude.{◌≡◌, ◌≢◌, ◌⊎◌, ◌+◌, ◌-◌, ◌<◌, ◌≤◌, ℕ, Bool, List, [], length, get_or, cond, nat_eq, nat_lt}
+use Rattle.theory_rings.specs.Ops.{Ops}
+use Rattle.theory_rings.specs.Sum.{table, at}
+use Rattle.spl_matrix.specs.Matrix.{entry}
+
+-- x is the place of j in the list, or the length of the list where j isn't in it
+pub record IsPlace (xs : List ℕ) (j x : ℕ) : Type 0 where
+  pub before : (s : ℕ) → s < x → get_or xs s 0 ≢ j
+  pub here : x < length xs → get_or xs x 0 ≡ j
+  pub past : (x < length xs) ⊎ (x ≡ length xs)
+
+module _ {E : Type 0} (o : Ops E) where
+  -- p is the first place of the row with an item that is not 0, or the end of the row
+  pub record IsLeadingPlace (row : List E) (p : ℕ) : Type 0 where
+    pub before : (j : ℕ) → j < p → at o row j ≡ o.zero
+    pub nonzero : p < length row → at o row p ≢ o.zero
+
+  -- item l of the vector that a reduced matrix sends to 0, made for column j: 1 at j, less item j of the row whose pivot is
+  -- in column l; where column j has a pivot, the vector is 0
+  abbrev pub kernel_item : List (List E) → List ℕ → ℕ → ℕ → E
+  kernel_item rows places j l = o.add (cond (nat_eq l j) o.one o.zero) (o.neg (entry o rows (get_or places l 0) j))
+
+  -- each row is such a vector, and those for the columns below n without a pivot are all there
+  pub record AreKernelRows (w : ℕ) (rows : List (List E)) (places : List ℕ) (n : ℕ) (vectors : List (List E)) : Type 0 where
+    pub sound : (i : ℕ) → i < length vectors → (j : ℕ) × (j < w) × (get_or vectors i [] ≡ table w (kernel_item rows places j))
+    pub complete : (j : ℕ) → j < n → length rows ≤ get_or places j 0 → (i : ℕ) × (i < length vectors) × (get_or vectors i [] ≡ table w (kernel_item rows places j))
+
+  -- item j of the row with the row after it, or 0
+  abbrev pub doubled_item : ℕ → Bool → List E → ℕ → E
+  doubled_item w twice row j = cond (nat_lt j w) (at o row j) (cond twice (at o row (j - w)) o.zero)
+
+  -- the matrix whose first p rows stand twice beside each other, and the others beside 0
+  abbrev pub doubled : ℕ → ℕ → List (List E) → List (List E)
+  doubled w p rows = table (length rows) (λ i. table (w + w) (doubled_item w (nat_lt i p) (get_or rows i [])))
+
+  -- the rows from k on, from column w on
+  abbrev pub right_part : ℕ → ℕ → List (List E) → List (List E)
+  right_part w k rows = table (length rows - k) (λ i. table w (λ j. entry o rows (k + i) (w + j)))

@@ -1,0 +1,161 @@
+// Bases in reduced row echelon form: the rows with a pivot, their pivots, and the combinations of the rows.
+ghost use Rattle.std.specs.Prelude.{◌≡◌, ◌≢◌, ◌<◌, ◌≤◌, ◌↔◌, ℕ, List, [], length, get_or, IfOk, IsTrue, All};
+ghost use Rattle.theory_rings.specs.Ops.{IsElem};
+ghost use Rattle.theory_rings.specs.Sum.{sum_of, table, at};
+ghost use Rattle.theory_spaces.specs.Tuples.{IsTuple};
+ghost use Rattle.spl_matrix.specs.Matrix.{entry, IsMatrix};
+ghost use Rattle.spl_matrix.specs.Echelon.{IsReduced};
+ghost use Rattle.spl_matrix.specs.Subspace.{SameSpan, IsReducedBasis};
+ghost use Rattle.spl_matrix.specs.Spanning.{IsLeadingPlace};
+
+use crate::matrix::Indices;
+use crate::reduced::{Reduced, reduced_rows};
+use spl_field::field::{Field, NoMemory};
+use spl_field::vector::Vector;
+use std::alloc::Global;
+
+/// The rows with a pivot of the reduced row echelon form of a matrix with w columns.
+pub(crate) fn basis_of<F: Field>(
+    alloc: Global,
+    f: &F,
+    w: usize,
+    rows: &[Vector<F>],
+) -> Result<Reduced<F>, NoMemory>
+    requires shape { IsMatrix (F.ops f.now) w rows.now }
+    ensures shape { IfOk result (λ r. IsMatrix (F.ops f.now) w r.rows) }
+    ensures each { IfOk result (λ r. length r.pivots ≡ length r.rows) }
+    ensures reduced { IfOk result (λ r. IsReduced (F.ops f.now) (length r.rows) r.rows r.pivots w) }
+    ensures same { IfOk result (λ r. SameSpan (F.ops f.now) w rows.now r.rows) }
+{
+    let Reduced { mut rows, pivots } = reduced_rows(alloc, f, w, rows)?;
+    rows.truncate(pivots.len());
+    Ok(Reduced { rows, pivots })
+}
+
+/// The first place of the row with an item that is not 0, or the end of the row.
+fn leading_place<F: Field>(f: &F, zero: &F::Elem, row: &[F::Elem]) -> usize
+    requires row { All (IsElem (F.ops f.now)) row.now }
+    requires zero_elem { IsElem (F.ops f.now) zero.now }
+    requires zero { zero.now ≡ (F.ops f.now).zero }
+    ensures { IsLeadingPlace (F.ops f.now) row.now result }
+{
+    for j in 0..row.len() {
+        if !f.eq(&row[j], zero) {
+            return j;
+        }
+    }
+    row.len()
+}
+
+/// The pivots of a basis in reduced row echelon form.
+pub(crate) fn pivots_of<F: Field>(
+    alloc: Global,
+    f: &F,
+    w: usize,
+    rows: &[Vector<F>],
+) -> Result<Indices, NoMemory>
+    requires { IsReducedBasis (F.ops f.now) w rows.now }
+    ensures each { IfOk result (λ p. length p ≡ length rows.now) }
+    ensures reduced { IfOk result (λ p. IsReduced (F.ops f.now) (length rows.now) rows.now p w) }
+{
+    let zero = f.zero(alloc)?;
+    let mut pivots = Indices::new(alloc);
+    for i in 0..rows.len() {
+        pivots.push(leading_place(f, &zero, rows[i].as_slice()))?;
+    }
+    Ok(pivots)
+}
+
+/// The items of the tuple at these places.
+pub(crate) fn gathered<F: Field>(
+    alloc: Global,
+    f: &F,
+    places: &[usize],
+    v: &[F::Elem],
+) -> Result<Vector<F>, NoMemory>
+    requires elems { All (IsElem (F.ops f.now)) v.now }
+    requires within { (s : ℕ) → s < length places.now → get_or places.now s 0 < length v.now }
+    ensures elem { IfOk result (IsTuple (F.ops f.now) (length places.now)) }
+    ensures value { IfOk result (λ c. c ≡ table (length places.now) (λ s. at (F.ops f.now) v.now (get_or places.now s 0))) }
+{
+    let mut items = Vector::new(alloc);
+    for s in 0..places.len() {
+        items.push(f.copy(alloc, &v[places[s]])?)?;
+    }
+    Ok(items)
+}
+
+/// sum + a·b; a factor 0 costs no product.
+fn add_product<F: Field>(
+    alloc: Global,
+    f: &F,
+    zero: &F::Elem,
+    sum: F::Elem,
+    a: &F::Elem,
+    b: &F::Elem,
+) -> Result<F::Elem, NoMemory>
+    requires zero_elem { IsElem (F.ops f.now) zero.now }
+    requires zero { zero.now ≡ (F.ops f.now).zero }
+    requires sum { IsElem (F.ops f.now) sum }
+    requires left { IsElem (F.ops f.now) a.now }
+    requires right { IsElem (F.ops f.now) b.now }
+    ensures elem { IfOk result (IsElem (F.ops f.now)) }
+    ensures value { IfOk result (λ r. r ≡ (F.ops f.now).add sum ((F.ops f.now).mul a.now b.now)) }
+{
+    if f.eq(a, zero) {
+        return Ok(sum);
+    }
+    if f.eq(b, zero) {
+        return Ok(sum);
+    }
+    let term = f.mul(alloc, a, b)?;
+    f.add(alloc, &sum, &term)
+}
+
+/// Item j of the combination of the rows by c.
+fn combined_item<F: Field>(
+    alloc: Global,
+    f: &F,
+    w: usize,
+    zero: &F::Elem,
+    c: &[F::Elem],
+    rows: &[Vector<F>],
+    j: usize,
+) -> Result<F::Elem, NoMemory>
+    requires shape { IsMatrix (F.ops f.now) w rows.now }
+    requires weights { IsTuple (F.ops f.now) (length rows.now) c.now }
+    requires zero_elem { IsElem (F.ops f.now) zero.now }
+    requires zero { zero.now ≡ (F.ops f.now).zero }
+    requires column { j < w }
+    ensures elem { IfOk result (IsElem (F.ops f.now)) }
+    ensures value { IfOk result (λ r. r ≡ sum_of (F.ops f.now) (length rows.now) (λ i. (F.ops f.now).mul (at (F.ops f.now) c.now i) (entry (F.ops f.now) rows.now i j))) }
+{
+    let mut sum = f.zero(alloc)?;
+    for i in 0..rows.len() {
+        sum = add_product(alloc, f, zero, sum, &c[i], &rows[i].as_slice()[j])?;
+    }
+    Ok(sum)
+}
+
+/// Whether v is the combination of the rows by c.
+pub(crate) fn is_combination<F: Field>(
+    alloc: Global,
+    f: &F,
+    c: &[F::Elem],
+    rows: &[Vector<F>],
+    v: &[F::Elem],
+) -> Result<bool, NoMemory>
+    requires shape { IsMatrix (F.ops f.now) (length v.now) rows.now }
+    requires weights { IsTuple (F.ops f.now) (length rows.now) c.now }
+    requires vector { All (IsElem (F.ops f.now)) v.now }
+    ensures { IfOk result (λ b. IsTrue b ↔ ((j : ℕ) → j < length v.now → at (F.ops f.now) v.now j ≡ sum_of (F.ops f.now) (length rows.now) (λ i. (F.ops f.now).mul (at (F.ops f.now) c.now i) (entry (F.ops f.now) rows.now i j)))) }
+{
+    let zero = f.zero(alloc)?;
+    for j in 0..v.len() {
+        let item = combined_item(alloc, f, v.len(), &zero, c, rows, j)?;
+        if !f.eq(&v[j], &item) {
+            return Ok(false);
+        }
+    }
+    Ok(true)
+}

@@ -1,0 +1,171 @@
+// The vectors that a matrix sends to 0.
+ghost use Rattle.std.specs.Prelude.{◌≡◌, ◌+◌, ◌<◌, ◌≤◌, ℕ, List, [], length, get_or, cond, nat_eq, IfOk, All};
+ghost use Rattle.theory_rings.specs.Ops.{IsElem};
+ghost use Rattle.theory_rings.specs.Sum.{table};
+ghost use Rattle.theory_spaces.specs.Tuples.{IsTuple};
+ghost use Rattle.spl_matrix.specs.Matrix.{IsMatrix, width_of};
+ghost use Rattle.spl_matrix.specs.Subspace.{IsSubspace, SpansKernel};
+ghost use Rattle.spl_matrix.specs.Spanning.{IsPlace, kernel_item, AreKernelRows};
+
+use crate::basis::basis_of;
+use crate::matrix::{Indices, Matrix};
+use crate::subspace::{Subspace, span_of};
+use spl_field::field::{Field, NoMemory};
+use spl_field::vector::Vector;
+use std::alloc::Global;
+
+/// The place of j in the list, or the length of the list where j isn't in it.
+fn place_of(indices: &[usize], j: usize) -> usize
+    ensures { IsPlace indices.now j result }
+{
+    for s in 0..indices.len() {
+        if indices[s] == j {
+            return s;
+        }
+    }
+    indices.len()
+}
+
+/// The place of each number below w in the list.
+fn places_of(alloc: Global, indices: &[usize], w: usize) -> Result<Indices, NoMemory>
+    ensures long { IfOk result (λ p. length p ≡ w) }
+    ensures each { IfOk result (λ p. (j : ℕ) → j < w → IsPlace indices.now j (get_or p j 0)) }
+{
+    let mut places = Indices::new(alloc);
+    for j in 0..w {
+        places.push(place_of(indices, j))?;
+    }
+    Ok(places)
+}
+
+/// Item l of the vector with 1 at place j, and else 0.
+fn unit_item<F: Field>(alloc: Global, f: &F, l: usize, j: usize) -> Result<F::Elem, NoMemory>
+    ensures elem { IfOk result (IsElem (F.ops f.now)) }
+    ensures value { IfOk result (λ r. r ≡ cond (nat_eq l j) (F.ops f.now).one (F.ops f.now).zero) }
+{
+    if l == j { f.one(alloc) } else { f.zero(alloc) }
+}
+
+fn kernel_item_of<F: Field>(
+    alloc: Global,
+    f: &F,
+    w: usize,
+    rows: &[Vector<F>],
+    places: &[usize],
+    j: usize,
+    l: usize,
+) -> Result<F::Elem, NoMemory>
+    requires shape { IsMatrix (F.ops f.now) w rows.now }
+    requires places { length places.now ≡ w }
+    requires column { j < w }
+    requires item { l < w }
+    ensures elem { IfOk result (IsElem (F.ops f.now)) }
+    ensures value { IfOk result (λ r. r ≡ kernel_item (F.ops f.now) rows.now places.now j l) }
+{
+    let unit = unit_item(alloc, f, l, j)?;
+    let s = places[l];
+    if s >= rows.len() {
+        return Ok(unit);
+    }
+    let less = f.neg(alloc, &rows[s].as_slice()[j])?;
+    f.add(alloc, &unit, &less)
+}
+
+fn kernel_row_of<F: Field>(
+    alloc: Global,
+    f: &F,
+    w: usize,
+    rows: &[Vector<F>],
+    places: &[usize],
+    j: usize,
+) -> Result<Vector<F>, NoMemory>
+    requires shape { IsMatrix (F.ops f.now) w rows.now }
+    requires places { length places.now ≡ w }
+    requires column { j < w }
+    ensures elem { IfOk result (IsTuple (F.ops f.now) w) }
+    ensures value { IfOk result (λ r. r ≡ table w (kernel_item (F.ops f.now) rows.now places.now j)) }
+{
+    let mut items = Vector::new(alloc);
+    for l in 0..w {
+        items.push(kernel_item_of(alloc, f, w, rows, places, j, l)?)?;
+    }
+    Ok(items)
+}
+
+/// The rows, and after them the vector for column j if it has no pivot.
+fn with_kernel_row<F: Field>(
+    alloc: Global,
+    f: &F,
+    w: usize,
+    rows: &[Vector<F>],
+    places: &[usize],
+    j: usize,
+    vectors: Matrix<F>,
+) -> Result<Matrix<F>, NoMemory>
+    requires shape { IsMatrix (F.ops f.now) w rows.now }
+    requires places { length places.now ≡ w }
+    requires column { j < w }
+    requires vectors_shape { IsMatrix (F.ops f.now) w vectors }
+    requires vectors { AreKernelRows (F.ops f.now) w rows.now places.now j vectors }
+    ensures shape { IfOk result (IsMatrix (F.ops f.now) w) }
+    ensures vectors { IfOk result (AreKernelRows (F.ops f.now) w rows.now places.now (j + 1)) }
+{
+    if places[j] < rows.len() {
+        return Ok(vectors);
+    }
+    let mut more = vectors;
+    let row = kernel_row_of(alloc, f, w, rows, places, j)?;
+    more.push(row)?;
+    Ok(more)
+}
+
+/// One vector for each column without a pivot.
+fn kernel_rows_of<F: Field>(
+    alloc: Global,
+    f: &F,
+    w: usize,
+    rows: &[Vector<F>],
+    places: &[usize],
+) -> Result<Matrix<F>, NoMemory>
+    requires shape { IsMatrix (F.ops f.now) w rows.now }
+    requires places { length places.now ≡ w }
+    ensures shape { IfOk result (IsMatrix (F.ops f.now) w) }
+    ensures vectors { IfOk result (AreKernelRows (F.ops f.now) w rows.now places.now w) }
+{
+    let mut vectors = Matrix::new(alloc);
+    for j in 0..w {
+        vectors = with_kernel_row(alloc, f, w, rows, places, j, vectors)?;
+    }
+    Ok(vectors)
+}
+
+/// The vectors that a matrix with w columns sends to 0.
+fn kernel_of<F: Field>(
+    alloc: Global,
+    f: &F,
+    w: usize,
+    rows: &[Vector<F>],
+) -> Result<Subspace<F>, NoMemory>
+    requires shape { IsMatrix (F.ops f.now) w rows.now }
+    ensures basis { IfOk result (λ s. IsSubspace (F.ops f.now) s) }
+    ensures width { IfOk result (λ s. s.width ≡ w) }
+    ensures members { IfOk result (λ s. SpansKernel (F.ops f.now) (length rows.now) w rows.now s.rows) }
+{
+    let e = basis_of(alloc, f, w, rows)?;
+    let places = places_of(alloc, e.pivots.as_slice(), w)?;
+    let vectors = kernel_rows_of(alloc, f, w, e.rows.as_slice(), places.as_slice())?;
+    span_of(alloc, f, w, vectors.as_slice())
+}
+
+impl<F: Field> Matrix<F> {
+    /// The vectors v with self·v = 0.
+    pub fn kernel(&self, alloc: Global, f: &F) -> Result<Subspace<F>, NoMemory>
+        requires elems { All (All (IsElem (F.ops f.now))) self.now }
+        requires rows { 1 ≤ length self.now }
+        ensures basis { IfOk result (λ s. IsSubspace (F.ops f.now) s) }
+        ensures width { IfOk result (λ s. s.width ≡ width_of self.now) }
+        ensures members { IfOk result (λ s. SpansKernel (F.ops f.now) (length self.now) (width_of self.now) self.now s.rows) }
+    {
+        kernel_of(alloc, f, self.width(), self.as_slice())
+    }
+}

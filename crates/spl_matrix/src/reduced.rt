@@ -1,0 +1,84 @@
+// The reduced row echelon form without its transform.
+ghost use Rattle.std.specs.Prelude.{◌≡◌, ◌<◌, ℕ, List, [], length, IfOk, get_or, All};
+ghost use Rattle.theory_rings.specs.Ops.{IsElem};
+ghost use Rattle.theory_spaces.specs.Tuples.{IsTuple};
+ghost use Rattle.spl_matrix.specs.Matrix.{IsMatrix};
+ghost use Rattle.spl_matrix.specs.Echelon.{IsReduced};
+ghost use Rattle.spl_matrix.specs.Subspace.{SameSpan};
+
+use crate::elimination::eliminate;
+use crate::matrix::{Indices, Matrix};
+use crate::rows::Row;
+use spl_field::field::{Field, NoMemory};
+use spl_field::vector::Vector;
+use std::alloc::Global;
+use std::mem;
+
+/// Rows in reduced row echelon form, and their pivots.
+#[derive(Drop)]
+pub(crate) struct Reduced<F: Field> {
+    pub rows: Matrix<F>,
+    pub pivots: Indices,
+}
+
+/// A row with these items.
+fn row_of<F: Field>(alloc: Global, f: &F, items: &[F::Elem]) -> Result<Row<F>, NoMemory>
+    requires { All (IsElem (F.ops f.now)) items.now }
+    ensures { IfOk result (λ r. r ≡ items.now) }
+{
+    let mut row = Row::new(alloc);
+    for item in items {
+        row.push(f.copy(alloc, item)?)?;
+    }
+    Ok(row)
+}
+
+/// These rows, to be changed in place.
+fn rows_of<F: Field>(
+    alloc: Global,
+    f: &F,
+    w: usize,
+    rows: &[Vector<F>],
+) -> Result<Vec<Row<F>>, NoMemory>
+    requires { IsMatrix (F.ops f.now) w rows.now }
+    ensures { IfOk result (λ r. r.items ≡ rows.now) }
+{
+    let mut out = Vec::with_capacity(alloc, rows.len())?;
+    for i in 0..rows.len() {
+        let row = row_of(alloc, f, rows[i].as_slice())?;
+        out.push(row)?;
+    }
+    Ok(out)
+}
+
+/// The matrix of these rows, which are moved into it.
+fn matrix_of<F: Field>(alloc: Global, w: usize, rows: &mut [Row<F>]) -> Result<Matrix<F>, NoMemory>
+    requires { All (λ row. length row ≡ w) rows.old }
+    ensures { IfOk result (λ m. m ≡ rows.old) }
+{
+    let mut out = Matrix::new(alloc);
+    for i in 0..rows.len() {
+        let row = mem::replace(&mut rows[i], Row::new(alloc));
+        out.push(row.into_vector())?;
+    }
+    Ok(out)
+}
+
+/// The reduced row echelon form of a matrix with w columns, without its transform.
+pub(crate) fn reduced_rows<F: Field>(
+    alloc: Global,
+    f: &F,
+    w: usize,
+    rows: &[Vector<F>],
+) -> Result<Reduced<F>, NoMemory>
+    requires shape { IsMatrix (F.ops f.now) w rows.now }
+    ensures shape { IfOk result (λ r. IsMatrix (F.ops f.now) w r.rows) }
+    ensures height { IfOk result (λ r. length r.rows ≡ length rows.now) }
+    ensures reduced { IfOk result (λ r. IsReduced (F.ops f.now) (length rows.now) r.rows r.pivots w) }
+    ensures same { IfOk result (λ r. SameSpan (F.ops f.now) w rows.now r.rows) }
+{
+    let mut changed = rows_of(alloc, f, w, rows)?;
+    let pivots = eliminate(alloc, f, w, w, &mut changed)?;
+    let rows = matrix_of(alloc, w, &mut changed)?;
+    Ok(Reduced { rows, pivots })
+}
