@@ -1,5 +1,5 @@
 // Euclid's algorithm for two polynomials.
-ghost use Rattle.std.specs.Prelude.{◌≡◌, ◌≢◌, ℕ, ◌<◌, ◌↔◌, [], length, IfOk, IsTrue, slice_index};
+ghost use Rattle.std.specs.Prelude.{◌≡◌, ◌≢◌, ◌<◌, [], length, IfOk, IsTrue, slice_index};
 ghost use Rattle.theory_rings.specs.Ops.{IsElem, FieldLaws};
 ghost use Rattle.theory_rings.specs.Sum.{at};
 ghost use Rattle.theory_rings.specs.Polynomial.{IsTrimmed, degree};
@@ -58,7 +58,7 @@ fn minus_one(alloc: Global, f: &SmallField) -> Result<Poly, NoMemory>
     ensures over { IfOk result (IsOver (small_ops f.now)) }
     ensures trimmed { IfOk result (IsTrimmed 0) }
 {
-    let size = f.size();
+    let _ = f.size();
     Ok(constant(alloc, f, f.negative(1))?)
 }
 
