@@ -1,23 +1,23 @@
 -- The vectors that a matrix in reduced row echelon form sends to 0, by one vector for each column.
-use Rattle.std.specs.Prelude.{◌≡◌, ◌≢◌, ℕ, ◌<◌, ◌≤◌, List, [], length, get_or, cond, nat_eq}
-use Rattle.std.proofs.Common.{refl, sym, ◌∙◌, ap, ap₂, arith, ⊎_elim}
+use Rattle.std.specs.Prelude.{◌≡◌, ◌≢◌, ℕ, ◌+◌, ◌<◌, ◌≤◌, List, [], ◌∷◌, ◌++◌, length, get_or, cond, nat_eq}
+use Rattle.std.proofs.Common.{refl, sym, ◌∙◌, ap, ap₂, subst, arith, ⊎_elim}
 use Rattle.std.proofs.lemmas.Bool.{cases_eq, cases_lt}
-use Rattle.std.proofs.lemmas.List.{get_or_past}
+use Rattle.std.proofs.lemmas.List.{get_or_past, get_or_append_left, get_or_push, length_push}
 use Rattle.theory_rings.specs.Ops.{Ops, IsElem, FieldLaws}
 use Rattle.theory_rings.specs.Elements.{elements}
 use Rattle.theory_rings.specs.Sum.{sum_of, table, at}
 use Rattle.theory_rings.proofs.Rings.Elements.{at-elem, sum_of-elem, sum_of_congr}
 use Rattle.theory_rings.proofs.Rings.RingLaws as ring
 use Rattle.theory_rings.proofs.Rings.Solver.{◌⊠◌, minus, unit, ring2}
-use Rattle.theory_rings.proofs.Sums.Lists.{length-table}
+use Rattle.theory_rings.proofs.Sums.Lists.{length-table, get_or-table}
 use Rattle.theory_spaces.specs.Tuples.{IsTuple}
 use Rattle.spl_matrix.specs.Matrix.{entry, IsMatrix}
 use Rattle.spl_matrix.specs.Echelon.{IsReduced}
 use Rattle.spl_matrix.specs.Subspace.{InSpan, SameSpan, IsKilled, SpansKernel}
-use Rattle.spl_matrix.specs.Spanning.{IsPlace, kernel_item, kernel_rows}
+use Rattle.spl_matrix.specs.Spanning.{IsPlace, kernel_item, AreKernelRows}
 use Rattle.spl_matrix.proofs.Terms.{add-zero, add-neg, mul-zero, zero-mul, cond_yes, cond_no, cond_either}
 use Rattle.spl_matrix.proofs.Sums.{sum_of-add, mul-sum_of, sum_of_zeros, sum_of-delta_mul, sums_assoc, entry-elem, table_matrix, entry_table}
-use Rattle.spl_matrix.proofs.Spans.{combined, InSpan-by, rows_in, IsKilled_trans, SameSpan_sym}
+use Rattle.spl_matrix.proofs.Spans.{combined, InSpan-by, InSpan-zero, InSpan-member, SameSpan-by, rows_in, IsKilled_trans, SameSpan_sym}
 use Rattle.spl_matrix.proofs.ReducedBases.{cond_flip}
 
 module _ {E : Type 0} (o : Ops E) (L : FieldLaws o) where
@@ -30,10 +30,51 @@ module _ {E : Type 0} (o : Ops E) (L : FieldLaws o) where
   kernel_item-past rows places j l u past u_in e =
       sym (add-zero o L u u_in) ∙ ap₂ o.add e (sym (ap o.neg (ap (λ (row : List E). at o row j) (get_or_past rows (get_or places l 0) [] past)) ∙ neg_zero))
 
+  -- no column yet, a column with a pivot, and one without
+  pub AreKernelRows-none : (w : ℕ) (rows vectors : List (List E)) (places : List ℕ) → vectors ≡ [] → AreKernelRows o w rows places 0 vectors
+  AreKernelRows-none w rows vectors places e =
+      let long = ap length e in
+      record { sound = λ i i_in. absurd (omega arith); complete = λ j j_in _. absurd (omega arith) }
+
+  pub AreKernelRows-pivot : (w : ℕ) (rows vectors : List (List E)) (places : List ℕ) (n : ℕ) → get_or places n 0 < length rows → AreKernelRows o w rows places n vectors
+      → AreKernelRows o w rows places (n + 1) vectors
+  AreKernelRows-pivot w rows vectors places n low are = record {
+    sound = are.sound;
+    complete = λ j j_in high. ⊎_elim
+        (λ (before : j < n). are.complete j before high)
+        (λ (after : n ≤ j). let e : j ≡ n = omega arith in let same = ap (λ (k : ℕ). get_or places k 0) e in absurd (omega arith))
+        (cases_lt j n);
+  }
+
+  pub AreKernelRows-push : (w : ℕ) (rows vectors more : List (List E)) (places : List ℕ) (n : ℕ) (row : List E) → n < w → row ≡ table w (kernel_item o rows places n)
+      → more ≡ vectors ++ row ∷ [] → AreKernelRows o w rows places n vectors → AreKernelRows o w rows places (n + 1) more
+  AreKernelRows-push w rows vectors more places n row n_in row_is more_is are =
+      let long : length more ≡ length vectors + 1 = ap length more_is ∙ length_push vectors row in
+      let old : (i : ℕ) → i < length vectors → get_or more i [] ≡ get_or vectors i [] = λ i i_in.
+      ap (λ m. get_or m i []) more_is ∙ get_or_append_left vectors (row ∷ []) [] i i_in in
+      let last : get_or more (length vectors) [] ≡ table w (kernel_item o rows places n) =
+      ap (λ m. get_or m (length vectors) []) more_is ∙ get_or_push vectors row [] (length vectors) refl ∙ row_is in
+      let last_in : length vectors < length more = omega arith in
+      record {
+        sound = λ i i_in. ⊎_elim
+            (λ (low : i < length vectors). let h = are.sound i low in (h.0, h.1, old i low ∙ h.2))
+            (λ (high : length vectors ≤ i). let e : i ≡ length vectors = omega arith in (n, n_in, ap (λ k. get_or more k []) e ∙ last))
+            (cases_lt i (length vectors));
+        complete = λ j j_in past. ⊎_elim
+            (λ (before : j < n).
+            let h = are.complete j before past in
+            let l = h.1 in
+            let i_in : h.0 < length more = omega arith in
+            (h.0, i_in, old h.0 h.1 ∙ h.2))
+            (λ (after : n ≤ j). let e : n ≡ j = omega arith in (length vectors, last_in, last ∙ ap (λ k. table w (kernel_item o rows places k)) e))
+            (cases_lt j n);
+      }
+
   module _ (w : ℕ) (rows : List (List E)) (pivots : List ℕ) (shape : IsMatrix o w rows) (each : length pivots ≡ length rows) (form : IsReduced o (length rows) rows pivots w)
       (places : List ℕ) (place : (j : ℕ) → j < w → IsPlace pivots j (get_or places j 0)) where
-    abbrev vectors : List (List E)
-    vectors = kernel_rows o w rows places
+    -- one such vector for each column
+    abbrev pub vectors : List (List E)
+    vectors = table w (λ j. table w (kernel_item o rows places j))
 
     -- item j of the row whose pivot is in column l
     abbrev row_item : ℕ → ℕ → E
@@ -172,6 +213,54 @@ module _ {E : Type 0} (o : Ops E) (L : FieldLaws o) where
         ∙ ap₂ o.add (sum_of-delta_mul o L w l (at o v) v_in l_in)
         (sym (mul-sum_of o L w m g m_in g_in) ∙ ap (o.mul m) (row_item-killed v v_in k l l_in) ∙ mul-zero o L m m_in)
         ∙ add-zero o L (at o v l) (v_in l)))
+
+    -- the vector for a column with a pivot is 0
+    kernel_item-pivot : (j l : ℕ) → j < w → l < w → get_or places j 0 < length rows → kernel_item o rows places j l ≡ o.zero
+    kernel_item-pivot j l j_in l_in low =
+        let t = get_or places j 0 in
+        let t_in : t < length pivots = omega arith in
+        let t_there = (place j j_in).here t_in in
+        let s = get_or places l 0 in
+        let p = place l l_in in
+        let none = add-neg o L o.zero L.zero-elem in
+        ⊎_elim
+        (λ (s_in : s < length pivots).
+        let there = p.here s_in in
+        let s_row : s < length rows = omega arith in
+        let item : row_item l j ≡ cond (nat_eq s t) o.one o.zero = ap (entry o rows s) (sym t_there) ∙ form.unit t s t_in s_row in
+        ⊎_elim
+        (λ (e : s ≡ t).
+        let same : l ≡ j = sym there ∙ ap (λ (i : ℕ). get_or pivots i 0) e ∙ t_there in
+        ap₂ (λ x y. o.add x (o.neg y)) (cond_yes l j o.one o.zero same) (item ∙ cond_yes s t o.one o.zero e) ∙ add-neg o L o.one L.one-elem)
+        (λ (d : s ≢ t).
+        let apart : l ≢ j = λ e. pivots_apart s t s_in t_in d (t_there ∙ sym e ∙ sym there) in
+        ap₂ (λ x y. o.add x (o.neg y)) (cond_no l j o.one o.zero apart) (item ∙ cond_no s t o.one o.zero d) ∙ none)
+        (cases_eq s t))
+        (λ (e : s ≡ length pivots).
+        let before : t < s = omega arith in
+        let apart : l ≢ j = λ f. p.before t before (t_there ∙ sym f) in
+        ap₂ (λ x y. o.add x (o.neg y)) (cond_no l j o.one o.zero apart) (row_item-past l j e) ∙ none)
+        p.past
+
+    -- so the vectors for the other columns span the same
+    pub same_vectors : (some : List (List E)) → IsMatrix o w some → AreKernelRows o w rows places w some → SameSpan o w some vectors
+    same_vectors some some_shape are =
+        let P : List (List E) → List E → Type 0 = λ m row. InSpan o w m row in
+        SameSpan-by o L w some vectors some_shape vectors_shape
+        (λ i i_in.
+        let h = are.sound i i_in in
+        let j_row : h.0 < length vectors = (let e = vectors_length in let l = h.1 in omega arith) in
+        subst (P vectors) (get_or-table w (λ j. table w (kernel_item o rows places j)) h.0 [] h.1 ∙ sym h.2) (InSpan-member o L w vectors vectors_shape h.0 j_row))
+        (λ j j_row.
+        let long = vectors_length in
+        let j_in : j < w = omega arith in
+        let row_is = get_or-table w (λ j. table w (kernel_item o rows places j)) j [] j_in in
+        ⊎_elim
+        (λ (low : get_or places j 0 < length rows). InSpan-zero o L w some (get_or vectors j []) some_shape (λ l l_in. vectors_at j l j_in l_in ∙ kernel_item-pivot j l j_in l_in low))
+        (λ (high : length rows ≤ get_or places j 0).
+        let h = are.complete j j_in high in
+        subst (P some) (h.2 ∙ sym row_is) (InSpan-member o L w some some_shape h.0 h.1))
+        (cases_lt (get_or places j 0) (length rows)))
 
     -- of a matrix with the same rows' span, and any rows that span the same as the vectors
     pub spans_kernel : (a s : List (List E)) → IsMatrix o w a → SameSpan o w a rows → SameSpan o w s vectors → SpansKernel o (length a) w a s

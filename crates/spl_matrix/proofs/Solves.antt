@@ -1,7 +1,6 @@
 -- What an echelon form gives of a linear system.
-use Rattle.std.proofs.Common.{◌≡◌, ◌≢◌, inl, inr, ℕ, ◌+◌, ◌<◌, ◌≤◌, List, [], ◌∷◌, ◌++◌, length, get_or, cond, nat_eq, sym, ap, ap₂, subst, ◌∙◌, arith}
+use Rattle.std.proofs.Common.{◌≡◌, ◌≢◌, inl, inr, ℕ, ◌<◌, ◌≤◌, List, length, get_or, cond, nat_eq, sym, ap, ap₂, subst, ◌∙◌, arith}
 use Rattle.std.proofs.lemmas.Bool.{cases_eq, cases_lt}
-use Rattle.std.proofs.lemmas.List.{get_or_append_left, get_or_push}
 use Rattle.theory_rings.specs.Ops.{Ops, IsElem, FieldLaws}
 use Rattle.theory_rings.specs.Sum.{sum_of, at}
 use Rattle.spl_matrix.specs.Matrix.{entry, IsMatrix}
@@ -13,16 +12,6 @@ use Rattle.theory_rings.proofs.Rings.Elements.{sum_of_congr, at-elem}
 use Rattle.theory_rings.proofs.Sums.Lists.{get_or-table}
 use Rattle.spl_matrix.proofs.Terms.{mul-zero, zero-mul, mul-inv, cond_yes, cond_no}
 use Rattle.spl_matrix.proofs.Sums.{mul-sum_of, sum_of_zeros, sum_of-delta_mul, sums_assoc, entry-elem, entry_table}
-
--- a fact of each item, after one more
-pub grow : {E : Type 0} (o : Ops E) (Q : ℕ → E → Type 0) (j : ℕ) (before after : List E) (item : E) → length before ≡ j → ((k : ℕ) → k < j → Q k (at o before k)) → Q j item → after ≡ before ++ item ∷ [] → (k : ℕ) → k < j + 1 → Q k (at o after k)
-grow o Q j before after item long h q e k k_in = elim (cases_lt k j) [
-  | inl low ↦ let low' : k < length before = omega arith in subst (Q k) (sym (ap (λ xs. get_or xs k o.zero) e ∙ get_or_append_left before (item ∷ []) o.zero k low')) (h k low)
-  | inr high ↦
-      let is : j ≡ k = omega arith in
-      let P = λ (k : ℕ). Q k (at o after k) in
-      subst P is (subst (Q j) (sym (ap (λ xs. get_or xs j o.zero) e ∙ get_or_push before item o.zero j long)) q)
-]
 
 module _ {E : Type 0} (o : Ops E) (L : FieldLaws o) (h w : ℕ) (a : List (List E)) (right : List E) (a_shape : IsMatrix o w a) (right_shape : IsTuple o h right)
     (rows : List (List E)) (pivots : List ℕ) (transform : List (List E)) (echelon : IsEchelon o h w a rows pivots transform) where

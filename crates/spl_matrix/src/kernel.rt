@@ -1,11 +1,11 @@
 // The vectors that a matrix sends to 0.
-ghost use Rattle.std.specs.Prelude.{◌≡◌, ◌<◌, ◌≤◌, ℕ, List, [], length, get_or, cond, nat_eq, IfOk, All};
+ghost use Rattle.std.specs.Prelude.{◌≡◌, ◌+◌, ◌<◌, ◌≤◌, ℕ, List, [], length, get_or, cond, nat_eq, IfOk, All};
 ghost use Rattle.theory_rings.specs.Ops.{IsElem};
 ghost use Rattle.theory_rings.specs.Sum.{table};
 ghost use Rattle.theory_spaces.specs.Tuples.{IsTuple};
 ghost use Rattle.spl_matrix.specs.Matrix.{IsMatrix, width_of};
 ghost use Rattle.spl_matrix.specs.Subspace.{IsSubspace, SpansKernel};
-ghost use Rattle.spl_matrix.specs.Spanning.{IsPlace, kernel_item, kernel_rows};
+ghost use Rattle.spl_matrix.specs.Spanning.{IsPlace, kernel_item, AreKernelRows};
 
 use crate::basis::basis_of;
 use crate::matrix::{Indices, Matrix};
@@ -92,7 +92,34 @@ fn kernel_row_of<F: Field>(
     Ok(items)
 }
 
-/// One vector for each column; that for a column with a pivot is 0.
+/// The rows, and after them the vector for column j if it has no pivot.
+fn with_kernel_row<F: Field>(
+    alloc: Global,
+    f: &F,
+    w: usize,
+    rows: &[Vector<F>],
+    places: &[usize],
+    j: usize,
+    vectors: Matrix<F>,
+) -> Result<Matrix<F>, NoMemory>
+    requires shape { IsMatrix (F.ops f.now) w rows.now }
+    requires places { length places.now ≡ w }
+    requires column { j < w }
+    requires vectors_shape { IsMatrix (F.ops f.now) w vectors }
+    requires vectors { AreKernelRows (F.ops f.now) w rows.now places.now j vectors }
+    ensures shape { IfOk result (IsMatrix (F.ops f.now) w) }
+    ensures vectors { IfOk result (AreKernelRows (F.ops f.now) w rows.now places.now (j + 1)) }
+{
+    if places[j] < rows.len() {
+        return Ok(vectors);
+    }
+    let mut more = vectors;
+    let row = kernel_row_of(alloc, f, w, rows, places, j)?;
+    more.push(row)?;
+    Ok(more)
+}
+
+/// One vector for each column without a pivot.
 fn kernel_rows_of<F: Field>(
     alloc: Global,
     f: &F,
@@ -103,14 +130,13 @@ fn kernel_rows_of<F: Field>(
     requires shape { IsMatrix (F.ops f.now) w rows.now }
     requires places { length places.now ≡ w }
     ensures shape { IfOk result (IsMatrix (F.ops f.now) w) }
-    ensures value { IfOk result (λ m. m ≡ kernel_rows (F.ops f.now) w rows.now places.now) }
+    ensures vectors { IfOk result (AreKernelRows (F.ops f.now) w rows.now places.now w) }
 {
-    let mut out = Matrix::new(alloc);
+    let mut vectors = Matrix::new(alloc);
     for j in 0..w {
-        let row = kernel_row_of(alloc, f, w, rows, places, j)?;
-        out.push(row)?;
+        vectors = with_kernel_row(alloc, f, w, rows, places, j, vectors)?;
     }
-    Ok(out)
+    Ok(vectors)
 }
 
 /// The vectors that a matrix with w columns sends to 0.
