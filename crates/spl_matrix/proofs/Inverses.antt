@@ -1,5 +1,5 @@
 -- A left inverse of a square matrix over a field is a right inverse.
-use Rattle.std.specs.Prelude.{◌≡◌, ℕ, zero, suc, ◌<◌, ◌≤◌, List, cond, eqb, ltb}
+use Rattle.std.specs.Prelude.{◌≡◌, ℕ, zero, suc, ◌<◌, ◌≤◌, List, length, cond, eqb, ltb}
 use Rattle.std.proofs.Common.{refl, sym, ◌∙◌, ap, ap₂, ⊎_elim}
 use Rattle.std.proofs.lemmas.Bool.{cases_lt, cases_eq, lt-ltb, le-ltb}
 use Rattle.std.proofs.Math.Path.{fun_ext}
@@ -9,13 +9,16 @@ use Rattle.theory_rings.specs.Elements.{Elem, Elem-path, elements}
 use Rattle.theory_rings.specs.Sum.{sum, sum_of}
 use Rattle.theory_rings.proofs.Rings.RingLaws.{mul-zero, add-neg, neg_unique, neg_neg}
 use Rattle.theory_rings.proofs.Rings.Elements.{sum_of-elements}
+use Rattle.theory_rings.proofs.Sums.Lists.{table_congr}
 use Rattle.theory_rings.proofs.Sums.Sums.{sum_congr, sum_eq_zero}
 use Rattle.theory_spaces.specs.Matrix.{Matrix, mat_mul, delta}
 use Rattle.theory_spaces.specs.Functions.{functions}
 use Rattle.theory_spaces.specs.Linear.{comb, Independent, InSpan}
 use Rattle.theory_spaces.proofs.Dimension.{independent_of_span}
 use Rattle.theory_spaces.proofs.Matrices.{mat_mul_assoc, mat_mul_congr, add-mul_mat, mat_mul-delta, delta-mat_mul, sum-mul_delta}
-use Rattle.spl_matrix.specs.Matrix.{entry}
+use Rattle.spl_matrix.specs.Matrix.{entry, IsMatrix}
+use Rattle.spl_matrix.specs.Inverse.{IsInverse}
+use Rattle.spl_matrix.proofs.Sums.{entry-elem}
 use Rattle.spl_matrix.proofs.Terms.{cond_yes, cond_no}
 
 module _ {K : Type 0} (F : FieldOn K) (n : ℕ) where
@@ -91,3 +94,12 @@ right_inverse {E} o L h u t u_in t_in e i j i_in j_in =
     ∙ ap (λ (x : Elem o). x.0) (mul_eq_one_comm F h U T (λ i j i_in j_in. Elem-path o (mat_mul F.ring h U T i j) (delta F.ring i j)
     (sym (sum_of-elements o L h (λ k. F.◌⊗◌ (U i k) (T k j))) ∙ e i j i_in j_in ∙ sym (one_at i j))) i j i_in j_in)
     ∙ one_at i j
+
+pub IsInverse-left : {E : Type 0} (o : Ops E) (L : FieldLaws o) (h : ℕ) (u t : List (List E)) → IsMatrix o h u → length u ≡ h → IsMatrix o h t
+    → ((i j : ℕ) → i < h → j < h → sum_of o h (λ k. o.mul (entry o u i k) (entry o t k j)) ≡ cond (eqb j i) o.one o.zero) → IsInverse o h t u
+IsInverse-left o L h u t u_shape long t_shape left = record {
+  shape = u_shape;
+  height = long;
+  inverse-mul = table_congr h _ _ (λ i i_in. table_congr h _ _ (λ j j_in. left i j i_in j_in));
+  mul-inverse = table_congr h _ _ (λ i i_in. table_congr h _ _ (λ j j_in. right_inverse o L h u t (entry-elem o L h u u_shape) (entry-elem o L h t t_shape) left i j i_in j_in));
+}

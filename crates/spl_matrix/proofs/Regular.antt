@@ -6,13 +6,12 @@ use Rattle.theory_rings.specs.Ops.{Ops, IsElem, FieldLaws}
 use Rattle.theory_rings.specs.Elements.{Elem, Elem-path, elements}
 use Rattle.theory_rings.specs.Sum.{sum_of, at}
 use Rattle.theory_rings.proofs.Rings.Elements.{at-elem, sum_of_congr}
-use Rattle.theory_rings.proofs.Sums.Lists.{table_congr}
 use Rattle.theory_spaces.proofs.Decide.{NotAllZero, pivot}
 use Rattle.spl_matrix.specs.Matrix.{entry, IsMatrix}
 use Rattle.spl_matrix.specs.Echelon.{IsEchelon}
 use Rattle.spl_matrix.specs.Inverse.{IsInverse, AreDependent}
 use Rattle.spl_matrix.proofs.Combinations.{sum_of-mul_delta}
-use Rattle.spl_matrix.proofs.Inverses.{right_inverse}
+use Rattle.spl_matrix.proofs.Inverses.{IsInverse-left}
 use Rattle.spl_matrix.proofs.ReducedBases.{cond_flip}
 use Rattle.spl_matrix.proofs.Sums.{sum_of_zeros, sums_assoc, entry-elem, entry_table}
 use Rattle.spl_matrix.proofs.Terms.{zero-mul, cond_yes}
@@ -64,12 +63,7 @@ module _ {E : Type 0} (o : Ops E) (L : FieldLaws o) (h : ℕ) (a rows : List (Li
       (λ s s_in. let s_piv : s < length pivots = omega arith in r.below s s_piv)
       (λ s t s_low t_in. let t_piv : t < length pivots = omega arith in r.order s t s_low t_piv) j j_in in
       makes_at i j i_in j_in ∙ ap (entry o rows i) (sym at_j) ∙ r.unit j i j_piv i_in ∙ cond_flip i j o.one o.zero in
-      record {
-        shape = echelon.transform_shape;
-        height = echelon.transform_height;
-        inverse-mul = table_congr h _ _ (λ i i_in. table_congr h _ _ (λ j j_in. left i j i_in j_in));
-        mul-inverse = table_congr h _ _ (λ i i_in. table_congr h _ _ (λ j j_in. right_inverse o L h transform a t_in (entry-elem o L h a a_shape) left i j i_in j_in));
-      }
+      IsInverse-left o L h transform a echelon.transform_shape echelon.transform_height a_shape left
 
   -- the last row of the transform makes 0, and is not 0 itself
   pub are_dependent : length pivots ≢ h → AreDependent o h h a
@@ -82,7 +76,7 @@ module _ {E : Type 0} (o : Ops E) (L : FieldLaws o) (h : ℕ) (a rows : List (Li
       let F = elements o L in
       let f : ℕ → Elem o = λ k. (entry o transform last k, t_in last k) in
       let u = echelon.invertible.inverse in
-      let u_in = entry-elem o L h u echelon.invertible.shape in
+      let u_in = entry-elem o L h u echelon.invertible.is_inverse.shape in
       ⊎_elim
       (λ (n : NotAllZero F h f). record {
         multipliers = get_or transform last [];
@@ -95,7 +89,7 @@ module _ {E : Type 0} (o : Ops E) (L : FieldLaws o) (h : ℕ) (a rows : List (Li
       (λ (z : (k : ℕ) → k < h → f k ≡ F.zero). absurd (L.one-nonzero (
       sym (cond_yes last last o.one o.zero refl)
       ∙ sym (entry_table o L h h (λ i j. cond (nat_eq j i) o.one o.zero) last last last_in last_in)
-      ∙ ap (λ m. entry o m last last) (sym echelon.invertible.mul-inverse)
+      ∙ ap (λ m. entry o m last last) (sym echelon.invertible.is_inverse.mul-inverse)
       ∙ entry_table o L h h (λ i j. sum_of o h (λ k. o.mul (entry o transform i k) (entry o u k j))) last last last_in last_in
       ∙ sum_of_congr o h _ _ (λ k k_in. ap (λ x. o.mul x (entry o u k last)) (ap (λ (x : Elem o). x.0) (z k k_in)) ∙ zero-mul o L (entry o u k last) (u_in k last))
       ∙ sum_of_zeros o L h)))

@@ -25,7 +25,7 @@ module _ {E : Type 0} (o : Ops E) (L : FieldLaws o) (h w : ℕ) (a : List (List 
   t_in = entry-elem o L h transform echelon.transform_shape
 
   u_in : (i j : ℕ) → IsElem o (entry o echelon.invertible.inverse i j)
-  u_in = entry-elem o L h echelon.invertible.inverse echelon.invertible.shape
+  u_in = entry-elem o L h echelon.invertible.inverse echelon.invertible.is_inverse.shape
 
   b_in : (i : ℕ) → IsElem o (at o right i)
   b_in = at-elem o L right right_shape.of_elements
@@ -40,7 +40,7 @@ module _ {E : Type 0} (o : Ops E) (L : FieldLaws o) (h w : ℕ) (a : List (List 
   undoes_at : (i j : ℕ) → i < h → j < h → sum_of o h (λ k. o.mul (entry o echelon.invertible.inverse i k) (entry o transform k j)) ≡ cond (nat_eq j i) o.one o.zero
   undoes_at i j i_in j_in =
       sym (entry_table o L h h (λ i j. sum_of o h (λ k. o.mul (entry o echelon.invertible.inverse i k) (entry o transform k j))) i j i_in j_in)
-      ∙ ap (λ m. entry o m i j) echelon.invertible.inverse-mul
+      ∙ ap (λ m. entry o m i j) echelon.invertible.is_inverse.inverse-mul
       ∙ entry_table o L h h (λ i j. cond (nat_eq j i) o.one o.zero) i j i_in j_in
 
   -- u·(T·z) = z, for a column z

@@ -13,7 +13,7 @@ use Rattle.spl_matrix.specs.Echelon.{IsReduced, IsEchelon, IsInvertible}
 use Rattle.spl_matrix.specs.Subspace.{SameSpan}
 use Rattle.spl_matrix.proofs.Combinations.{sum_of-mul_delta, Combines-refl, Combines-trans, pivoted_forth, pivoted_back}
 use Rattle.spl_matrix.proofs.Forms.{form_after, form_skipped}
-use Rattle.spl_matrix.proofs.Inverses.{right_inverse}
+use Rattle.spl_matrix.proofs.Inverses.{IsInverse-left}
 use Rattle.spl_matrix.proofs.Pivots.{lead_of-tuple}
 use Rattle.spl_matrix.proofs.Spans.{InSpan-by, SameSpan-by}
 use Rattle.spl_matrix.proofs.Terms.{cond_yes, cond_no, cond_either}
@@ -139,14 +139,7 @@ module _ {E : Type 0} (o : Ops E) (L : FieldLaws o) where
       ∙ undo.combines i (w + j) i_in j_all
       ∙ entry_table o L h (w + h) (λ i. augmented_item o w (get_or a i []) i) i (w + j) i_in j_all
       ∙ after_width w j i (get_or a i []) in
-      record {
-        inverse = u;
-        shape = u_shape;
-        height = length-table h (λ i. table h (undo.weight i));
-        inverse-mul = table_congr h _ _ (λ i i_in. table_congr h _ _ (λ j j_in. left i j i_in j_in));
-        mul-inverse = table_congr h _ _ (λ i i_in. table_congr h _ _ (λ j j_in.
-            right_inverse o L h u transform (entry-elem o L h u u_shape) (entry-elem o L h transform transform_shape) left i j i_in j_in));
-      }
+      record { inverse = u; is_inverse = IsInverse-left o L h u transform u_shape (length-table h (λ i. table h (undo.weight i))) transform_shape left }
 
   -- the transform stands after the first w columns
   unit_after : (h w : ℕ) (a : List (List E)) (m k : ℕ) → m < h → k < h → entry o (augmented o h w a) m (w + k) ≡ cond (nat_eq k m) o.one o.zero

@@ -1,7 +1,8 @@
 -- The reduced row echelon form of a matrix, and the invertible matrix that makes it.
 use Rattle.std.specs.Prelude.{◌≡◌, ◌<◌, ◌≤◌, ℕ, List, length, get_or, cond, nat_eq}
 use Rattle.theory_rings.specs.Ops.{Ops}
-use Rattle.spl_matrix.specs.Matrix.{entry, product, identity, IsMatrix}
+use Rattle.spl_matrix.specs.Inverse.{IsInverse}
+use Rattle.spl_matrix.specs.Matrix.{entry, product, IsMatrix}
 
 -- the first col columns of the h rows are in reduced row echelon form, with these pivots
 pub record IsReduced {E : Type 0} (o : Ops E) (h : ℕ) (rows : List (List E)) (pivots : List ℕ) (col : ℕ) : Type 0 where
@@ -20,10 +21,7 @@ pub record IsReduced {E : Type 0} (o : Ops E) (h : ℕ) (rows : List (List E)) (
 -- some h by h matrix is the inverse of this one, on both sides
 pub record IsInvertible {E : Type 0} (o : Ops E) (h : ℕ) (m : List (List E)) : Type 0 where
   pub inverse : List (List E)
-  pub shape : IsMatrix o h inverse
-  pub height : length inverse ≡ h
-  pub inverse-mul : product o h h h inverse m ≡ identity o h
-  pub mul-inverse : product o h h h m inverse ≡ identity o h
+  pub is_inverse : IsInverse o h m inverse
 
 -- rows is the reduced row echelon form of the h by w matrix a, with these pivots; transform·a = rows, and transform is
 -- invertible
