@@ -1,0 +1,14 @@
+pub mod Degrees
+pub mod PredictableDegrees
+pub mod ReductionStep
+pub mod Reduction
+pub mod PolynomialRows
+pub mod CommonBases
+pub mod Intersections
+pub mod PowersOfDegreeOne
+pub mod DegreeCount
+pub mod DualLattices
+pub mod FractionDegrees
+pub mod RationalMembers
+pub mod Constants
+pub mod MiddleElements
