@@ -21,6 +21,31 @@ use Rattle.theory_lattices.proofs.PowersOfDegreeOne.{powers, at}
 use Rattle.theory_lattices.proofs.DegreeCount.{degree_count}
 use Rattle.theory_lattices.proofs.Constants.{ConstantsOf, middle_flat}
 
+module _ {k K : Type 0} (κ : FieldOn k) (F : FieldOn K) (W : DegreeOn F.ring) (P : K → Type 0) (ι : k → K) (hom : IsRingHom κ.ring F.ring ι)
+    (T : ℕ → K) (X : PolynomialsOf F W P κ.ring ι T) (T-zero : T 0 ≡ F.one) where
+  low_poly : (c : K) → P c → DegreeBelow W (pos 0) c → c ≡ F.zero
+  low_poly c h u = (X.expand c h 0 u).1
+
+  constant_sum : (s : ℕ → k) → F.◌⊕◌ F.zero (F.◌⊗◌ (ι (s 0)) (T 0)) ≡ ι (s 0)
+  constant_sum s = F.zero-add (F.◌⊗◌ (ι (s 0)) (T 0)) ∙ ap (F.◌⊗◌ (ι (s 0))) T-zero ∙ F.mul-one (ι (s 0))
+
+  poly_const : (c : K) → P c → DegreeBelow W (pos 1) c → (s : k) × (c ≡ ι s)
+  poly_const c h u = let r = X.expand c h 1 u in (r.0 0, r.1 ∙ constant_sum r.0)
+
+  const_poly : (s : k) → P (ι s)
+  const_poly s = subst P (constant_sum (λ _. s)) (X.back 1 (λ _. s))
+
+  const_below : (s : k) → DegreeBelow W (pos 1) (ι s)
+  const_below s = ⊎_elim (λ (e : ι s ≡ F.zero). inl e)
+      (λ (h : HasDegree W (pos 0) (ι s)). below_of_degree W (pos 0) (pos 1) (ι s) (omega (arith, ints)) h) (X.ι-degree s)
+
+  module _ {V : Type 0} (A : AlgebraOn F.ring V) (n : ℕ) (finite infinite : V → Type 0) (tr : V → K) (S : SelfDualPair F W A P finite infinite tr)
+      (b : ℕ → V) (a : ℕ → ℤ) (B : CommonBasis F W (module_of A) P n finite infinite b a) (dual : ℕ → V) (D : DualVectors F A tr n b dual) where
+    -- an element of the kind, or all degrees are 0
+    pub middle_or_flat : ((w : V) × Middle F W A P finite infinite w) ⊎ ((i : ℕ) → i < n → a i ≡ pos 0)
+    middle_or_flat = degree_count F W A P n finite infinite tr S (at F W (T 1) (X.T-degree 1)) (powers F W (T 1) (X.T-degree 1)) b a B
+        (subst P hom.map-one (const_poly κ.one)) (subst P X.ι-zero (const_poly κ.zero)) low_poly dual D
+
 -- the test of a search that ended
 module _ {X Y : Type 0} (Q : X → Y → Type 0) where
   found : (x : X) → ((y : Y) × Q x y) ⊎ ((y : Y) → Q x y → ⊥) → Bool
@@ -64,33 +89,12 @@ module _ {k K : Type 0} (κ : FieldOn k) (E : Enumerated k) (F : FieldOn K) (W :
     const_of = λ s. found-complete (λ c s. c ≡ ι s) (ι s) (search (ι s)) s refl;
   }
 
-  low_poly : (c : K) → P c → DegreeBelow W (pos 0) c → c ≡ F.zero
-  low_poly c h u = (X.expand c h 0 u).1
-
-  constant_sum : (s : ℕ → k) → F.◌⊕◌ F.zero (F.◌⊗◌ (ι (s 0)) (T 0)) ≡ ι (s 0)
-  constant_sum s = F.zero-add (F.◌⊗◌ (ι (s 0)) (T 0)) ∙ ap (F.◌⊗◌ (ι (s 0))) T-zero ∙ F.mul-one (ι (s 0))
-
-  poly_const : (c : K) → P c → DegreeBelow W (pos 1) c → (s : k) × (c ≡ ι s)
-  poly_const c h u = let r = X.expand c h 1 u in (r.0 0, r.1 ∙ constant_sum r.0)
-
-  const_poly : (s : k) → P (ι s)
-  const_poly s = subst P (constant_sum (λ _. s)) (X.back 1 (λ _. s))
-
-  const_below : (s : k) → DegreeBelow W (pos 1) (ι s)
-  const_below s = ⊎_elim (λ (e : ι s ≡ F.zero). inl e)
-      (λ (h : HasDegree W (pos 0) (ι s)). below_of_degree W (pos 0) (pos 1) (ι s) (omega (arith, ints)) h) (X.ι-degree s)
-
   module _ {V : Type 0} (A : AlgebraOn F.ring V) (n : ℕ) (finite infinite : V → Type 0) (tr : V → K) (S : SelfDualPair F W A P finite infinite tr)
       (b : ℕ → V) (a : ℕ → ℤ) (B : CommonBasis F W (module_of A) P n finite infinite b a) (dual : ℕ → V) (D : DualVectors F A tr n b dual) where
-    -- with no self-dual corner of other degrees, all are 0
-    pub middle_or_flat : ((w : V) × Middle F W A P finite infinite w) ⊎ ((i : ℕ) → i < n → a i ≡ pos 0)
-    middle_or_flat = degree_count F W A P n finite infinite tr S (at F W (T 1) (X.T-degree 1)) (powers F W (T 1) (X.T-degree 1)) b a B
-        (subst P hom.map-one (const_poly κ.one)) (subst P X.ι-zero (const_poly κ.zero)) low_poly dual D
-
     pub middle_exists : finite A.one → infinite A.one → ((x : V) → InSpan (module_of A) n b x) → Central A → 2 ≤ n → n ≤ 36
         → (w : V) × Middle F W A P finite infinite w
     middle_exists f1 i1 spans central enough bounded = ⊎_elim
         (λ (m : (w : V) × Middle F W A P finite infinite w). m)
         (λ (flat : (i : ℕ) → i < n → a i ≡ pos 0).
-        middle_flat κ E F W ι is_constant constants A P n poly_const const_poly const_below finite infinite tr S f1 i1 b a B spans dual D central enough bounded flat)
-        middle_or_flat
+        middle_flat κ E F W ι is_constant constants A P n (poly_const κ F W P ι hom T X T-zero) (const_poly κ F W P ι hom T X T-zero) (const_below κ F W P ι hom T X T-zero) finite infinite tr S f1 i1 b a B spans dual D central enough bounded flat)
+        (middle_or_flat κ F W P ι hom T X T-zero A n finite infinite tr S b a B dual D)

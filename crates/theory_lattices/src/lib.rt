@@ -8,4 +8,7 @@
 // degrees of polynomials and of rational functions.
 #![tactic(auto)]
 
+pub mod lattice_laws;
+pub mod order_laws;
+pub mod rational_laws;
 pub mod row_laws;

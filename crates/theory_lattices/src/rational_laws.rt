@@ -1,0 +1,94 @@
+// The degrees of polynomials and of rational functions over a field, and what the theorems on orders say there.
+ghost use Rattle.std.specs.Prelude.{◌≡◌, ℕ, ◌≤◌, ℤ};
+ghost use Rattle.theory_rings.specs.Ring.{FieldOn};
+ghost use Rattle.theory_rings.specs.Homomorphism.{IsRingHom};
+ghost use Rattle.theory_rings.specs.Enumerated.{Enumerated};
+ghost use Rattle.theory_rings.specs.Fraction.{IsFractionField, IsLowest};
+ghost use Rattle.theory_rings.proofs.Polynomials.Bezout.{field_polynomials};
+ghost use Rattle.theory_spaces.specs.Module.{AlgebraOn, module_of};
+ghost use Rattle.theory_spaces.specs.Linear.{InSpan};
+ghost use Rattle.theory_spaces.specs.Algebra.{Central};
+ghost use Rattle.theory_lattices.specs.Degree.{DegreeOn, IsEuclidean};
+ghost use Rattle.theory_lattices.specs.CommonBasis.{CommonBasis};
+ghost use Rattle.theory_lattices.specs.Members.{PolynomialsOf};
+ghost use Rattle.theory_lattices.specs.SelfDual.{SelfDualPair, Middle, DualVectors};
+ghost use Rattle.theory_lattices.specs.RationalFunctions.{IsPolynomialDegree, Rational, IsPolynomial, of_constant, power_of_x, IsRationalDegree};
+
+use theory_rings::structures::FieldStructure;
+
+/// The degree of polynomials over a field is one, and it is Euclidean.
+pub fn degree_of_polynomials<F: FieldStructure>()
+    ensures exists { (W : DegreeOn (field_polynomials F.field).ring) × IsPolynomialDegree F.field W }
+    ensures euclidean { (W : DegreeOn (field_polynomials F.field).ring) → IsPolynomialDegree F.field W → IsEuclidean W }
+{}
+
+/// A field of rational functions.
+pub trait RationalFunctions {
+    ghost Constant: { Type 0 };
+
+    ghost constants: { FieldOn Constant };
+
+    ghost field: { FieldOn (Rational constants) };
+
+    ghost fractions: { IsFractionField (field_polynomials constants) (IsLowest constants.cring (field_polynomials constants)) field };
+}
+
+/// The degree of the numerator less that of the denominator is a degree of rational functions. By it the polynomials are the
+/// combinations of powers of x with constants.
+pub fn degree_of_rational_functions<Q: RationalFunctions>()
+    ensures exists { (W : DegreeOn Q.field.ring) × IsRationalDegree Q.constants Q.field W }
+    ensures constants { IsRingHom Q.constants.ring Q.field.ring (of_constant Q.constants) }
+    ensures first { power_of_x Q.constants 0 ≡ Q.field.one }
+    ensures polynomials { (W : DegreeOn Q.field.ring) → IsRationalDegree Q.constants Q.field W
+        → PolynomialsOf Q.field W (IsPolynomial Q.constants) Q.constants.ring (of_constant Q.constants) (power_of_x Q.constants) }
+{}
+
+/// Two orders that are their own duals for a trace, in an algebra over the rational functions of a finite field, with a common
+/// basis and its dual vectors.
+pub trait RationalOrderPair {
+    ghost Constant: { Type 0 };
+
+    ghost constants: { FieldOn Constant };
+
+    ghost members: { Enumerated Constant };
+
+    ghost field: { FieldOn (Rational constants) };
+
+    ghost fractions: { IsFractionField (field_polynomials constants) (IsLowest constants.cring (field_polynomials constants)) field };
+
+    ghost degree: { DegreeOn field.ring };
+
+    ghost rational_degree: { IsRationalDegree constants field degree };
+
+    ghost Vector: { Type 0 };
+
+    ghost algebra: { AlgebraOn field.ring Vector };
+
+    ghost size: { ℕ };
+
+    ghost Finite: { Vector → Type 0 };
+
+    ghost Infinite: { Vector → Type 0 };
+
+    ghost trace: { Vector → Rational constants };
+
+    ghost pair: { SelfDualPair field degree algebra (IsPolynomial constants) Finite Infinite trace };
+
+    ghost vec: { ℕ → Vector };
+
+    ghost degrees: { ℕ → ℤ };
+
+    ghost basis: { CommonBasis field degree (module_of algebra) (IsPolynomial constants) size Finite Infinite vec degrees };
+
+    ghost dual: { ℕ → Vector };
+
+    ghost pairing: { DualVectors field algebra trace size vec dual };
+}
+
+/// Over the rational functions of a finite field, two self-dual orders of an algebra of dimension 2 to 36 whose centre is the
+/// field hold an element that is neither nilpotent nor a unit.
+pub fn rational_middle_element<O: RationalOrderPair>()
+    ensures { O.Finite O.algebra.one → O.Infinite O.algebra.one → ((x : O.Vector) → InSpan (module_of O.algebra) O.size O.vec x)
+        → Central O.algebra → 2 ≤ O.size → O.size ≤ 36
+        → (w : O.Vector) × Middle O.field O.degree O.algebra (IsPolynomial O.constants) O.Finite O.Infinite w }
+{}
