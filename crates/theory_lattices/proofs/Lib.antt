@@ -2,6 +2,9 @@ pub mod Degrees
 pub mod PredictableDegrees
 pub mod ReductionStep
 pub mod Reduction
+pub mod RowSpans
+pub mod ReducedBases
+pub mod Membership
 pub mod PolynomialRows
 pub mod CommonBases
 pub mod Intersections

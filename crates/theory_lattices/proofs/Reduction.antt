@@ -16,7 +16,7 @@ use Rattle.theory_spaces.specs.Linear.{InSpan}
 use Rattle.theory_spaces.specs.Functions.{functions}
 use Rattle.theory_spaces.proofs.Modules.{InSpan-add, InSpan-scale, InSpan_trans, InSpan-member}
 use Rattle.theory_lattices.specs.Degree.{DegreeOn, DegreeBelow, HasDegree, IsEuclidean}
-use Rattle.theory_lattices.specs.ReducedRows.{LeadsAt, Lead, WeakPopov, less_multiple}
+use Rattle.theory_lattices.specs.ReducedRows.{LeadsAt, Lead, WeakPopov, SameSpan, less_multiple}
 use Rattle.theory_lattices.proofs.Degrees.{cases_int, not_below_of_degree}
 use Rattle.theory_lattices.proofs.ReductionStep.{lead_of, step_lower}
 
@@ -57,7 +57,7 @@ module _ {K : Type 0} {R : RingOn K} (W : DegreeOn R) (euclid : IsEuclidean W) (
   pub key : (ℕ → K) → ℕ
   key row = key_at row (lead_of W w row)
 
-  lead_unique : (row : ℕ → K) (a b : Lead W w row) → (a.degree ≡ b.degree) × (a.place ≡ b.place)
+  pub lead_unique : (row : ℕ → K) (a b : Lead W w row) → (a.degree ≡ b.degree) × (a.place ≡ b.place)
   lead_unique row a b =
       let l : b.degree ≤ℤ a.degree = not_higher row a b in
       let g : a.degree ≤ℤ b.degree = not_higher row b a in
@@ -75,7 +75,7 @@ module _ {K : Type 0} {R : RingOn K} (W : DegreeOn R) (euclid : IsEuclidean W) (
       between : (x y : ℕ) → (x < y → ⊥) → (y < x → ⊥) → x ≡ y
       between x y f g = ⊎_elim (λ (h : x < y). absurd (f h)) (λ (h : y ≤ x). ⊎_elim (λ (q : y < x). absurd (g q)) (λ (q : x ≤ y). omega arith) (cases_lt y x)) (cases_lt x y)
 
-  key_is : (row : ℕ → K) (h : Lead W w row) → key row ≡ nat h.degree * w + h.place + 1
+  pub key_is : (row : ℕ → K) (h : Lead W w row) → key row ≡ nat h.degree * w + h.place + 1
   unfolding key key_at
   key_is row h = go (lead_of W w row)
     where
@@ -83,7 +83,7 @@ module _ {K : Type 0} {R : RingOn K} (W : DegreeOn R) (euclid : IsEuclidean W) (
       go (inl a) = let u = lead_unique row a h in ap₂ (λ d p. nat d * w + p + 1) u.0 u.1
       go (inr z) = absurd (h.leads.reaches.nonzero (z h.place h.leads.inside))
 
-  key_zero : (row : ℕ → K) → Z row → key row ≡ 0
+  pub key_zero : (row : ℕ → K) → Z row → key row ≡ 0
   unfolding key key_at
   key_zero row z = go (lead_of W w row)
     where
@@ -91,14 +91,15 @@ module _ {K : Type 0} {R : RingOn K} (W : DegreeOn R) (euclid : IsEuclidean W) (
       go (inl h) = absurd (h.leads.reaches.nonzero (z h.place h.leads.inside))
       go (inr z) = refl
 
-  record Conflict (low high : ℕ → K) : Type 0 where
+  -- two rows that lead at one place, the first of no greater degree
+  pub record Conflict (low high : ℕ → K) : Type 0 where
     pub a : Lead W w low
     pub b : Lead W w high
     pub place : a.place ≡ b.place
     pub degree : a.degree ≤ℤ b.degree
 
   -- the row that takes the place of the higher one
-  record Lower (low high : ℕ → K) : Type 0 where
+  pub record Lower (low high : ℕ → K) : Type 0 where
     pub factor : K
     pub smaller : key (less_multiple R high factor low) < key high
 
@@ -112,7 +113,7 @@ module _ {K : Type 0} {R : RingOn K} (W : DegreeOn R) (euclid : IsEuclidean W) (
   nat_lt (pos n) (negsuc m) h g = absurd (omega (arith, ints))
   nat_lt (negsuc n) e h g = absurd (omega (arith, ints))
 
-  lower : (low high : ℕ → K) → Conflict low high → Lower low high
+  pub lower : (low high : ℕ → K) → Conflict low high → Lower low high
   lower low high c =
       let p = c.b.place in
       let Q : ℕ → Type 0 = λ t. LeadsAt W w low c.a.degree t in
@@ -187,11 +188,7 @@ module _ {K : Type 0} {R : RingOn K} (W : DegreeOn R) (euclid : IsEuclidean W) (
       (λ (x : NoConflict (rows i) (rows k)). inr (λ _. x)) (conflict_or (rows i) (rows k)))
       (cases_eq i k))))
 
-  pub record SameSpan (n : ℕ) (rows new : ℕ → ℕ → K) : Type 0 where
-    pub into : (i : ℕ) → i < n → InSpan M n rows (new i)
-    pub back : (i : ℕ) → i < n → InSpan M n new (rows i)
-
-  replaced_span : (n i k : ℕ) (rows : ℕ → ℕ → K) (m : K) → i < n → k < n → (i ≡ k → ⊥) → SameSpan n rows (put k (less_multiple R (rows k) m (rows i)) rows)
+  pub replaced_span : (n i k : ℕ) (rows : ℕ → ℕ → K) (m : K) → i < n → k < n → (i ≡ k → ⊥) → SameSpan R n rows (put k (less_multiple R (rows k) m (rows i)) rows)
   replaced_span n i k rows m li lk d =
       let x = less_multiple R (rows k) m (rows i) in
       let new = put k x rows in
@@ -215,7 +212,7 @@ module _ {K : Type 0} {R : RingOn K} (W : DegreeOn R) (euclid : IsEuclidean W) (
   pub total : ℕ → (ℕ → ℕ → K) → ℕ
   total n rows = sum nat_monoid n (λ i. key (rows i))
 
-  total-put : (n k : ℕ) (x : ℕ → K) (rows : ℕ → ℕ → K) → k < n → total n (put k x rows) + key (rows k) ≡ total n rows + key x
+  pub total-put : (n k : ℕ) (x : ℕ → K) (rows : ℕ → ℕ → K) → k < n → total n (put k x rows) + key (rows k) ≡ total n rows + key x
   unfolding total
   total-put zero k x rows l = absurd (omega arith)
   total-put (suc n) k x rows l =
@@ -225,21 +222,19 @@ module _ {K : Type 0} {R : RingOn K} (W : DegreeOn R) (euclid : IsEuclidean W) (
       let d = ap key (put-at k x rows) in
       omega arith
 
-  one_step : (n : ℕ) (rows : ℕ → ℕ → K) → Pair n rows → (new : ℕ → ℕ → K) × SameSpan n rows new × (total n new < total n rows)
+  one_step : (n : ℕ) (rows : ℕ → ℕ → K) → Pair n rows → (new : ℕ → ℕ → K) × SameSpan R n rows new × (total n new < total n rows)
   one_step n rows p =
       let l = lower (rows p.i) (rows p.k) p.conflict in
       let x = less_multiple R (rows p.k) l.factor (rows p.i) in
       (put p.k x rows, replaced_span n p.i p.k rows l.factor p.i_in p.k_in p.two, (let t = total-put n p.k x rows p.k_in in let s = l.smaller in omega arith))
 
-  pub Reduction : ℕ → (ℕ → ℕ → K) → Type 0
-  Reduction n rows = (new : ℕ → ℕ → K) × SameSpan n rows new × WeakPopov W n w new
+  abbrev pub Reduction : ℕ → (ℕ → ℕ → K) → Type 0
+  Reduction n rows = (new : ℕ → ℕ → K) × SameSpan R n rows new × WeakPopov W n w new
 
   done : (n : ℕ) (rows : ℕ → ℕ → K) → WeakPopov W n w rows → Reduction n rows
-  unfolding Reduction
   done n rows a = (rows, record { into = λ i l. InSpan-member M n i rows l; back = λ i l. InSpan-member M n i rows l }, a)
 
-  after_step : (n : ℕ) (rows mid : ℕ → ℕ → K) → SameSpan n rows mid → Reduction n mid → Reduction n rows
-  unfolding Reduction
+  after_step : (n : ℕ) (rows mid : ℕ → ℕ → K) → SameSpan R n rows mid → Reduction n mid → Reduction n rows
   after_step n rows mid s r = (
     r.0,
     record {

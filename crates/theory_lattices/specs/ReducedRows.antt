@@ -3,6 +3,8 @@
 use Rattle.std.specs.Prelude.{◌≡◌, ℕ, ◌<◌, ◌≤◌, ℤ, pos, ◌+ℤ◌, ◌-ℤ◌, ◌≤ℤ◌, ◌<ℤ◌, ◌⊎◌}
 use Rattle.theory_rings.specs.Ring.{RingOn}
 use Rattle.theory_rings.specs.Sum.{sum}
+use Rattle.theory_spaces.specs.Linear.{InSpan}
+use Rattle.theory_spaces.specs.Functions.{functions}
 use Rattle.theory_lattices.specs.Degree.{DegreeOn, DegreeBelow, HasDegree}
 
 module _ {K : Type 0} (R : RingOn K) where
@@ -14,6 +16,16 @@ module _ {K : Type 0} (R : RingOn K) where
   pub record InRows (n w : ℕ) (rows : ℕ → ℕ → K) (row : ℕ → K) : Type 0 where
     pub weights : ℕ → K
     pub combines : (j : ℕ) → j < w → row j ≡ row_sum n weights rows j
+
+  -- n rows and m rows have, in the first w places, the same combinations
+  pub record SameRows (w n m : ℕ) (rows new : ℕ → ℕ → K) : Type 0 where
+    pub into : (i : ℕ) → i < m → InRows n w rows (new i)
+    pub back : (i : ℕ) → i < n → InRows m w new (rows i)
+
+  -- n rows and n others have, in all places, the same combinations
+  pub record SameSpan (n : ℕ) (rows new : ℕ → ℕ → K) : Type 0 where
+    pub into : (i : ℕ) → i < n → InSpan (functions R) n rows (new i)
+    pub back : (i : ℕ) → i < n → InSpan (functions R) n new (rows i)
 
   -- the row less m times another
   abbrev pub less_multiple : (ℕ → K) → K → (ℕ → K) → ℕ → K
@@ -58,6 +70,13 @@ module _ {K : Type 0} {R : RingOn K} (W : DegreeOn R) where
   -- of smaller degree than d, or of no greater degree and with its leading position before p
   abbrev pub LeadsLower : (w : ℕ) (row : ℕ → K) → Lead w row → ℤ → ℕ → Type 0
   LeadsLower w row h d p = (h.degree <ℤ d) ⊎ ((h.degree ≤ℤ d) × (h.place < p))
+
+  -- some reduced row leads where x does, and is of no greater degree
+  pub record LeadsAmong (n w : ℕ) (rows : ℕ → ℕ → K) (red : Reduced n w rows) (x : ℕ → K) (h : Lead w x) : Type 0 where
+    pub row : ℕ
+    pub within : row < n
+    pub place : red.lead row ≡ h.place
+    pub degree : red.degree row ≤ℤ h.degree
 
 -- a map that takes 0 alone to 0, and adds s to each degree
 pub record Shifts {K L : Type 0} {R : RingOn K} {S : RingOn L} (W : DegreeOn R) (X : DegreeOn S) (s : ℤ) (φ : K → L) : Type 0 where
