@@ -13,5 +13,7 @@ pub mod DegreeCount
 pub mod DualLattices
 pub mod FractionDegrees
 pub mod RationalMembers
+pub mod CommonBasisExists
+pub mod RationalBases
 pub mod Constants
 pub mod MiddleElements

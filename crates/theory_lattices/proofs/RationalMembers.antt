@@ -110,7 +110,7 @@ module _ {k : Type 0} (F : FieldOn k) where
     of u = of_polynomial F u
 
     -- a polynomial keeps its degree
-    degree_of_polynomial : (u : Poly R) → (u ≡ P.zero → ⊥) → W.deg (of u) ≡ pos (degree u.0)
+    pub degree_of_polynomial : (u : Poly R) → (u ≡ P.zero → ⊥) → W.deg (of u) ≡ pos (degree u.0)
     degree_of_polynomial u h =
         let X = polynomial_degree F in
         let I = polynomial_degree-is F in

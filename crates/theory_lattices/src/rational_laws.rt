@@ -5,11 +5,11 @@ ghost use Rattle.theory_rings.specs.Homomorphism.{IsRingHom};
 ghost use Rattle.theory_rings.specs.Enumerated.{Enumerated};
 ghost use Rattle.theory_rings.specs.Fraction.{IsFractionField, IsLowest};
 ghost use Rattle.theory_rings.proofs.Polynomials.Bezout.{field_polynomials};
-ghost use Rattle.theory_spaces.specs.Module.{AlgebraOn, module_of};
-ghost use Rattle.theory_spaces.specs.Linear.{InSpan};
+ghost use Rattle.theory_spaces.specs.Module.{ModuleOn, AlgebraOn, module_of};
+ghost use Rattle.theory_spaces.specs.Linear.{InSpan, Independent, Coords};
 ghost use Rattle.theory_spaces.specs.Algebra.{Central};
 ghost use Rattle.theory_lattices.specs.Degree.{DegreeOn, IsEuclidean};
-ghost use Rattle.theory_lattices.specs.CommonBasis.{CommonBasis};
+ghost use Rattle.theory_lattices.specs.CommonBasis.{InFinite, InInfinite, CommonBasis};
 ghost use Rattle.theory_lattices.specs.Members.{PolynomialsOf};
 ghost use Rattle.theory_lattices.specs.SelfDual.{SelfDualPair, Middle, DualVectors};
 ghost use Rattle.theory_lattices.specs.RationalFunctions.{IsPolynomialDegree, Rational, IsPolynomial, of_constant, power_of_x, IsRationalDegree};
@@ -41,6 +41,38 @@ pub fn degree_of_rational_functions<Q: RationalFunctions>()
     ensures first { power_of_x Q.constants 0 ≡ Q.field.one }
     ensures polynomials { (W : DegreeOn Q.field.ring) → IsRationalDegree Q.constants Q.field W
         → PolynomialsOf Q.field W (IsPolynomial Q.constants) Q.constants.ring (of_constant Q.constants) (power_of_x Q.constants) }
+{}
+
+/// A space of finitely many coordinates over the rational functions of a field.
+pub trait RationalSpace {
+    ghost Constant: { Type 0 };
+
+    ghost constants: { FieldOn Constant };
+
+    ghost field: { FieldOn (Rational constants) };
+
+    ghost fractions: { IsFractionField (field_polynomials constants) (IsLowest constants.cring (field_polynomials constants)) field };
+
+    ghost degree: { DegreeOn field.ring };
+
+    ghost rational_degree: { IsRationalDegree constants field degree };
+
+    ghost Vector: { Type 0 };
+
+    ghost space: { ModuleOn field.ring Vector };
+
+    ghost size: { ℕ };
+
+    ghost coords: { Coords space size };
+}
+
+/// Over the rational functions, the lattice of the combinations of a basis f with polynomial weights and that of the combinations
+/// of a basis e with weights of degree at most 0 have a common basis.
+pub fn rational_common_basis<S: RationalSpace>()
+    ensures { (f e : ℕ → S.Vector) → Independent S.space S.size f → Independent S.space S.size e → ((x : S.Vector) → InSpan S.space S.size e x)
+        → (b : ℕ → S.Vector) × (a : ℕ → ℤ)
+        × CommonBasis S.field S.degree S.space (IsPolynomial S.constants) S.size (InFinite S.field S.degree S.space (IsPolynomial S.constants) S.size f)
+        (InInfinite S.field S.degree S.space (IsPolynomial S.constants) S.size e) b a }
 {}
 
 /// Two orders that are their own duals for a trace, in an algebra over the rational functions of a finite field, with a common
