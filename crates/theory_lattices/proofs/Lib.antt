@@ -17,3 +17,4 @@ pub mod CommonBasisExists
 pub mod RationalBases
 pub mod Constants
 pub mod MiddleElements
+pub mod SelfDualOrders

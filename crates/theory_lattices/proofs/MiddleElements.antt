@@ -23,7 +23,7 @@ use Rattle.theory_lattices.proofs.Constants.{ConstantsOf, middle_flat}
 
 module _ {k K : Type 0} (κ : FieldOn k) (F : FieldOn K) (W : DegreeOn F.ring) (P : K → Type 0) (ι : k → K) (hom : IsRingHom κ.ring F.ring ι)
     (T : ℕ → K) (X : PolynomialsOf F W P κ.ring ι T) (T-zero : T 0 ≡ F.one) where
-  low_poly : (c : K) → P c → DegreeBelow W (pos 0) c → c ≡ F.zero
+  pub low_poly : (c : K) → P c → DegreeBelow W (pos 0) c → c ≡ F.zero
   low_poly c h u = (X.expand c h 0 u).1
 
   constant_sum : (s : ℕ → k) → F.◌⊕◌ F.zero (F.◌⊗◌ (ι (s 0)) (T 0)) ≡ ι (s 0)
@@ -32,7 +32,7 @@ module _ {k K : Type 0} (κ : FieldOn k) (F : FieldOn K) (W : DegreeOn F.ring) (
   poly_const : (c : K) → P c → DegreeBelow W (pos 1) c → (s : k) × (c ≡ ι s)
   poly_const c h u = let r = X.expand c h 1 u in (r.0 0, r.1 ∙ constant_sum r.0)
 
-  const_poly : (s : k) → P (ι s)
+  pub const_poly : (s : k) → P (ι s)
   const_poly s = subst P (constant_sum (λ _. s)) (X.back 1 (λ _. s))
 
   const_below : (s : k) → DegreeBelow W (pos 1) (ι s)
