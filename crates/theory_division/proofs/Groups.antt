@@ -1,7 +1,7 @@
 -- Finite groups: conjugate members, and the sizes of a class and of a centralizer.
 use Rattle.std.specs.Prelude.{◌≡◌, ℕ, ◌*◌, ◌<◌, ◌≤◌, Bool, true, eqb}
 use Rattle.std.proofs.Common.{sym, ◌∙◌, ap, ap₂, arith, ⊎_elim, one-mul, zero-mul}
-use Rattle.std.proofs.lemmas.Bool.{cases_lt, lt-ltb, le-ltb}
+use Rattle.std.proofs.lemmas.Bool.{cases_lt, lt-ltb, le-ltb, eq-eqb, eqb-true}
 use Rattle.theory_rings.specs.Sum.{sum}
 use Rattle.theory_rings.specs.Naturals.{nat_monoid}
 use Rattle.theory_rings.specs.Enumerated.{Enumerated}
@@ -10,7 +10,7 @@ use Rattle.theory_rings.proofs.Sums.NaturalSums.{sum-mul_nat, le_sum}
 use Rattle.theory_rings.proofs.Numbers.Pigeonhole.{term_pos_of_sum_pos}
 use Rattle.theory_division.specs.Counting.{one_if, count, same}
 use Rattle.theory_division.specs.Group.{GroupOn, conjugate, commute, centralizer_order, are_conjugate, class_order, is_central, OrbitStabilizer}
-use Rattle.theory_division.proofs.Counts.{bool_iff, true-false, one_if-pos, sum_ones, same-eq, eq-same, count_congr, count_moved, count_same}
+use Rattle.theory_division.proofs.Counts.{bool_iff, true-false, one_if-pos, sum_ones, same-eq, eq-same, count_congr, count_all, all_of_count, count_moved, count_same}
 
 module _ {G : Type 0} (H : GroupOn G) where
   infixl 70 ◌·◌
@@ -161,3 +161,12 @@ module _ {G : Type 0} (H : GroupOn G) where
 
     pub is_central_congr : (x y : G) → rel x y ≡ true → is_central H E x ≡ is_central H E y
     is_central_congr x y e = ap (λ n. eqb n E.size) (centralizer_order_congr x y e)
+
+    -- the test of the centre is right
+    pub is_central-sound : (x : G) → is_central H E x ≡ true → (y : G) → x · y ≡ y · x
+    is_central-sound x e y =
+        sym (same-eq E (y · x) (x · y) (all_of_count E (λ g. commute H E g x) (eqb-true (centralizer_order H E x) E.size e) y))
+
+    pub is_central-complete : (x : G) → ((y : G) → x · y ≡ y · x) → is_central H E x ≡ true
+    is_central-complete x h =
+        eq-eqb (centralizer_order H E x) E.size (count_all E (λ g. commute H E g x) (λ g. eq-same E (g · x) (x · g) (sym (h g))))

@@ -35,6 +35,10 @@ dvd-sum : (p n : ℕ) (f : ℕ → ℕ) → ((i : ℕ) → i < n → p ∣ f i) 
 dvd-sum p zero f h = dvd-zero p
 dvd-sum p (suc n) f h = dvd-add p (dvd-sum p n f (λ i l. h i (omega arith))) (h n (omega arith))
 
+-- where N is c times l, and l times p times k, p divides c
+dvd_of_parts : (p l k c N : ℕ) → 0 < l → c * l ≡ N → N ≡ l * p * k → p ∣ c
+dvd_of_parts p l k c N pos o e = dvd_of_mul-dvd-mul_right p pos (subst₂ (λ a b. a ∣ b) (mul_comm l p) (sym e ∙ sym o) (dvd-mul_right (l * p) k))
+
 suc_pred : (n i : ℕ) → i < n → n ≡ suc (pred n)
 suc_pred n i l = omega arith
 
@@ -204,8 +208,7 @@ module _ {K D : Type 0} (F : FieldOn K) (EK : Enumerated K) (A : AlgebraOn F.rin
       let pos : 0 < d = positive d o in
       let lt : d < m = below d le cent in
       let k = less-parts z m d pos lt bounded (dvd_of_less-mul m d z (class_order G S u) z_pos pos (sym o)) in
-      dvd_of_mul-dvd-mul_right Φ (let e = less_lt_less 0 d z z_pos pos in omega arith)
-      (subst₂ (λ a b. a ∣ b) (mul_comm (less d z) Φ) (sym k.1 ∙ sym o) (dvd-mul_right (less d z * Φ) k.0))
+      dvd_of_parts Φ (less d z) k.0 (class_order G S u) (less m z) (let e = less_lt_less 0 d z z_pos pos in omega arith) o k.1
     where
       positive : (d : ℕ) → class_order G S u * less d z ≡ less m z → 0 < d
       positive zero e = let a = ap (λ t. class_order G S u * t) (less-zero z) in let b = S_pos in absurd (omega arith)
