@@ -1,7 +1,7 @@
 -- Reduced rows over a basis of the infinite lattice are a common basis; in the intersection the weights are polynomials of
 -- bounded degree.
-use Rattle.std.specs.Prelude.{◌≡◌, ℕ, suc, ◌<◌, ℤ, pos, ◌+ℤ◌, ◌-ℤ◌, neg_ℤ}
-use Rattle.std.proofs.Common.{sym, ◌∙◌, ap, subst, arith, inl, inr}
+use Rattle.std.specs.Prelude.{◌≡◌, ℕ, ℤ, pos, ◌+ℤ◌, ◌-ℤ◌, neg_ℤ}
+use Rattle.std.proofs.Common.{sym, ◌∙◌, subst, arith, inl, inr}
 use Rattle.std.proofs.lemmas.Int.{ints}
 use Rattle.theory_rings.specs.Ring.{FieldOn}
 use Rattle.theory_spaces.specs.Module.{ModuleOn}
@@ -10,7 +10,7 @@ use Rattle.theory_spaces.proofs.Modules.{comb-comb, comb_injective}
 use Rattle.theory_spaces.proofs.Spaces.{full_span}
 use Rattle.theory_lattices.specs.Degree.{DegreeOn, DegreeBelow}
 use Rattle.theory_lattices.specs.ReducedRows.{Reduced, row_sum}
-use Rattle.theory_lattices.specs.CommonBasis.{InSpanWith, InFinite, InInfinite, InBoth, CommonBasis}
+use Rattle.theory_lattices.specs.CommonBasis.{InFinite, InInfinite, InBoth, CommonBasis}
 use Rattle.theory_lattices.proofs.PredictableDegrees.{weights_below, only_zero, sum_below}
 
 module _ {K V : Type 0} (F : FieldOn K) (W : DegreeOn F.ring) (M : ModuleOn F.ring V) (P : K → Type 0) (n : ℕ) where

@@ -1,7 +1,7 @@
 -- A finite and an infinite lattice of one space have a common basis, over the fractions of a ring with a Euclidean degree: the
 -- coordinates of the finite basis by the infinite one are brought to one denominator, and their numerators reduced.
-use Rattle.std.specs.Prelude.{◌≡◌, ℕ, zero, suc, ◌<◌, ◌≤◌, ℤ, pos, ◌+ℤ◌, neg_ℤ}
-use Rattle.std.proofs.Common.{refl, sym, ◌∙◌, ap, ap₂, subst, arith, ⊎_elim}
+use Rattle.std.specs.Prelude.{◌≡◌, ℕ, zero, suc, ◌<◌, ◌≤◌, ℤ, pos, neg_ℤ}
+use Rattle.std.proofs.Common.{sym, ◌∙◌, ap, subst, arith, ⊎_elim}
 use Rattle.std.proofs.lemmas.Int.{ints}
 use Rattle.std.proofs.lemmas.Bool.{cases_lt}
 use Rattle.theory_rings.specs.Ring.{RingOn, FieldOn}
@@ -17,7 +17,7 @@ use Rattle.theory_spaces.proofs.Families.{choose_each}
 use Rattle.theory_spaces.proofs.Modules.{comb_congr, comb_congr_right, comb-comb, rows_of}
 use Rattle.theory_spaces.proofs.Dimension.{exchange}
 use Rattle.theory_lattices.specs.Degree.{DegreeOn, HasDegree, IsEuclidean}
-use Rattle.theory_lattices.specs.ReducedRows.{Reduced, row_sum, InRows, SameRows, Shifts}
+use Rattle.theory_lattices.specs.ReducedRows.{Reduced, InRows, SameRows, Shifts}
 use Rattle.theory_lattices.specs.CommonBasis.{InSpanWith, InFinite, InInfinite, CommonBasis}
 use Rattle.theory_lattices.proofs.PowersOfDegreeOne.{has_degree-inv}
 use Rattle.theory_lattices.proofs.ReductionStep.{reduced_shift}
@@ -183,8 +183,7 @@ module _ {D K V : Type 0} {R : RingOn D} (X : DegreeOn R) (euclid : IsEuclidean 
         (λ i l. let s = same.into i l in (s.weights, carried X F W of I v nv M n e n B (new i) s)) in
         let back = choose_each n (λ i (u : ℕ → D). vec (B i) ≡ comb M n (λ l. of (u l)) b) (λ _. R.zero)
         (λ i l. let s = same.back i l in (s.weights, carried X F W of I v nv M n e n new (B i) s)) in
-        let hom = I.hom in
-        (
+        let hom = I.hom in (
           b,
           λ i. neg_ℤ (red'.degree i),
           record {

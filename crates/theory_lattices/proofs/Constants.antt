@@ -1,6 +1,6 @@
 -- Where all degrees are 0, the intersection is an algebra over the constants of the same dimension and with the constants as its
 -- centre, so it is no division ring: some element of both orders is neither nilpotent nor a unit.
-use Rattle.std.specs.Prelude.{◌≡◌, ℕ, zero, suc, ◌<◌, ◌≤◌, Bool, true, ℤ, pos, ◌+ℤ◌}
+use Rattle.std.specs.Prelude.{◌≡◌, ℕ, ◌<◌, ◌≤◌, Bool, true, ℤ, pos, ◌+ℤ◌}
 use Rattle.std.proofs.Common.{refl, sym, ◌∙◌, ap, ap₂, subst, arith, ⊎_elim}
 use Rattle.std.proofs.Math.Bool.{Bool-set}
 use Rattle.std.proofs.lemmas.Bool.{cases_eq}
@@ -86,13 +86,13 @@ module _ {k K V : Type 0} (κ : FieldOn k) (F : FieldOn K) (ι : k → K) (const
         record {
           ring = record {
             additive = record {
-             monoid = record {
-              zero = z;
-              ◌⊕◌ = plus;
-              add_assoc = λ a b c. const_path (plus (plus a b) c) (plus a (plus b c)) (A.add_assoc a.0 b.0 c.0);
-              add_comm = λ a b. const_path (plus a b) (plus b a) (A.add_comm a.0 b.0);
-              zero-add = λ a. const_path (plus z a) a (A.zero-add a.0);
-             };
+              monoid = record {
+                zero = z;
+                ◌⊕◌ = plus;
+                add_assoc = λ a b c. const_path (plus (plus a b) c) (plus a (plus b c)) (A.add_assoc a.0 b.0 c.0);
+                add_comm = λ a b. const_path (plus a b) (plus b a) (A.add_comm a.0 b.0);
+                zero-add = λ a. const_path (plus z a) a (A.zero-add a.0);
+              };
               neg = minus;
               neg-add = λ a. const_path (plus (minus a) a) z (A.neg-add a.0);
             };

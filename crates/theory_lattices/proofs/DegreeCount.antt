@@ -11,7 +11,7 @@ use Rattle.theory_spaces.specs.Module.{ModuleOn, AlgebraOn, module_of}
 use Rattle.theory_spaces.specs.Linear.{comb}
 use Rattle.theory_spaces.proofs.Matrices.{delta-same, delta-other}
 use Rattle.theory_spaces.proofs.Modules.{comb-scale, zero-scale, comb_injective}
-use Rattle.theory_lattices.specs.Degree.{DegreeOn, DegreeBelow, HasDegree}
+use Rattle.theory_lattices.specs.Degree.{DegreeOn, DegreeBelow}
 use Rattle.theory_lattices.specs.CommonBasis.{CommonBasis}
 use Rattle.theory_lattices.specs.SelfDual.{PowersOf, SelfDualPair, Middle, DualVectors}
 use Rattle.theory_lattices.proofs.Degrees.{below-mul, below_of_degree, cases_int}

@@ -1,6 +1,6 @@
 -- The polynomial multiples of a common basis that lie in the intersection are a basis of it over the constants.
 use Rattle.std.specs.Prelude.{◌≡◌, ℕ, zero, suc, ◌<◌, ◌≤◌, ℤ, pos, negsuc, ◌+ℤ◌, ◌≤ℤ◌}
-use Rattle.std.proofs.Common.{refl, sym, ◌∙◌, ap, arith, ⊎_elim, inl, inr}
+use Rattle.std.proofs.Common.{refl, sym, ◌∙◌, ap, arith, ⊎_elim, inl}
 use Rattle.std.proofs.lemmas.Int.{ints}
 use Rattle.std.proofs.lemmas.Bool.{cases_lt}
 use Rattle.theory_rings.specs.Ring.{RingOn, FieldOn}

@@ -1,9 +1,9 @@
 -- Whether a row is a combination of reduced rows over a Euclidean degree: one that is leads where a reduced row of no greater
 -- degree does, and a multiple of that row can be taken away.
-use Rattle.std.specs.Prelude.{◌≡◌, ℕ, zero, suc, ◌<◌, ◌≤◌, ℤ, pos, ◌+ℤ◌, ◌≤ℤ◌, ◌<ℤ◌, ◌⊎◌}
-use Rattle.std.proofs.Common.{refl, sym, ◌∙◌, ap, subst, arith, ⊎_elim, inl, inr}
+use Rattle.std.specs.Prelude.{◌≡◌, ℕ, zero, suc, ◌<◌, ℤ, pos, ◌+ℤ◌, ◌≤ℤ◌, ◌<ℤ◌, ◌⊎◌}
+use Rattle.std.proofs.Common.{sym, ◌∙◌, ap, subst, arith, ⊎_elim, inl, inr}
 use Rattle.std.proofs.lemmas.Int.{ints}
-use Rattle.std.proofs.lemmas.Bool.{cases_lt, cases_eq}
+use Rattle.std.proofs.lemmas.Bool.{cases_eq}
 use Rattle.theory_rings.specs.Ring.{RingOn}
 use Rattle.theory_rings.proofs.Rings.RingLaws.{zero-mul}
 use Rattle.theory_rings.proofs.Sums.Sums.{sum_eq_zero}
@@ -13,7 +13,7 @@ use Rattle.theory_lattices.specs.ReducedRows.{LeadsAt, Lead, Reduced, Predicted,
 use Rattle.theory_lattices.proofs.Degrees.{cases_int}
 use Rattle.theory_lattices.proofs.PredictableDegrees.{predicted}
 use Rattle.theory_lattices.proofs.ReductionStep.{lead_of}
-use Rattle.theory_lattices.proofs.Reduction.{key, lead_unique, Conflict, Lower, lower}
+use Rattle.theory_lattices.proofs.Reduction.{key, lead_unique, Conflict, lower}
 use Rattle.theory_lattices.proofs.RowSpans.{InRows-member, InRows-zero, InRows-less_multiple, InRows_of_less_multiple}
 
 module _ {K : Type 0} {R : RingOn K} (W : DegreeOn R) (euclid : IsEuclidean W) (w n : ℕ) (rows : ℕ → ℕ → K) (red : Reduced W n w rows) where

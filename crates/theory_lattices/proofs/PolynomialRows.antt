@@ -1,10 +1,10 @@
 -- Rows of polynomials over a field can be reduced: their degree is Euclidean, by division with remainder.
-use Rattle.std.specs.Prelude.{◌≡◌, ℕ, suc, ◌<◌, ◌≤◌, length, ℤ, pos, ◌-ℤ◌, ◌≤ℤ◌, ◌<ℤ◌}
+use Rattle.std.specs.Prelude.{◌≡◌, ◌<◌, length, pos, ◌-ℤ◌, ◌≤ℤ◌}
 use Rattle.std.proofs.Common.{refl, sym, ◌∙◌, ap, subst, arith, ⊎_elim, inl, inr}
 use Rattle.std.proofs.lemmas.Int.{ints}
 use Rattle.theory_rings.specs.Ring.{CommRingOn, FieldOn}
 use Rattle.theory_rings.specs.Polynomial.{Poly, degree, lead}
-use Rattle.theory_rings.proofs.Rings.RingLaws.{add-zero, add-neg, zero-mul}
+use Rattle.theory_rings.proofs.Rings.RingLaws.{zero-mul}
 use Rattle.theory_rings.proofs.Rings.Solver.{◌⊞◌, minus, ring2}
 use Rattle.theory_rings.proofs.Rings.Fields.{mul-inv}
 use Rattle.theory_rings.proofs.Polynomials.Degrees.{length_pos, lead-ne-zero, length-degree_of_ne_zero}
@@ -17,7 +17,6 @@ use Rattle.theory_lattices.proofs.Degrees.{has_degree-add, below-neg}
 module _ {k : Type 0} (F : FieldOn k) (W : DegreeOn (field_polynomials F).ring) (D : IsPolynomialDegree F W) where
   infixl 65 ◌⊕◌
   infixl 70 ◌⊗◌
-
   abbrev R : CommRingOn k
   R = F.cring
 

@@ -5,8 +5,8 @@ use Rattle.std.proofs.lemmas.Int.{ints}
 use Rattle.std.proofs.lemmas.Bool.{cases_lt}
 use Rattle.theory_rings.specs.Ring.{RingOn}
 use Rattle.theory_rings.proofs.Rings.RingLaws.{zero-mul}
-use Rattle.theory_lattices.specs.Degree.{DegreeOn, DegreeBelow, HasDegree}
-use Rattle.theory_lattices.specs.ReducedRows.{LeadsAt, Reduced, row_sum, Predicted}
+use Rattle.theory_lattices.specs.Degree.{DegreeOn, DegreeBelow}
+use Rattle.theory_lattices.specs.ReducedRows.{Reduced, row_sum, Predicted}
 use Rattle.theory_lattices.proofs.Degrees.{cases_int, below-mono, not_below_of_degree, has_degree-mul, below-mul, below-sum, has_degree-sum}
 
 module _ {K : Type 0} {R : RingOn K} (W : DegreeOn R) where

@@ -1,6 +1,6 @@
 -- The polynomials among the rational functions are the combinations of powers of x with constants.
-use Rattle.std.specs.Prelude.{◌≡◌, ℕ, zero, suc, ◌+◌, ◌-◌, ◌<◌, ◌≤◌, length, ℤ, pos, ◌-ℤ◌, ◌<ℤ◌, ◌⊎◌}
-use Rattle.std.proofs.Common.{refl, sym, ◌∙◌, ap, ap₂, subst, arith, ⊎_elim, inl, inr}
+use Rattle.std.specs.Prelude.{◌≡◌, ℕ, zero, suc, ◌-◌, ◌<◌, ◌≤◌, length, pos}
+use Rattle.std.proofs.Common.{sym, ◌∙◌, ap, ap₂, subst, arith, ⊎_elim, inl, inr}
 use Rattle.std.proofs.lemmas.Int.{ints}
 use Rattle.std.proofs.lemmas.Bool.{cases_lt}
 use Rattle.theory_rings.specs.Ring.{CommRingOn, FieldOn}
@@ -14,13 +14,13 @@ use Rattle.theory_rings.proofs.Rings.ZeroTests.{eq_zero_or}
 use Rattle.theory_rings.proofs.Rings.Homomorphisms.{comp_hom}
 use Rattle.theory_rings.proofs.Sums.Sums.{map-sum, sum_congr}
 use Rattle.theory_rings.proofs.Polynomials.Series.{shift, shift-below, shift-above}
-use Rattle.theory_rings.proofs.Polynomials.PolynomialRing.{constant_past, Poly-path, coefficient_past, coefficient-zero, coefficient-one, coefficient-add, constant, coefficient-constant}
+use Rattle.theory_rings.proofs.Polynomials.PolynomialRing.{constant_past, Poly-path, coefficient_past, coefficient-zero, coefficient-add, constant, coefficient-constant}
 use Rattle.theory_rings.proofs.Polynomials.Degrees.{length_le, length_le_suc-degree, degree_eq, degree-constant}
 use Rattle.theory_rings.proofs.Polynomials.Constants.{coefficient-constant_mul, variable, constant-zero, constant_hom, coefficient-power_variable}
 use Rattle.theory_rings.proofs.Polynomials.Bezout.{field_polynomials}
 use Rattle.theory_rings.proofs.Fractions.Fractions.{fraction_of_value}
 use Rattle.theory_rings.proofs.Fractions.Lowest.{polynomial_reduction}
-use Rattle.theory_lattices.specs.Degree.{DegreeOn, DegreeBelow, HasDegree}
+use Rattle.theory_lattices.specs.Degree.{DegreeOn, DegreeBelow}
 use Rattle.theory_lattices.specs.Members.{polynomial_of, PolynomialsOf}
 use Rattle.theory_lattices.specs.RationalFunctions.{Rational, IsPolynomial, of_polynomial, of_constant, power_of_x, IsRationalDegree}
 use Rattle.theory_lattices.proofs.FractionDegrees.{eq_of_value, of_hom, of-zero, of-ne-zero, degree_of, polynomial_degree, polynomial_degree-is}

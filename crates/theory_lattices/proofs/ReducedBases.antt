@@ -1,6 +1,6 @@
 -- Rows over a Euclidean degree have the same combinations as reduced rows: those of a reduction that are not 0.
 use Rattle.std.specs.Prelude.{◌≡◌, ℕ, zero, suc, ◌<◌, ◌≤◌, ℤ, pos, ◌⊎◌}
-use Rattle.std.proofs.Common.{refl, sym, ◌∙◌, ap, subst, arith, ⊎_elim, inl, inr}
+use Rattle.std.proofs.Common.{sym, ◌∙◌, ap, subst, arith, ⊎_elim, inl, inr}
 use Rattle.std.proofs.lemmas.Bool.{cases_lt, cases_eq}
 use Rattle.theory_rings.specs.Ring.{RingOn}
 use Rattle.theory_spaces.proofs.Families.{push, push-below, push-at, choose_each, below_suc}

@@ -1,11 +1,10 @@
 -- Self-dual orders with a common basis have dual vectors: the trace form is nondegenerate, as otherwise all multiples of some
 -- vector would pair with the finite order to 0 and lie in it. So over the rational functions bases of the two orders are enough.
-use Rattle.std.specs.Prelude.{◌≡◌, ℕ, ◌<◌, ◌≤◌, ℤ, pos, negsuc, ◌<ℤ◌}
-use Rattle.std.proofs.Common.{refl, sym, ◌∙◌, ap, subst, arith, ⊎_elim, inr}
+use Rattle.std.specs.Prelude.{◌≡◌, ℕ, ◌<◌, ◌≤◌, ℤ, negsuc}
+use Rattle.std.proofs.Common.{sym, ◌∙◌, ap, subst, arith, ⊎_elim, inr}
 use Rattle.std.proofs.lemmas.Int.{ints}
-use Rattle.theory_rings.specs.Ring.{CommRingOn, FieldOn}
+use Rattle.theory_rings.specs.Ring.{FieldOn}
 use Rattle.theory_rings.specs.Homomorphism.{IsRingHom}
-use Rattle.theory_rings.specs.Polynomial.{Poly}
 use Rattle.theory_rings.specs.Fraction.{IsFractionField, IsLowest}
 use Rattle.theory_rings.specs.Enumerated.{Enumerated}
 use Rattle.theory_rings.proofs.Rings.RingLaws.{mul-zero}
@@ -13,13 +12,13 @@ use Rattle.theory_rings.proofs.Rings.ZeroTests.{eq_zero_or}
 use Rattle.theory_rings.proofs.Rings.Fields.{inv_mul_cancel_right}
 use Rattle.theory_rings.proofs.Polynomials.Bezout.{field_polynomials}
 use Rattle.theory_spaces.specs.Module.{ModuleOn, AlgebraOn, module_of}
-use Rattle.theory_spaces.specs.Linear.{comb, InSpan, Independent, Basis}
+use Rattle.theory_spaces.specs.Linear.{InSpan, Independent, Basis}
 use Rattle.theory_spaces.specs.Algebra.{Central}
 use Rattle.theory_spaces.specs.Form.{IsBilinear, IsNondegenerate}
 use Rattle.theory_spaces.proofs.Modules.{comb-scale, comb_zero, comb_injective}
 use Rattle.theory_spaces.proofs.Spaces.{basis_of, coords_of, full_span}
 use Rattle.theory_spaces.proofs.Forms.{dual_basis}
-use Rattle.theory_lattices.specs.Degree.{DegreeOn, DegreeBelow, HasDegree}
+use Rattle.theory_lattices.specs.Degree.{DegreeOn, HasDegree}
 use Rattle.theory_lattices.specs.CommonBasis.{InFinite, InInfinite, CommonBasis}
 use Rattle.theory_lattices.specs.Members.{PolynomialsOf}
 use Rattle.theory_lattices.specs.SelfDual.{PowersOf, SelfDualPair, Middle, DualVectors}

@@ -1,6 +1,6 @@
 -- Rational functions over a field: their degree, the constants and the polynomials among them, and the powers of x.
-use Rattle.std.specs.Prelude.{◌≡◌, ℕ, ℤ, pos, ◌-ℤ◌}
-use Rattle.theory_rings.specs.Ring.{CommRingOn, FieldOn}
+use Rattle.std.specs.Prelude.{◌≡◌, ℕ, pos, ◌-ℤ◌}
+use Rattle.theory_rings.specs.Ring.{FieldOn}
 use Rattle.theory_rings.specs.Power.{power}
 use Rattle.theory_rings.specs.Polynomial.{Poly, degree}
 use Rattle.theory_rings.specs.Fraction.{Fraction, IsValue, IsLowest}

@@ -1,6 +1,6 @@
 -- Rows over a ring with a degree: leading positions, reduced rows, weak Popov form.
 -- (Mulders and Storjohann, On lattice reduction for polynomial matrices; Kailath, Linear Systems, section 6.3.)
-use Rattle.std.specs.Prelude.{◌≡◌, ℕ, ◌<◌, ◌≤◌, ℤ, pos, ◌+ℤ◌, ◌-ℤ◌, ◌≤ℤ◌, ◌<ℤ◌, ◌⊎◌}
+use Rattle.std.specs.Prelude.{◌≡◌, ℕ, ◌<◌, ℤ, pos, ◌+ℤ◌, ◌-ℤ◌, ◌≤ℤ◌, ◌<ℤ◌, ◌⊎◌}
 use Rattle.theory_rings.specs.Ring.{RingOn}
 use Rattle.theory_rings.specs.Sum.{sum}
 use Rattle.theory_spaces.specs.Linear.{InSpan}
