@@ -10,7 +10,7 @@ use Rattle.theory_rings.proofs.Sums.NaturalSums.{mul-sum_nat, le_sum}
 use Rattle.theory_rings.proofs.Numbers.Pigeonhole.{term_pos_of_sum_pos}
 use Rattle.theory_division.specs.Counting.{one_if, count}
 use Rattle.theory_division.specs.Group.{GroupOn, are_conjugate, class_order, is_central, is_first, ClassEquation}
-use Rattle.theory_division.proofs.Counts.{true_or_false, one_if-pos, count-not}
+use Rattle.theory_division.proofs.Counts.{and_true, true_or_false, one_if-pos, count-not}
 use Rattle.theory_division.proofs.Groups.{are_conjugate-refl, are_conjugate-symm, are_conjugate-trans, is_central_congr}
 
 -- an equivalence of numbers, as a test
@@ -18,10 +18,6 @@ record Equivalence (rel : ℕ → ℕ → Bool) : Type 0 where
   pub reflexive : (i : ℕ) → rel i i ≡ true
   pub symmetric : (i j : ℕ) → rel i j ≡ true → rel j i ≡ true
   pub transitive : (i j k : ℕ) → rel i j ≡ true → rel j k ≡ true → rel i k ≡ true
-
-and_true : (a b : Bool) → (a && b) ≡ true → (a ≡ true) × (b ≡ true)
-and_true true b e = (refl, e)
-and_true false b e = cc
 
 exchanged : (a f r b : Bool) → (r ≡ true → b ≡ a) → one_if a * one_if (f && r) ≡ one_if (f && b) * one_if r
 exchanged a false r b h = omega arith

@@ -1,6 +1,7 @@
 -- Counts of the members of a finite set that pass a test, and searches in it.
-use Rattle.std.specs.Prelude.{◌≡◌, ℕ, zero, suc, ◌+◌, ◌<◌, ◌≤◌, Bool, true, false, not, eqb, ◌⊎◌}
+use Rattle.std.specs.Prelude.{◌≡◌, ℕ, zero, suc, ◌+◌, ◌<◌, ◌≤◌, Bool, true, false, ◌&&◌, not, eqb, ◌⊎◌}
 use Rattle.std.proofs.Common.{refl, sym, ◌∙◌, ap, subst, arith, inl, inr, ⊎_elim, mul-one}
+use Rattle.std.proofs.Math.Bool.{true≢false}
 use Rattle.std.proofs.lemmas.Bool.{cases_lt, eq-eqb, ne_eqb, eqb-true}
 use Rattle.theory_rings.specs.Sum.{sum}
 use Rattle.theory_rings.specs.Naturals.{nat_monoid}
@@ -19,8 +20,9 @@ bool_iff true c f g = sym (f refl)
 bool_iff false true f g = g refl
 bool_iff false false f g = refl
 
-pub true-false : true ≡ false → ⊥
-true-false e = cc
+pub and_true : (a b : Bool) → (a && b) ≡ true → (a ≡ true) × (b ≡ true)
+and_true true b e = (refl, e)
+and_true false b e = cc
 
 pub one_if-pos : (b : Bool) → 0 < one_if b → b ≡ true
 one_if-pos true h = refl
@@ -77,7 +79,7 @@ module _ {X : Type 0} (E : Enumerated X) where
   pub equal_or_not : (x y : X) → (x ≡ y) ⊎ (x ≡ y → ⊥)
   equal_or_not x y = ⊎_elim
       (λ (e : same E x y ≡ true). inl (same-eq x y e))
-      (λ (e : same E x y ≡ false). inr (λ q. true-false (sym (eq-same x y q) ∙ e)))
+      (λ (e : same E x y ≡ false). inr (λ q. true≢false (sym (eq-same x y q) ∙ e)))
       (true_or_false (same E x y))
 
   -- a member that passes, or none
@@ -144,4 +146,4 @@ module _ {X : Type 0} (E : Enumerated X) where
       miss i l e =
           ap one_if e
           ∙ sym (sum_eq_zero nat_monoid n (λ t. one_if (eqb (E.number (f t)) i))
-          (λ t g. ap one_if (ne_eqb (E.number (f t)) i (λ q. true-false (sym (L.passes t g) ∙ ap P (at_number i t l q) ∙ e)))))
+          (λ t g. ap one_if (ne_eqb (E.number (f t)) i (λ q. true≢false (sym (L.passes t g) ∙ ap P (at_number i t l q) ∙ e)))))

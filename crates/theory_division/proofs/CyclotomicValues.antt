@@ -10,6 +10,7 @@ use Rattle.theory_rings.specs.Ring.{AddCommMonoidOn}
 use Rattle.theory_rings.proofs.Rings.Semirings.{products, naturals}
 use Rattle.theory_rings.proofs.Sums.Sums.{sum_congr, sum-add, sum-split, sum_eq_zero}
 use Rattle.theory_division.specs.Cyclotomic.{plus, scale, times, value, power_of_next, without_constant, power_less_one, cyclotomic, divisor_product, CyclotomicTable, CyclotomicValue}
+use Rattle.theory_division.proofs.Counts.{and_true}
 use Rattle.theory_division.proofs.PowersLessOne.{less, less-is, power-less}
 
 value-plus : (a b : List ℕ) (z : ℕ) → value (plus a b) z ≡ value a z + value b z
@@ -58,10 +59,6 @@ same_list [] [] = true
 same_list [] (y ∷ b) = false
 same_list (x ∷ a) [] = false
 same_list (x ∷ a) (y ∷ b) = eqb x y && same_list a b
-
-and_true : (s t : Bool) → (s && t) ≡ true → (s ≡ true) × (t ≡ true)
-and_true true t e = (refl, e)
-and_true false t e = cc
 
 same_list-eq : (a b : List ℕ) → same_list a b ≡ true → a ≡ b
 unfolding same_list

@@ -1,6 +1,7 @@
 -- Finite groups: conjugate members, and the sizes of a class and of a centralizer.
 use Rattle.std.specs.Prelude.{◌≡◌, ℕ, ◌*◌, ◌<◌, ◌≤◌, Bool, true, eqb}
 use Rattle.std.proofs.Common.{sym, ◌∙◌, ap, ap₂, arith, ⊎_elim, one-mul, zero-mul}
+use Rattle.std.proofs.Math.Bool.{true≢false}
 use Rattle.std.proofs.lemmas.Bool.{cases_lt, lt-ltb, le-ltb, eq-eqb, eqb-true}
 use Rattle.theory_rings.specs.Sum.{sum}
 use Rattle.theory_rings.specs.Naturals.{nat_monoid}
@@ -10,7 +11,7 @@ use Rattle.theory_rings.proofs.Sums.NaturalSums.{sum-mul_nat, le_sum}
 use Rattle.theory_rings.proofs.Numbers.Pigeonhole.{term_pos_of_sum_pos}
 use Rattle.theory_division.specs.Counting.{one_if, count, same}
 use Rattle.theory_division.specs.Group.{GroupOn, conjugate, commute, centralizer_order, are_conjugate, class_order, is_central, OrbitStabilizer}
-use Rattle.theory_division.proofs.Counts.{bool_iff, true-false, one_if-pos, sum_ones, same-eq, eq-same, count_congr, count_all, all_of_count, count_moved, count_same}
+use Rattle.theory_division.proofs.Counts.{bool_iff, one_if-pos, sum_ones, same-eq, eq-same, count_congr, count_all, all_of_count, count_moved, count_same}
 
 module _ {G : Type 0} (H : GroupOn G) where
   infixl 70 ◌·◌
@@ -107,7 +108,7 @@ module _ {G : Type 0} (H : GroupOn G) where
     pub are_conjugate-sound : (x y : G) → rel x y ≡ true → (g : G) × (conj g x ≡ y)
     are_conjugate-sound x y e = ⊎_elim
         (λ (l : 0 < fibre x y). taken x y l)
-        (λ (l : fibre x y ≤ 0). absurd (true-false (sym e ∙ le-ltb 0 (fibre x y) l)))
+        (λ (l : fibre x y ≤ 0). absurd (true≢false (sym e ∙ le-ltb 0 (fibre x y) l)))
         (cases_lt 0 (fibre x y))
 
     pub are_conjugate-complete : (x y g : G) → conj g x ≡ y → rel x y ≡ true

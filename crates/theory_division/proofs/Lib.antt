@@ -1,6 +1,6 @@
 pub mod PowersLessOne
-pub mod CyclotomicValues
 pub mod Counts
+pub mod CyclotomicValues
 pub mod Groups
 pub mod ClassEquation
 pub mod Members

@@ -5,6 +5,7 @@ use Rattle.std.specs.Int.{◌∣◌}
 use Rattle.std.proofs.Common.{refl, sym, ◌∙◌, ap, ap₂, subst, subst₂, arith, ⊎_elim, mul_comm, one-mul, zero-mul as nat_zero-mul}
 use Rattle.std.proofs.Math.Nat.{dvd-add, dvd-add_iff_right, dvd-mul_left, dvd-mul_right, dvd-mul_right_of_dvd, dvd_of_mul-dvd-mul_right, one-dvd, add_comm}
 use Rattle.std.proofs.lemmas.Nat.Gcd.{dvd-zero, le_of_dvd}
+use Rattle.std.proofs.Math.Bool.{true≢false}
 use Rattle.std.proofs.lemmas.Bool.{cases_lt, eq-eqb, eqb-true}
 use Rattle.theory_rings.specs.Ring.{FieldOn}
 use Rattle.theory_rings.specs.Sum.{sum}
@@ -24,7 +25,7 @@ use Rattle.theory_division.specs.Group.{GroupOn, centralizer_order, class_order,
 use Rattle.theory_division.specs.DivisionRing.{HasLeftInverses}
 use Rattle.theory_division.proofs.PowersLessOne.{less, power-less, less_lt_less, less-zero, less-one, dvd_of_less-mul}
 use Rattle.theory_division.proofs.CyclotomicValues.{cyclotomic-large, less-parts}
-use Rattle.theory_division.proofs.Counts.{true-false, bool_iff, same-eq, eq-same, count_congr, count_all, all_of_count}
+use Rattle.theory_division.proofs.Counts.{bool_iff, same-eq, eq-same, count_congr, count_all, all_of_count}
 use Rattle.theory_division.proofs.Groups.{orbit_stabilizer}
 use Rattle.theory_division.proofs.ClassEquation.{class_equation}
 use Rattle.theory_division.proofs.Members.{count_of_span, numbered}
@@ -231,7 +232,7 @@ module _ {K D : Type 0} (F : FieldOn K) (EK : Enumerated K) (A : AlgebraOn F.rin
       part : (f b : Bool) (n : ℕ) → ((b ≡ true → ⊥) → Φ ∣ n) → Φ ∣ one_if (f && not b) * n
       part false b n h = subst (λ t. Φ ∣ t) (sym (nat_zero-mul n)) (dvd-zero Φ)
       part true true n h = subst (λ t. Φ ∣ t) (sym (nat_zero-mul n)) (dvd-zero Φ)
-      part true false n h = subst (λ t. Φ ∣ t) (sym (one-mul n)) (h (λ e. true-false (sym e)))
+      part true false n h = subst (λ t. Φ ∣ t) (sym (one-mul n)) (h (λ e. true≢false (sym e)))
 
   whole_dvd : Φ ∣ less m z
   whole_dvd =

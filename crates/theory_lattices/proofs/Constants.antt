@@ -13,7 +13,6 @@ use Rattle.theory_spaces.specs.Module.{ModuleOn, AlgebraOn, module_of}
 use Rattle.theory_spaces.specs.Linear.{comb, InSpan, Independent}
 use Rattle.theory_spaces.specs.Algebra.{Central}
 use Rattle.theory_spaces.proofs.Families.{choose_each}
-use Rattle.theory_spaces.proofs.Matrices.{delta-same, delta-other}
 use Rattle.theory_spaces.proofs.Modules.{zero-scale, comb_congr, linear_ext, left_linear, right_linear}
 use Rattle.theory_spaces.proofs.Decide.{pivot, NotAllZero}
 use Rattle.theory_spaces.proofs.Spaces.{basis_of}
@@ -21,6 +20,7 @@ use Rattle.theory_division.proofs.Nonunits.{nonunit_exists}
 use Rattle.theory_lattices.specs.Degree.{DegreeOn, DegreeBelow}
 use Rattle.theory_lattices.specs.CommonBasis.{CommonBasis}
 use Rattle.theory_lattices.specs.SelfDual.{SelfDualPair, Middle, DualVectors}
+use Rattle.theory_lattices.proofs.DualCoordinates.{trace-zero, dual_one, dual_zero, dual_coord, dual_coord-zero, dual_coord-add, dual_coord-scale, dual_coord-comb}
 use Rattle.theory_lattices.proofs.CommonBases.{in_both, both_in}
 
 -- ι takes a field into another, and its values are those that pass the test
@@ -125,33 +125,21 @@ module _ {k K V : Type 0} (κ : FieldOn k) (EK : Enumerated k) (F : FieldOn K) (
   abbrev M : ModuleOn F.ring V
   M = module_of A
 
-  dual_one : (i : ℕ) → i < n → tr (b i ⊗ dual i) ≡ F.one
-  dual_one i l = D.pairing i i l l ∙ delta-same F.ring i
-
-  dual_zero : (i j : ℕ) → i < n → j < n → (i ≡ j → ⊥) → tr (b i ⊗ dual j) ≡ F.zero
-  dual_zero i j l g d = D.pairing i j l g ∙ delta-other F.ring i j d
-
-  tr-zero : tr A.zero ≡ F.zero
-  tr-zero = additive-zero A.additive F.additive tr S.tr-add
-
+  -- the coordinates
   abbrev cf : V → ℕ → K
-  cf x i = tr (x ⊗ dual i)
+  cf x i = dual_coord F W A P finite infinite tr S n b dual D x i
 
-  cf-zero : (i : ℕ) → cf A.zero i ≡ F.zero
-  cf-zero i = ap tr (zero-mul A.ring (dual i)) ∙ tr-zero
+  abbrev cf-zero : (i : ℕ) → cf A.zero i ≡ F.zero
+  cf-zero = dual_coord-zero F W A P finite infinite tr S n b dual D
 
-  cf-add : (x y : V) (i : ℕ) → cf (A.◌⊕◌ x y) i ≡ F.◌⊕◌ (cf x i) (cf y i)
-  cf-add x y i = ap tr (A.add-mul x y (dual i)) ∙ S.tr-add (x ⊗ dual i) (y ⊗ dual i)
+  abbrev cf-add : (x y : V) (i : ℕ) → cf (A.◌⊕◌ x y) i ≡ F.◌⊕◌ (cf x i) (cf y i)
+  cf-add = dual_coord-add F W A P finite infinite tr S n b dual D
 
-  cf-scale : (c : K) (x : V) (i : ℕ) → cf (c • x) i ≡ F.◌⊗◌ c (cf x i)
-  cf-scale c x i = ap tr (A.scale-left c x (dual i)) ∙ S.tr-scale c (x ⊗ dual i)
+  abbrev cf-scale : (c : K) (x : V) (i : ℕ) → cf (c • x) i ≡ F.◌⊗◌ c (cf x i)
+  cf-scale = dual_coord-scale F W A P finite infinite tr S n b dual D
 
-  cf_comb : (c : ℕ → K) (i : ℕ) → i < n → cf (comb M n c b) i ≡ c i
-  cf_comb c i l =
-      map-sum M.monoid F.monoid (λ x. cf x i) (cf-zero i) (λ x y. cf-add x y i) n (λ j. c j • b j)
-      ∙ sum_congr F.monoid n (λ j. cf (c j • b j) i) (λ j. F.◌⊗◌ (c j) (cf (b j) i)) (λ j g. cf-scale (c j) (b j) i)
-      ∙ sum_eq_single F.monoid n i (λ j. F.◌⊗◌ (c j) (cf (b j) i)) l (λ j g d. ap (F.◌⊗◌ (c j)) (dual_zero j i g l d) ∙ mul-zero F.ring (c j))
-      ∙ ap (F.◌⊗◌ (c i)) (dual_one i l) ∙ F.mul-one (c i)
+  abbrev cf_comb : (c : ℕ → K) (i : ℕ) → i < n → cf (comb M n c b) i ≡ c i
+  cf_comb = dual_coord-comb F W A P finite infinite tr S n b dual D
 
   expand : (x : V) → x ≡ comb M n (cf x) b
   expand x =
@@ -201,8 +189,8 @@ module _ {k K V : Type 0} (κ : FieldOn k) (EK : Enumerated k) (F : FieldOn K) (
 
     cf_basis : (i : ℕ) → i < n → In (b i)
     cf_basis i l j g = ⊎_elim
-        (λ (e : i ≡ j). ap const (ap (λ t. tr (b i ⊗ dual t)) (sym e) ∙ dual_one i l ∙ sym J.ι-one) ∙ J.const_of κ.one)
-        (λ (d : i ≡ j → ⊥). ap const (dual_zero i j l g d ∙ sym J.ι-zero) ∙ J.const_of κ.zero)
+        (λ (e : i ≡ j). ap const (ap (λ t. tr (b i ⊗ dual t)) (sym e) ∙ dual_one F W A P finite infinite tr S n b dual D i l ∙ sym J.ι-one) ∙ J.const_of κ.one)
+        (λ (d : i ≡ j → ⊥). ap const (dual_zero F W A P finite infinite tr S n b dual D i j l g d ∙ sym J.ι-zero) ∙ J.const_of κ.zero)
         (cases_eq i j)
 
     basis : (s : ℕ → H) × ((i : ℕ) → i < n → (s i).0 ≡ b i)
@@ -232,7 +220,7 @@ module _ {k K V : Type 0} (κ : FieldOn k) (EK : Enumerated k) (F : FieldOn K) (
     all_zero x h = expand x ∙ sum_eq_zero M.monoid n (λ i. cf x i • b i) (λ i l. ap (λ c. c • b i) (h i l) ∙ zero-scale M (b i))
 
     one-ne-zero : A.one ≡ A.zero → ⊥
-    one-ne-zero e = W.one-ne-zero (sym (dual_one 0 (omega arith)) ∙ ap (λ t. tr (t ⊗ dual 0)) (sym (A.one-mul (b 0)) ∙ ap (λ t. t ⊗ b 0) e ∙ zero-mul A.ring (b 0)) ∙ cf-zero 0)
+    one-ne-zero e = W.one-ne-zero (sym (dual_one F W A P finite infinite tr S n b dual D 0 (omega arith)) ∙ ap (λ t. tr (t ⊗ dual 0)) (sym (A.one-mul (b 0)) ∙ ap (λ t. t ⊗ b 0) e ∙ zero-mul A.ring (b 0)) ∙ cf-zero 0)
 
     -- what commutes with the basis commutes with all
     commutes_all : (x : V) → ((i : ℕ) → i < n → x ⊗ b i ≡ b i ⊗ x) → (y : V) → x ⊗ y ≡ y ⊗ x
@@ -283,5 +271,5 @@ module _ {k K V : Type 0} (κ : FieldOn k) (EK : Enumerated k) (F : FieldOn K) (
         no_trace : (x : V) → ((i : ℕ) → i < n → tr (x ⊗ b i) ≡ F.zero) → (y : V) → tr (x ⊗ y) ≡ F.zero
         no_trace x h y =
             ap (λ t. tr (x ⊗ t)) (expand y)
-            ∙ map-sum M.monoid F.monoid (λ t. tr (x ⊗ t)) (ap tr (mul-zero A.ring x) ∙ tr-zero) (λ s t. ap tr (A.mul-add x s t) ∙ S.tr-add (x ⊗ s) (x ⊗ t)) n (λ i. cf y i • b i)
+            ∙ map-sum M.monoid F.monoid (λ t. tr (x ⊗ t)) (ap tr (mul-zero A.ring x) ∙ trace-zero F W A P finite infinite tr S) (λ s t. ap tr (A.mul-add x s t) ∙ S.tr-add (x ⊗ s) (x ⊗ t)) n (λ i. cf y i • b i)
             ∙ sum_eq_zero F.monoid n (λ i. tr (x ⊗ (cf y i • b i))) (λ i l. ap tr (A.scale-right (cf y i) x (b i)) ∙ S.tr-scale (cf y i) (x ⊗ b i) ∙ ap (F.◌⊗◌ (cf y i)) (h i l) ∙ mul-zero F.ring (cf y i))

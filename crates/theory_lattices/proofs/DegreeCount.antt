@@ -5,15 +5,15 @@ use Rattle.std.proofs.Common.{refl, sym, ◌∙◌, ap, subst, arith, ⊎_elim, 
 use Rattle.std.proofs.lemmas.Int.{ints}
 use Rattle.std.proofs.lemmas.Bool.{cases_lt, cases_eq, eq-eqb, ne_eqb}
 use Rattle.theory_rings.specs.Ring.{FieldOn}
-use Rattle.theory_rings.proofs.Rings.RingLaws.{mul-zero, zero-mul, additive-zero}
-use Rattle.theory_rings.proofs.Sums.Sums.{sum_eq_zero, sum_eq_single, sum_congr, map-sum}
+use Rattle.theory_rings.proofs.Rings.RingLaws.{zero-mul}
+use Rattle.theory_rings.proofs.Sums.Sums.{sum_eq_zero, sum_eq_single}
 use Rattle.theory_spaces.specs.Module.{ModuleOn, AlgebraOn, module_of}
 use Rattle.theory_spaces.specs.Linear.{comb}
-use Rattle.theory_spaces.proofs.Matrices.{delta-same, delta-other}
 use Rattle.theory_spaces.proofs.Modules.{comb-scale, zero-scale, comb_injective}
 use Rattle.theory_lattices.specs.Degree.{DegreeOn, DegreeBelow}
 use Rattle.theory_lattices.specs.CommonBasis.{CommonBasis}
 use Rattle.theory_lattices.specs.SelfDual.{PowersOf, SelfDualPair, Middle, DualVectors}
+use Rattle.theory_lattices.proofs.DualCoordinates.{trace-zero, dual_one, dual_coord-comb}
 use Rattle.theory_lattices.proofs.Degrees.{below-mul, below_of_degree, cases_int}
 
 -- a greatest number above 0, or none above 0
@@ -58,15 +58,6 @@ module _ {K V : Type 0} (F : FieldOn K) (W : DegreeOn F.ring) (A : AlgebraOn F.r
       (b : ℕ → V) (a : ℕ → ℤ) (B : CommonBasis F W (module_of A) P n finite infinite b a)
       (one_poly : P F.one) (zero_poly : P F.zero) (low_poly : (c : K) → P c → DegreeBelow W (pos 0) c → c ≡ F.zero)
       (dual : ℕ → V) (D : DualVectors F A tr n b dual) where
-    dual_one : (i : ℕ) → i < n → tr (b i ⊗ dual i) ≡ F.one
-    dual_one i l = D.pairing i i l l ∙ delta-same F.ring i
-
-    dual_zero : (i j : ℕ) → i < n → j < n → (i ≡ j → ⊥) → tr (b i ⊗ dual j) ≡ F.zero
-    dual_zero i j l g d = D.pairing i j l g ∙ delta-other F.ring i j d
-
-    tr-zero : tr A.zero ≡ F.zero
-    tr-zero = additive-zero A.additive F.additive tr S.tr-add
-
     -- what holds of an element of degree d
     pub record Reaches (d : ℤ) (x : V) : Type 0 where
       pub in_finite : finite x
@@ -138,25 +129,16 @@ module _ {K V : Type 0} (F : FieldOn K) (W : DegreeOn F.ring) (A : AlgebraOn F.r
       });
     }
 
-    pub tr_weight : (c : ℕ → K) (i : ℕ) → i < n → tr (comb M n c b ⊗ dual i) ≡ c i
-    tr_weight c i l =
-        map-sum M.monoid F.monoid (λ x. tr (x ⊗ dual i)) (ap tr (zero-mul A.ring (dual i)) ∙ tr-zero)
-        (λ x y. ap tr (A.add-mul x y (dual i)) ∙ S.tr-add (x ⊗ dual i) (y ⊗ dual i)) n (λ j. c j • b j)
-        ∙ sum_congr F.monoid n (λ j. tr ((c j • b j) ⊗ dual i)) (λ j. F.◌⊗◌ (c j) (tr (b j ⊗ dual i)))
-        (λ j g. ap tr (A.scale-left (c j) (b j) (dual i)) ∙ S.tr-scale (c j) (b j ⊗ dual i))
-        ∙ sum_eq_single F.monoid n i (λ j. F.◌⊗◌ (c j) (tr (b j ⊗ dual i))) l (λ j g d. ap (F.◌⊗◌ (c j)) (dual_zero j i g l d) ∙ mul-zero F.ring (c j))
-        ∙ ap (F.◌⊗◌ (c i)) (dual_one i l) ∙ F.mul-one (c i)
-
     dual_reaches : (i : ℕ) → i < n → Reaches (neg_ℤ (a i)) (dual i)
     dual_reaches i l = record {
       in_finite = S.finite_dual (dual i) (λ y h.
           let f = B.finite_in y h in
-          subst P (sym (ap (λ t. tr (t ⊗ dual i)) f.combines ∙ tr_weight f.weights i l)) (f.passes i l));
+          subst P (sym (ap (λ t. tr (t ⊗ dual i)) f.combines ∙ dual_coord-comb F W A P finite infinite tr S n b dual D f.weights i l)) (f.passes i l));
       in_infinite = S.infinite_dual (T (neg_ℤ (a i)) • dual i) (λ y h.
           let f = B.infinite_in y h in
           let e : tr (y ⊗ (T (neg_ℤ (a i)) • dual i)) ≡ F.◌⊗◌ (T (neg_ℤ (a i))) (f.weights i) =
           ap tr (A.scale-right (T (neg_ℤ (a i))) y (dual i)) ∙ S.tr-scale (T (neg_ℤ (a i))) (y ⊗ dual i)
-          ∙ ap (F.◌⊗◌ (T (neg_ℤ (a i)))) (ap (λ t. tr (t ⊗ dual i)) f.combines ∙ tr_weight f.weights i l) in
+          ∙ ap (F.◌⊗◌ (T (neg_ℤ (a i)))) (ap (λ t. tr (t ⊗ dual i)) f.combines ∙ dual_coord-comb F W A P finite infinite tr S n b dual D f.weights i l) in
           let Q : K → Type 0 = λ c. DegreeBelow W (pos 1) c in
           subst Q (sym e) (shift_below (a i +ℤ pos 1) (neg_ℤ (a i)) (pos 1) (f.weights i) (omega (arith, ints)) (f.passes i l)));
     }
@@ -175,7 +157,7 @@ module _ {K V : Type 0} (F : FieldOn K) (W : DegreeOn F.ring) (A : AlgebraOn F.r
               let gone : u ≡ A.zero =
               sym (A.mul-one u) ∙ ap (λ t. u ⊗ t) (sym q) ∙ sym (A.mul_assoc u (u ⊗ v) y)
               ∙ ap (λ t. t ⊗ y) (sym (A.mul_assoc u u v) ∙ ap (λ t. t ⊗ v) uu ∙ zero-mul A.ring v) ∙ zero-mul A.ring y in
-              W.one-ne-zero (sym e ∙ ap tr (ap (λ t. t ⊗ v) gone ∙ zero-mul A.ring v) ∙ tr-zero);
+              W.one-ne-zero (sym e ∙ ap tr (ap (λ t. t ⊗ v) gone ∙ zero-mul A.ring v) ∙ trace-zero F W A P finite infinite tr S);
         }
 
     -- some element of both orders is neither nilpotent nor a unit, or all degrees are 0
@@ -184,7 +166,7 @@ module _ {K V : Type 0} (F : FieldOn K) (W : DegreeOn F.ring) (A : AlgebraOn F.r
         (λ (g : Greatest n a). inl (
           b g.place ⊗ dual g.place,
           middle (a g.place) (b g.place) (dual g.place) g.positive (λ i l. let m = g.most i l in let p = g.positive in omega (arith, ints))
-              (basis_reaches g.place g.within) (dual_reaches g.place g.within) (dual_one g.place g.within),
+              (basis_reaches g.place g.within) (dual_reaches g.place g.within) (dual_one F W A P finite infinite tr S n b dual D g.place g.within),
         ))
         (λ (h : (i : ℕ) → i < n → a i ≤ℤ pos 0). ⊎_elim
         (λ (g : Greatest n (λ i. neg_ℤ (a i))). inl (
@@ -192,7 +174,7 @@ module _ {K V : Type 0} (F : FieldOn K) (W : DegreeOn F.ring) (A : AlgebraOn F.r
           middle (neg_ℤ (a g.place)) (dual g.place) (b g.place) g.positive (λ i l. let m = h i l in let p = g.positive in omega (arith, ints))
               (dual_reaches g.place g.within)
               (let e : a g.place ≡ neg_ℤ (neg_ℤ (a g.place)) = omega (arith, ints) in let Q : ℤ → Type 0 = λ d. Reaches d (b g.place) in subst Q e (basis_reaches g.place g.within))
-              (S.tr_comm (dual g.place) (b g.place) ∙ dual_one g.place g.within),
+              (S.tr_comm (dual g.place) (b g.place) ∙ dual_one F W A P finite infinite tr S n b dual D g.place g.within),
         ))
         (λ (g : (i : ℕ) → i < n → neg_ℤ (a i) ≤ℤ pos 0). inr (λ i l. let x = h i l in let y = g i l in omega (arith, ints)))
         (greatest n (λ i. neg_ℤ (a i))))

@@ -9,6 +9,7 @@ pub mod PolynomialRows
 pub mod CommonBases
 pub mod Intersections
 pub mod PowersOfDegreeOne
+pub mod DualCoordinates
 pub mod DegreeCount
 pub mod DualLattices
 pub mod FractionDegrees
