@@ -7,8 +7,8 @@ use Rattle.std.proofs.lemmas.Bool.{cases_eq}
 use mathlib.Core.HLevel.{Σ_prop_path, Π_prop}
 use Rattle.theory_rings.specs.Ring.{FieldOn}
 use Rattle.theory_rings.specs.Enumerated.{Enumerated}
-use Rattle.theory_rings.proofs.Rings.RingLaws.{mul-zero, zero-mul, neg_unique, add-neg, additive-zero}
-use Rattle.theory_rings.proofs.Sums.Sums.{sum_eq_zero, sum_eq_single, sum_congr, map-sum}
+use Rattle.theory_rings.proofs.Rings.RingLaws.{mul-zero, zero-mul, neg_unique, add-neg}
+use Rattle.theory_rings.proofs.Sums.Sums.{sum_eq_zero, sum_congr, map-sum}
 use Rattle.theory_spaces.specs.Module.{ModuleOn, AlgebraOn, module_of}
 use Rattle.theory_spaces.specs.Linear.{comb, InSpan, Independent}
 use Rattle.theory_spaces.specs.Algebra.{Central}

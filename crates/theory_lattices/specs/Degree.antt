@@ -2,7 +2,7 @@
 use Rattle.std.specs.Prelude.{◌≡◌, ℤ, pos, ◌+ℤ◌, ◌-ℤ◌, ◌≤ℤ◌, ◌<ℤ◌, ◌⊎◌}
 use Rattle.theory_rings.specs.Ring.{RingOn}
 
--- a is 0, or its degree is below n
+-- a is the 0, or what stands for its degree is below n
 abbrev pub BelowBy : {K : Type 0} → K → (K → ℤ) → ℤ → K → Type 0
 BelowBy nought deg n a = (a ≡ nought) ⊎ (deg a <ℤ n)
 
@@ -17,6 +17,7 @@ pub record DegreeOn {K : Type 0} (R : RingOn K) : Type 0 where
   pub add-below : (n : ℤ) (a b : K) → BelowBy R.zero deg n a → BelowBy R.zero deg n b → BelowBy R.zero deg n (R.◌⊕◌ a b)
 
 module _ {K : Type 0} {R : RingOn K} (W : DegreeOn R) where
+  -- a is 0, or its degree is below n
   abbrev pub DegreeBelow : ℤ → K → Type 0
   DegreeBelow n a = BelowBy R.zero W.deg n a
 

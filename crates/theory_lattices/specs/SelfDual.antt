@@ -14,8 +14,9 @@ pub record PowersOf {K : Type 0} (F : FieldOn K) (W : DegreeOn F.ring) (T : ℤ 
   pub none : T (pos 0) ≡ F.one
 
 module _ {K V : Type 0} (F : FieldOn K) (W : DegreeOn F.ring) (A : AlgebraOn F.ring V) (P : K → Type 0) where
-  -- two sets that are closed under products, each all that pairs with it into P, and into the elements of degree at most 0;
-  -- the trace is linear, the same for both orders of a product, and 0 at nilpotent elements
+  -- two sets that are closed under products; the finite one holds all that pairs with it into P, the infinite one all that pairs
+  -- with it into the elements of degree at most 0; the trace is linear, the same for both orders of a product, and 0 at
+  -- nilpotent elements
   pub record SelfDualPair (finite infinite : V → Type 0) (tr : V → K) : Type 0 where
     pub finite-mul : (x y : V) → finite x → finite y → finite (A.◌⊗◌ x y)
     pub infinite-mul : (x y : V) → infinite x → infinite y → infinite (A.◌⊗◌ x y)

@@ -6,11 +6,13 @@ ghost use Rattle.theory_spaces.specs.Module.{ModuleOn, AlgebraOn};
 ghost use Rattle.theory_spaces.specs.Linear.{comb, InSpan, Independent, Coords};
 ghost use Rattle.theory_spaces.specs.Matrix.{delta};
 ghost use Rattle.theory_spaces.specs.Form.{IsBilinear};
-ghost use Rattle.theory_spaces.specs.Algebra.{InCorner, Central};
+ghost use Rattle.theory_spaces.specs.Algebra.{InCorner, Central, CentralSimple};
 ghost use Rattle.theory_lattices.specs.Degree.{DegreeOn};
 ghost use Rattle.theory_lattices.specs.ReducedRows.{Reduced};
 ghost use Rattle.theory_lattices.specs.CommonBasis.{InSpanWith, InFinite, InInfinite, InBoth, CommonBasis};
 ghost use Rattle.theory_lattices.specs.Members.{PolynomialsOf, IntersectionBasis};
+
+use theory_spaces::algebra_laws::BasedAlgebra;
 
 /// A space of n coordinates over a field with a degree, and the elements that may be weights of a finite lattice.
 pub trait DegreeSpace {
@@ -152,4 +154,12 @@ pub fn centre_of_corner<E: IdempotentWithLattice>()
         → (c : E.Vector) → InCorner E.algebra E.idempotent c
         → ((a : E.Vector) → InCorner E.algebra E.idempotent a → E.algebra.◌⊗◌ c a ≡ E.algebra.◌⊗◌ a c)
         → (k : E.Scalar) × (c ≡ E.algebra.◌•◌ k E.idempotent) }
+{}
+
+/// The centre of the corner of an idempotent e other than 0 of a central simple algebra is the multiples of e.
+pub fn centre_of_simple_corner<A: BasedAlgebra>()
+    ensures { CentralSimple A.algebra → (e : A.Vector) → A.algebra.◌⊗◌ e e ≡ e → (e ≡ A.algebra.zero → ⊥)
+        → (c : A.Vector) → InCorner A.algebra e c
+        → ((a : A.Vector) → InCorner A.algebra e a → A.algebra.◌⊗◌ c a ≡ A.algebra.◌⊗◌ a c)
+        → (k : A.Scalar) × (c ≡ A.algebra.◌•◌ k e) }
 {}
