@@ -1,0 +1,9 @@
+pub mod PowersLessOne
+pub mod Counts
+pub mod CyclotomicValues
+pub mod Groups
+pub mod ClassEquation
+pub mod Members
+pub mod Units
+pub mod NoDivisionRing
+pub mod Nonunits

@@ -1,0 +1,4 @@
+pub mod Cyclotomic
+pub mod Counting
+pub mod Group
+pub mod DivisionRing

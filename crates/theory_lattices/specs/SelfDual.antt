@@ -1,0 +1,39 @@
+-- Pairs of a finite and an infinite order that are their own duals for a trace, and elements of both that are neither
+-- nilpotent nor units.
+use Rattle.std.specs.Prelude.{◌≡◌, ℕ, ◌<◌, ℤ, pos, ◌+ℤ◌}
+use Rattle.theory_rings.specs.Ring.{FieldOn}
+use Rattle.theory_spaces.specs.Module.{AlgebraOn}
+use Rattle.theory_spaces.specs.Matrix.{delta}
+use Rattle.theory_spaces.specs.Algebra.{IsNilpotent}
+use Rattle.theory_lattices.specs.Degree.{DegreeOn, DegreeBelow, HasDegree}
+
+-- powers of every degree of an element of degree 1
+pub record PowersOf {K : Type 0} (F : FieldOn K) (W : DegreeOn F.ring) (T : ℤ → K) : Type 0 where
+  pub degree : (m : ℤ) → HasDegree W m (T m)
+  pub joined : (m k : ℤ) → F.◌⊗◌ (T m) (T k) ≡ T (m +ℤ k)
+  pub none : T (pos 0) ≡ F.one
+
+module _ {K V : Type 0} (F : FieldOn K) (W : DegreeOn F.ring) (A : AlgebraOn F.ring V) (P : K → Type 0) where
+  -- two sets that are closed under products; the finite one holds all that pairs with it into P, the infinite one all that pairs
+  -- with it into the elements of degree at most 0; the trace is linear, the same for both orders of a product, and 0 at
+  -- nilpotent elements
+  pub record SelfDualPair (finite infinite : V → Type 0) (tr : V → K) : Type 0 where
+    pub finite-mul : (x y : V) → finite x → finite y → finite (A.◌⊗◌ x y)
+    pub infinite-mul : (x y : V) → infinite x → infinite y → infinite (A.◌⊗◌ x y)
+    pub finite_dual : (x : V) → ((y : V) → finite y → P (tr (A.◌⊗◌ y x))) → finite x
+    pub infinite_dual : (x : V) → ((y : V) → infinite y → DegreeBelow W (pos 1) (tr (A.◌⊗◌ y x))) → infinite x
+    pub tr-add : (x y : V) → tr (A.◌⊕◌ x y) ≡ F.◌⊕◌ (tr x) (tr y)
+    pub tr-scale : (c : K) (x : V) → tr (A.◌•◌ c x) ≡ F.◌⊗◌ c (tr x)
+    pub tr_comm : (x y : V) → tr (A.◌⊗◌ x y) ≡ tr (A.◌⊗◌ y x)
+    pub tr_nilpotent : (x : V) → IsNilpotent A.ring x → tr x ≡ F.zero
+
+  -- an element of both that is neither nilpotent nor a unit of both
+  pub record Middle (finite infinite : V → Type 0) (w : V) : Type 0 where
+    pub in_finite : finite w
+    pub in_infinite : infinite w
+    pub not_nilpotent : IsNilpotent A.ring w → ⊥
+    pub not_unit : (y : V) → finite y → infinite y → A.◌⊗◌ w y ≡ A.one → A.◌⊗◌ y w ≡ A.one → ⊥
+
+-- the trace is 1 at b i · d i, and 0 at b i · d j for j other than i
+pub record DualVectors {K V : Type 0} (F : FieldOn K) (A : AlgebraOn F.ring V) (tr : V → K) (n : ℕ) (b d : ℕ → V) : Type 0 where
+  pub pairing : (i j : ℕ) → i < n → j < n → tr (A.◌⊗◌ (b i) (d j)) ≡ delta F.ring i j
