@@ -76,12 +76,12 @@ module _ {K V : Type 0} (F : FieldOn K) (W : DegreeOn F.ring) (A : AlgebraOn F.r
     M = module_of A
 
     -- the power times the power of the opposite degree
-    opposite : (e : ℤ) (c : K) → F.◌⊗◌ (T (neg_ℤ e)) (F.◌⊗◌ (T e) c) ≡ c
+    pub opposite : (e : ℤ) (c : K) → F.◌⊗◌ (T (neg_ℤ e)) (F.◌⊗◌ (T e) c) ≡ c
     opposite e c =
         let z : neg_ℤ e +ℤ e ≡ pos 0 = omega (arith, ints) in
         sym (F.mul_assoc (T (neg_ℤ e)) (T e) c) ∙ ap (λ t. F.◌⊗◌ t c) (X.joined (neg_ℤ e) e ∙ ap T z ∙ X.none) ∙ F.one-mul c
 
-    shift_below : (m e s : ℤ) (c : K) → (e +ℤ m) ≤ℤ s → DegreeBelow W m c → DegreeBelow W s (F.◌⊗◌ (T e) c)
+    pub shift_below : (m e s : ℤ) (c : K) → (e +ℤ m) ≤ℤ s → DegreeBelow W m c → DegreeBelow W s (F.◌⊗◌ (T e) c)
     shift_below m e s c l h = below-mul W (e +ℤ pos 1) m s (T e) c (omega (arith, ints)) (below_of_degree W e (e +ℤ pos 1) (T e) (omega (arith, ints)) (X.degree e)) h
 
     -- past the greatest degree there is nothing
@@ -119,7 +119,7 @@ module _ {K V : Type 0} (F : FieldOn K) (W : DegreeOn F.ring) (A : AlgebraOn F.r
         (λ (d : j ≡ i → ⊥). let S : K → Type 0 = λ x. Q j x in subst S (sym (one_at-else i j c d)) (z j))
         (cases_eq j i)
 
-    basis_reaches : (i : ℕ) → i < n → Reaches (a i) (b i)
+    pub basis_reaches : (i : ℕ) → i < n → Reaches (a i) (b i)
     basis_reaches i l = record {
       in_finite = B.finite_back (b i) (record { weights = one_at i F.one; passes = one_at-passes (λ j c. P c) i F.one one_poly (λ j. zero_poly); combines = sym (A.one-scale (b i)) ∙ single i F.one l });
       in_infinite = B.infinite_back (T (a i) • b i) (record {

@@ -6,6 +6,7 @@ use Rattle.theory_rings.proofs.Rings.RingLaws.{mul-zero, zero-mul, additive-zero
 use Rattle.theory_rings.proofs.Sums.Sums.{sum_eq_single, sum_congr, map-sum}
 use Rattle.theory_spaces.specs.Module.{ModuleOn, AlgebraOn, module_of}
 use Rattle.theory_spaces.specs.Linear.{comb}
+use Rattle.theory_spaces.specs.Form.{IsBilinear}
 use Rattle.theory_spaces.proofs.Matrices.{delta-same, delta-other}
 use Rattle.theory_lattices.specs.Degree.{DegreeOn}
 use Rattle.theory_lattices.specs.SelfDual.{SelfDualPair, DualVectors}
@@ -21,6 +22,15 @@ module _ {K V : Type 0} (F : FieldOn K) (W : DegreeOn F.ring) (A : AlgebraOn F.r
 
   pub trace-zero : tr A.zero ≡ F.zero
   trace-zero = additive-zero A.additive F.additive tr S.tr-add
+
+  -- the trace form
+  pub trace_bilinear : IsBilinear M (λ x y. tr (x ⊗ y))
+  trace_bilinear = record {
+    add-left = λ x y z. ap tr (A.add-mul x y z) ∙ S.tr-add (x ⊗ z) (y ⊗ z);
+    add-right = λ x y z. ap tr (A.mul-add x y z) ∙ S.tr-add (x ⊗ y) (x ⊗ z);
+    scale-left = λ c x y. ap tr (A.scale-left c x y) ∙ S.tr-scale c (x ⊗ y);
+    scale-right = λ c x y. ap tr (A.scale-right c x y) ∙ S.tr-scale c (x ⊗ y);
+  }
 
   module _ (n : ℕ) (b dual : ℕ → V) (D : DualVectors F A tr n b dual) where
     pub dual_one : (i : ℕ) → i < n → tr (b i ⊗ dual i) ≡ F.one

@@ -19,3 +19,4 @@ pub mod RationalBases
 pub mod Constants
 pub mod MiddleElements
 pub mod SelfDualOrders
+pub mod DualBases

@@ -22,6 +22,7 @@ use Rattle.theory_rings.proofs.Fractions.Fractions.{fraction_of_value}
 use Rattle.theory_rings.proofs.Fractions.Lowest.{polynomial_reduction}
 use Rattle.theory_lattices.specs.Degree.{DegreeOn, DegreeBelow}
 use Rattle.theory_lattices.specs.Members.{polynomial_of, PolynomialsOf}
+use Rattle.theory_lattices.specs.SelfDual.{ClosedWeights}
 use Rattle.theory_lattices.specs.RationalFunctions.{Rational, IsPolynomial, of_polynomial, of_constant, power_of_x, IsRationalDegree}
 use Rattle.theory_lattices.proofs.FractionDegrees.{eq_of_value, of_hom, of-zero, of-ne-zero, degree_of, polynomial_degree, polynomial_degree-is}
 
@@ -170,3 +171,19 @@ module _ {k : Type 0} (F : FieldOn k) where
           (cf h.0, e ∙ ap of (as_terms h.0 m (length_of_below h.0 m (subst Z e l))) ∙ of_terms m (cf h.0));
       back = λ m s. subst (IsPolynomial F) (of_terms m s) (terms m s, fraction_of_value P (IsLowest R P) (polynomial_reduction F) (terms m s));
     }
+
+    -- sums and products of polynomials are polynomials
+    pub polynomials_closed : ClosedWeights Q (IsPolynomial F)
+    polynomials_closed =
+        let I = polynomial_reduction F in
+        let h = of_hom P (IsLowest R P) I Q H in
+        let own = λ (u : Poly R). fraction_of_value P (IsLowest R P) I u in
+        record {
+          zero_in = subst (IsPolynomial F) (of-zero P (IsLowest R P) I Q H) (P.zero, own P.zero);
+          add_in = λ x y g k.
+              let e = ap₂ Q.◌⊕◌ (eq_of_value P (IsLowest R P) I Q H x g.0 g.1) (eq_of_value P (IsLowest R P) I Q H y k.0 k.1) in
+              subst (IsPolynomial F) (h.map-add g.0 k.0 ∙ sym e) (P.◌⊕◌ g.0 k.0, own (P.◌⊕◌ g.0 k.0));
+          mul_in = λ x y g k.
+              let e = ap₂ Q.◌⊗◌ (eq_of_value P (IsLowest R P) I Q H x g.0 g.1) (eq_of_value P (IsLowest R P) I Q H y k.0 k.1) in
+              subst (IsPolynomial F) (h.map-mul g.0 k.0 ∙ sym e) (P.◌⊗◌ g.0 k.0, own (P.◌⊗◌ g.0 k.0));
+        }

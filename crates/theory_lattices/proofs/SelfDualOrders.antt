@@ -14,7 +14,7 @@ use Rattle.theory_rings.proofs.Polynomials.Bezout.{field_polynomials}
 use Rattle.theory_spaces.specs.Module.{ModuleOn, AlgebraOn, module_of}
 use Rattle.theory_spaces.specs.Linear.{InSpan, Independent, Basis}
 use Rattle.theory_spaces.specs.Algebra.{Central}
-use Rattle.theory_spaces.specs.Form.{IsBilinear, IsNondegenerate}
+use Rattle.theory_spaces.specs.Form.{IsNondegenerate}
 use Rattle.theory_spaces.proofs.Modules.{comb-scale, comb_zero, comb_injective}
 use Rattle.theory_spaces.proofs.Spaces.{basis_of, coords_of, full_span}
 use Rattle.theory_spaces.proofs.Forms.{dual_basis}
@@ -23,6 +23,7 @@ use Rattle.theory_lattices.specs.CommonBasis.{InFinite, InInfinite, CommonBasis}
 use Rattle.theory_lattices.specs.Members.{PolynomialsOf}
 use Rattle.theory_lattices.specs.SelfDual.{PowersOf, SelfDualPair, Middle, DualVectors}
 use Rattle.theory_lattices.specs.RationalFunctions.{Rational, IsPolynomial, of_constant, power_of_x, IsRationalDegree}
+use Rattle.theory_lattices.proofs.DualCoordinates.{trace_bilinear}
 use Rattle.theory_lattices.proofs.PowersOfDegreeOne.{powers, at}
 use Rattle.theory_lattices.proofs.MiddleElements.{low_poly, const_poly, middle_exists}
 use Rattle.theory_lattices.proofs.RationalMembers.{constants_hom, power_of_x-zero, polynomials_of}
@@ -41,14 +42,6 @@ module _ {k K V : Type 0} (κ : FieldOn k) (F : FieldOn K) (W : DegreeOn F.ring)
 
   abbrev form : V → V → K
   form x y = tr (x ⊗ y)
-
-  form_bilinear : IsBilinear M form
-  form_bilinear = record {
-    add-left = λ x y z. ap tr (A.add-mul x y z) ∙ S.tr-add (x ⊗ z) (y ⊗ z);
-    add-right = λ x y z. ap tr (A.mul-add x y z) ∙ S.tr-add (x ⊗ y) (x ⊗ z);
-    scale-left = λ c x y. ap tr (A.scale-left c x y) ∙ S.tr-scale c (x ⊗ y);
-    scale-right = λ c x y. ap tr (A.scale-right c x y) ∙ S.tr-scale c (x ⊗ y);
-  }
 
   abbrev basis : Basis M n
   basis = basis_of M n b B.free spans
@@ -87,7 +80,7 @@ module _ {k K V : Type 0} (κ : FieldOn k) (F : FieldOn K) (W : DegreeOn F.ring)
   form_nondegenerate = record { only_zero = λ x h. basis.expand x ∙ comb_zero M n (basis.coord x) b (coordinate_zero x h) }
 
   pub dual_vectors : (dual : ℕ → V) × DualVectors F A tr n b dual
-  dual_vectors = let d = dual_basis F M form form_bilinear n basis form_nondegenerate in let e = d.basis in (e.vec, record { pairing = d.pairing })
+  dual_vectors = let d = dual_basis F M form (trace_bilinear F W A P finite infinite tr S) n basis form_nondegenerate in let e = d.basis in (e.vec, record { pairing = d.pairing })
 
   pub middle_of_pair : Enumerated k → finite A.one → infinite A.one → Central A → 2 ≤ n → n ≤ 36 → (w : V) × Middle F W A P finite infinite w
   middle_of_pair E f1 i1 central enough bounded =

@@ -13,6 +13,12 @@ pub record PowersOf {K : Type 0} (F : FieldOn K) (W : DegreeOn F.ring) (T : ℤ 
   pub joined : (m k : ℤ) → F.◌⊗◌ (T m) (T k) ≡ T (m +ℤ k)
   pub none : T (pos 0) ≡ F.one
 
+-- P holds of 0, of sums and of products
+pub record ClosedWeights {K : Type 0} (F : FieldOn K) (P : K → Type 0) : Type 0 where
+  pub zero_in : P F.zero
+  pub add_in : (a b : K) → P a → P b → P (F.◌⊕◌ a b)
+  pub mul_in : (a b : K) → P a → P b → P (F.◌⊗◌ a b)
+
 module _ {K V : Type 0} (F : FieldOn K) (W : DegreeOn F.ring) (A : AlgebraOn F.ring V) (P : K → Type 0) where
   -- two sets that are closed under products; the finite one holds all that pairs with it into P, the infinite one all that pairs
   -- with it into the elements of degree at most 0; the trace is linear, the same for both orders of a product, and 0 at
@@ -26,6 +32,11 @@ module _ {K V : Type 0} (F : FieldOn K) (W : DegreeOn F.ring) (A : AlgebraOn F.r
     pub tr-scale : (c : K) (x : V) → tr (A.◌•◌ c x) ≡ F.◌⊗◌ c (tr x)
     pub tr_comm : (x y : V) → tr (A.◌⊗◌ x y) ≡ tr (A.◌⊗◌ y x)
     pub tr_nilpotent : (x : V) → IsNilpotent A.ring x → tr x ≡ F.zero
+
+  -- the trace takes the one order into P, and the other into the elements of degree at most 0
+  pub record IntegralTrace (finite infinite : V → Type 0) (tr : V → K) : Type 0 where
+    pub finite_trace : (x : V) → finite x → P (tr x)
+    pub infinite_trace : (x : V) → infinite x → DegreeBelow W (pos 1) (tr x)
 
   -- an element of both that is neither nilpotent nor a unit of both
   pub record Middle (finite infinite : V → Type 0) (w : V) : Type 0 where

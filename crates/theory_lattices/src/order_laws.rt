@@ -1,5 +1,5 @@
 // Theorems on pairs of self-dual orders.
-ghost use Rattle.std.specs.Prelude.{◌≡◌, ℕ, ◌<◌, ◌≤◌, ℤ, pos, ◌⊎◌};
+ghost use Rattle.std.specs.Prelude.{◌≡◌, ℕ, ◌<◌, ◌≤◌, ℤ, pos, neg_ℤ, ◌⊎◌};
 ghost use Rattle.theory_rings.specs.Ring.{FieldOn};
 ghost use Rattle.theory_rings.specs.Homomorphism.{IsRingHom};
 ghost use Rattle.theory_rings.specs.Enumerated.{Enumerated};
@@ -9,7 +9,7 @@ ghost use Rattle.theory_spaces.specs.Algebra.{Central};
 ghost use Rattle.theory_lattices.specs.Degree.{DegreeOn};
 ghost use Rattle.theory_lattices.specs.CommonBasis.{CommonBasis};
 ghost use Rattle.theory_lattices.specs.Members.{PolynomialsOf};
-ghost use Rattle.theory_lattices.specs.SelfDual.{SelfDualPair, Middle, DualVectors};
+ghost use Rattle.theory_lattices.specs.SelfDual.{ClosedWeights, SelfDualPair, IntegralTrace, Middle, DualVectors};
 
 /// A pair of orders that are their own duals for a trace, with a common basis and its dual vectors, where the weights of the
 /// finite order are the polynomials over a field of constants.
@@ -60,6 +60,14 @@ pub trait OrderPair {
 
     ghost pairing: { DualVectors field algebra trace size vec dual };
 }
+
+/// Where the trace takes the orders into the weights and into the elements of degree at most 0, the dual vectors are a common basis
+/// too, with the opposite degrees.
+pub fn dual_common_basis<O: OrderPair>()
+    ensures { ClosedWeights O.field O.Weight → IntegralTrace O.field O.degree O.algebra O.Weight O.Finite O.Infinite O.trace
+        → ((x : O.Vector) → InSpan (module_of O.algebra) O.size O.vec x)
+        → CommonBasis O.field O.degree (module_of O.algebra) O.Weight O.size O.Finite O.Infinite O.dual (λ i. neg_ℤ (O.degrees i)) }
+{}
 
 /// Both orders hold an element that is neither nilpotent nor a unit, or all degrees of the common basis are 0.
 pub fn degree_count<O: OrderPair>()

@@ -11,7 +11,7 @@ ghost use Rattle.theory_spaces.specs.Algebra.{Central};
 ghost use Rattle.theory_lattices.specs.Degree.{DegreeOn, IsEuclidean};
 ghost use Rattle.theory_lattices.specs.CommonBasis.{InFinite, InInfinite, CommonBasis};
 ghost use Rattle.theory_lattices.specs.Members.{PolynomialsOf, IntersectionBasis};
-ghost use Rattle.theory_lattices.specs.SelfDual.{SelfDualPair, Middle, DualVectors};
+ghost use Rattle.theory_lattices.specs.SelfDual.{ClosedWeights, SelfDualPair, Middle, DualVectors};
 ghost use Rattle.theory_lattices.specs.RationalFunctions.{IsPolynomialDegree, Rational, IsPolynomial, of_constant, power_of_x, IsRationalDegree};
 
 use theory_rings::structures::FieldStructure;
@@ -38,6 +38,7 @@ pub trait RationalFunctions {
 pub fn degree_of_rational_functions<Q: RationalFunctions>()
     ensures exists { (W : DegreeOn Q.field.ring) × IsRationalDegree Q.constants Q.field W }
     ensures constants { IsRingHom Q.constants.ring Q.field.ring (of_constant Q.constants) }
+    ensures closed { ClosedWeights Q.field (IsPolynomial Q.constants) }
     ensures first { power_of_x Q.constants 0 ≡ Q.field.one }
     ensures polynomials { (W : DegreeOn Q.field.ring) → IsRationalDegree Q.constants Q.field W
         → PolynomialsOf Q.field W (IsPolynomial Q.constants) Q.constants.ring (of_constant Q.constants) (power_of_x Q.constants) }

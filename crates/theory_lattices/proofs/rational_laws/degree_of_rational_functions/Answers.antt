@@ -1,5 +1,5 @@
 use Rattle.theory_lattices.proofs.FractionDegrees.{rational_degree, rational_degree-is}
-use Rattle.theory_lattices.proofs.RationalMembers.{constants_hom, power_of_x-zero, polynomials_of}
+use Rattle.theory_lattices.proofs.RationalMembers.{constants_hom, power_of_x-zero, polynomials_of, polynomials_closed}
 use Rattle.theory_lattices.proofs.rational_laws.degree_of_rational_functions.Goals as goal
 
 pub returns-clause-exists : goal.returns-clause-exists
@@ -10,6 +10,11 @@ pub returns-clause-constants : goal.returns-clause-constants
 returns-clause-constants g c =
     let q = g.Q.RationalFunctions in
     constants_hom q.constants q.field q.fractions (rational_degree q.constants q.field q.fractions) (rational_degree-is q.constants q.field q.fractions)
+
+pub returns-clause-closed : goal.returns-clause-closed
+returns-clause-closed g c =
+    let q = g.Q.RationalFunctions in
+    polynomials_closed q.constants q.field q.fractions (rational_degree q.constants q.field q.fractions) (rational_degree-is q.constants q.field q.fractions)
 
 pub returns-clause-first : goal.returns-clause-first
 returns-clause-first g c =
