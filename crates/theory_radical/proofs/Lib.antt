@@ -1,0 +1,4 @@
+pub mod Words
+pub mod FirstTurns
+pub mod WordSums
+pub mod Orbits

@@ -1,0 +1,5 @@
+pub mod Congruence
+pub mod Trace
+pub mod Ideal
+pub mod LiftRing
+pub mod Chain

@@ -1,0 +1,2 @@
+// The radical.
+#![tactic(auto)]
