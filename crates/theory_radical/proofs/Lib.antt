@@ -6,3 +6,6 @@ pub mod Multiples
 pub mod PowersOfSums
 pub mod RingChains
 pub mod MatrixCorners
+pub mod Cores
+pub mod Fitting
+pub mod NilIdeals

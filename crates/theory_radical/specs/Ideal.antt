@@ -2,6 +2,7 @@
 -- (Pierce, Associative Algebras, chapter 4.)
 use Rattle.std.specs.Prelude.{◌≡◌, ℕ, zero, suc}
 use Rattle.theory_rings.specs.Ring.{RingOn}
+use Rattle.theory_rings.specs.Power.{power}
 use Rattle.theory_spaces.specs.Module.{AlgebraOn, module_of}
 use Rattle.theory_spaces.specs.Linear.{InSpan, IsSubmodule}
 use Rattle.theory_spaces.specs.Algebra.{IsNilpotent}
@@ -41,3 +42,11 @@ module _ {K V : Type 0} {R : RingOn K} (A : AlgebraOn R V) where
   pub record IsLargestNilpotentIdeal (J : V → Type 0) : Type 0 where
     pub nilpotent : IsNilpotentIdeal A.ring J
     pub largest : (n : ℕ) (g : ℕ → V) → IsNilpotentIdeal A.ring (InSpan (module_of A) n g) → (x : V) → InSpan (module_of A) n g x → J x
+
+-- h commutes with a, and a·h is an idempotent that keeps a power of a. It is 0 only where a is nilpotent
+pub record FittingIdempotent {V : Type 0} (R : RingOn V) (a : V) : Type 0 where
+  pub cofactor : V
+  pub commutes : R.◌⊗◌ a cofactor ≡ R.◌⊗◌ cofactor a
+  pub idempotent : R.◌⊗◌ (R.◌⊗◌ a cofactor) (R.◌⊗◌ a cofactor) ≡ R.◌⊗◌ a cofactor
+  pub exponent : ℕ
+  pub keeps : R.◌⊗◌ (power R a exponent) (R.◌⊗◌ a cofactor) ≡ power R a exponent
