@@ -9,3 +9,6 @@ pub mod MatrixCorners
 pub mod Cores
 pub mod Fitting
 pub mod NilIdeals
+pub mod LiftRings
+pub mod LiftedMatrices
+pub mod RegularMatrices

@@ -112,20 +112,16 @@ module _ {K V : Type 0} (F : FieldOn K) (A : AlgebraOn F.ring V) (m : ℕ) (C : 
   nil_products_vanish nil a members = product_vanishes F A J nil a members m C
 
   -- a nil ideal is nilpotent
+  pub nil_ideal_products_vanish : IsIdeal A.ring J → ((x : V) → J x → IsNilpotent A.ring x) → ProductsVanish A.ring J m
+  nil_ideal_products_vanish ideal nil = nil_products_vanish (record {
+    subspace = record {
+      zero-in = ideal.zero-in;
+      add-in = ideal.add-in;
+      scale-in = λ c x h. subst J (A.scale-left c A.one x ∙ ap (A.◌•◌ c) (A.one-mul x)) (ideal.left-in (A.◌•◌ c A.one) x h);
+    };
+    mul-in = λ x y h _. ideal.right-in x y h;
+    nilpotent = nil;
+  })
+
   pub nil_ideal_nilpotent : IsIdeal A.ring J → ((x : V) → J x → IsNilpotent A.ring x) → IsNilpotentIdeal A.ring J
-  nil_ideal_nilpotent ideal nil = record {
-    ideal = ideal;
-    exponent = m;
-    vanishes = nil_products_vanish (record {
-      subspace = record {
-        zero-in = ideal.zero-in;
-        add-in = ideal.add-in;
-        scale-in = λ c x h. scaled c x (ideal.left-in (A.◌•◌ c A.one) x h);
-      };
-      mul-in = λ x y h _. ideal.right-in x y h;
-      nilpotent = nil;
-    });
-  }
-    where
-      scaled : (c : K) (x : V) → J (A.◌⊗◌ (A.◌•◌ c A.one) x) → J (A.◌•◌ c x)
-      scaled c x h = subst J (A.scale-left c A.one x ∙ ap (A.◌•◌ c) (A.one-mul x)) h
+  nil_ideal_nilpotent ideal nil = record { ideal = ideal; exponent = m; vanishes = nil_ideal_products_vanish ideal nil }
