@@ -12,3 +12,7 @@ pub mod NilIdeals
 pub mod LiftRings
 pub mod LiftedMatrices
 pub mod RegularMatrices
+pub mod AlgebraChain
+pub mod ChainEnd
+pub mod TraceResidues
+pub mod NextIdeal

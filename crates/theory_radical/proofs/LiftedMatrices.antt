@@ -91,7 +91,7 @@ module _ {K W : Type 0} {F : FieldOn K} {p n : ℕ} (L : LiftRingOn F p n W) (m 
   unfolding raise
   down-raise x i j a b = ap L.down (mat-entry L.ring.ring L.set m (λ i j. rep (x.0 i j)) i j a b) ∙ down-up F.cring L.ring p n L.down L.is_lift (x.0 i j)
 
-  down-delta : (i j : ℕ) → L.down (delta L.ring.ring i j) ≡ delta F.ring i j
+  pub down-delta : (i j : ℕ) → L.down (delta L.ring.ring i j) ≡ delta F.ring i j
   down-delta i j = go (eqb i j)
     where
       go : (b : Bool) → L.down (cond b L.ring.one L.ring.zero) ≡ cond b F.one F.zero

@@ -3,3 +3,4 @@ pub mod Trace
 pub mod Ideal
 pub mod LiftRing
 pub mod Chain
+pub mod Functional
