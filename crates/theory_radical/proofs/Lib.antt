@@ -16,3 +16,5 @@ pub mod AlgebraChain
 pub mod ChainEnd
 pub mod TraceResidues
 pub mod NextIdeal
+pub mod IntegerLifts
+pub mod RemainderRings

@@ -35,11 +35,11 @@ module _ {K : Type 0} (F : FieldOn K) (p : ℕ) where
       (frobenius_injective F p prime char (power ring x (p ^ i)) (power ring y (p ^ i)) (sym (power_pow-suc x i) ∙ e ∙ power_pow-suc y i))
 
   -- p^i-th roots
-  abbrev pub iterated_root : HasRoots F p → ℕ → K → K
+  abbrev pub iterated_root : HasRoots F.ring p → ℕ → K → K
   iterated_root R zero x = x
   iterated_root R (suc i) x = iterated_root R i (R.root x)
 
-  pub power-iterated_root : (R : HasRoots F p) (i : ℕ) (x : K) → power ring (iterated_root R i x) (p ^ i) ≡ x
+  pub power-iterated_root : (R : HasRoots F.ring p) (i : ℕ) (x : K) → power ring (iterated_root R i x) (p ^ i) ≡ x
   power-iterated_root R zero x = power_pow-zero x
   power-iterated_root R (suc i) x = power_pow-suc (iterated_root R i (R.root x)) i ∙ ap (λ z. power ring z p) (power-iterated_root R i (R.root x)) ∙ R.power-root x
 
@@ -70,7 +70,7 @@ module _ {K W V : Type 0} {F : FieldOn K} {p n : ℕ} (prime : IsPrime p) (L : L
           (λ s _. sym (power-mul F.ring (c s) (y s j) (F.mul_comm (c s) (y s j)) q))
           ∙ sym (frobenius_iterate-sum F.cring p prime char i k (λ s. F.◌⊗◌ (c s) (y s j)))
 
-  module _ (R : HasRoots F p) where
+  module _ (R : HasRoots F.ring p) where
     abbrev functional : (x : V) → Chain L A m B i x → K
     functional x h = iterated_root F p R i (residue prime L A m B i within x (in_chain prime L A m B i x h))
 

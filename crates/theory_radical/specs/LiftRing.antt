@@ -1,7 +1,7 @@
 -- Lift rings: commutative rings of which a given ring is the quotient by a prime p, and in which p^i can be cancelled
 -- modulo p^(i + 1) for the first i. The ring Z/p^n is one of Z/p. (Rónyai, Computing the structure of finite algebras.)
 use Rattle.std.specs.Prelude.{◌≡◌, ℕ, suc, ◌^◌, ◌<◌}
-use Rattle.theory_rings.specs.Ring.{CommRingOn, FieldOn}
+use Rattle.theory_rings.specs.Ring.{RingOn, CommRingOn, FieldOn}
 use Rattle.theory_rings.specs.Power.{power, times}
 use Rattle.theory_rings.specs.Homomorphism.{IsRingHom}
 use Rattle.theory_radical.specs.Congruence.{MultipleOf}
@@ -21,7 +21,7 @@ pub record LiftRingOn {K : Type 0} (F : FieldOn K) (p n : ℕ) (W : Type 0) : Ty
   pub down : W → K
   pub is_lift : IsLiftRing F.cring ring p n down
 
--- each element of a field has a p-th root
-pub record HasRoots {K : Type 0} (F : FieldOn K) (p : ℕ) : Type 0 where
+-- each element has a p-th root
+pub record HasRoots {K : Type 0} (R : RingOn K) (p : ℕ) : Type 0 where
   pub root : K → K
-  pub power-root : (x : K) → power F.ring (root x) p ≡ x
+  pub power-root : (x : K) → power R (root x) p ≡ x
