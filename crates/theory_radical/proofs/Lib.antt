@@ -18,3 +18,4 @@ pub mod TraceResidues
 pub mod NextIdeal
 pub mod IntegerLifts
 pub mod RemainderRings
+pub mod RemainderLifts

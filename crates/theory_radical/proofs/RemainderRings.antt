@@ -17,6 +17,10 @@ use Rattle.theory_rings.proofs.Polynomials.Degrees.{length_le, length-degree}
 use Rattle.theory_rings.proofs.Polynomials.Uniqueness.{for_polynomials}
 use Rattle.theory_rings.proofs.Polynomials.Remainders.{remainders, Remainder-path, remainders-zero_poly, remainders-add_poly, is_remainder_ring, is_zero_remainder, zero_remainder_test}
 
+-- the coefficients of a remainder from the degree on
+pub remainder-past : {K : Type 0} (R : CommRingOn K) (m : Poly R) → IsMonic R m → (a : Remainder R m) (k : ℕ) → degree m.0 ≤ k → coefficient R a.0 k ≡ R.zero
+remainder-past R m monic a k l = let e = length-degree R m monic.nonzero in let s = a.1 in coefficient_past R a.0 k (omega arith)
+
 module _ {K : Type 0} (R : CommRingOn K) {is_zero : K → Bool} (Z : ZeroTest R.zero is_zero) (m : Poly R) (monic : IsMonic R m) where
   abbrev P : CommRingOn (Poly R)
   P = polynomials R Z
@@ -50,9 +54,6 @@ module _ {K : Type 0} (R : CommRingOn K) {is_zero : K → Bool} (Z : ZeroTest R.
 
   pub Remainder-ext : (a b : Remainder R m) → ((k : ℕ) → coefficient R a.0 k ≡ coefficient R b.0 k) → a ≡ b
   Remainder-ext a b h = Remainder-path R Z m monic a b (congruent_of_eq P m a.0 b.0 (Poly-path R a.0 b.0 h))
-
-  pub remainder-past : (a : Remainder R m) (k : ℕ) → degree m.0 ≤ k → coefficient R a.0 k ≡ R.zero
-  remainder-past a k l = let e = length-degree R m monic.nonzero in let s = a.1 in coefficient_past R a.0 k (omega arith)
 
   -- sums go coefficient by coefficient
   pub remainder-coefficient-zero : (k : ℕ) → coefficient R Q.zero.0 k ≡ R.zero
@@ -92,5 +93,5 @@ module _ {K : Type 0} (R : CommRingOn K) {is_zero : K → Bool} (Z : ZeroTest R.
   pub small_remainder-all : (f : ℕ → K) → ((k : ℕ) → degree m.0 ≤ k → f k ≡ R.zero) → (k : ℕ) → coefficient R (small_remainder f).0 k ≡ f k
   small_remainder-all f h k = ⊎_elim
       (λ (l : k < degree m.0). small_remainder-coefficient f k l)
-      (λ (l : degree m.0 ≤ k). remainder-past (small_remainder f) k l ∙ sym (h k l))
+      (λ (l : degree m.0 ≤ k). remainder-past R m monic (small_remainder f) k l ∙ sym (h k l))
       (cases_lt k (degree m.0))

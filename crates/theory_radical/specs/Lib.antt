@@ -4,3 +4,4 @@ pub mod Ideal
 pub mod LiftRing
 pub mod Chain
 pub mod Functional
+pub mod Tower
