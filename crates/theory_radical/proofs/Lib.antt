@@ -19,3 +19,6 @@ pub mod NextIdeal
 pub mod IntegerLifts
 pub mod RemainderRings
 pub mod RemainderLifts
+pub mod Towers
+pub mod TowerFields
+pub mod ChainLaws

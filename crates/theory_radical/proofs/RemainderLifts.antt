@@ -116,10 +116,10 @@ module _ {K W : Type 0} (S : CommRingOn K) {is_zero' : K → Bool} (Z' : ZeroTes
       characteristic = Remainder-ext S Z' g monic' (times Q'.monoid p Q'.one) Q'.zero (λ k. remainder-coefficient-times S Z' g monic' p Q'.one k
           ∙ times_char S.ring p L.characteristic (coefficient S Q'.one.0 k) ∙ sym (remainder-coefficient-zero S Z' g monic' k));
       cancels = λ i l y h. multiple_of_coefficients p y (λ k. L.cancels i l (coefficient R y.0 k) (record {
-            part = coefficient R h.part.0 k;
-            is = sym (remainder-coefficient-times R Z f monic (p ^ i) y k) ∙ ap (λ (x : Remainder R f). coefficient R x.0 k) h.is
-                ∙ remainder-coefficient-times R Z f monic (p ^ suc i) h.part k;
-          }));
+        part = coefficient R h.part.0 k;
+        is = sym (remainder-coefficient-times R Z f monic (p ^ i) y k) ∙ ap (λ (x : Remainder R f). coefficient R x.0 k) h.is
+            ∙ remainder-coefficient-times R Z f monic (p ^ suc i) h.part k;
+      }));
     }
 
     -- so is each ring with these operations

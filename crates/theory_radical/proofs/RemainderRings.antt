@@ -95,3 +95,8 @@ module _ {K : Type 0} (R : CommRingOn K) {is_zero : K → Bool} (Z : ZeroTest R.
       (λ (l : k < degree m.0). small_remainder-coefficient f k l)
       (λ (l : degree m.0 ≤ k). remainder-past R m monic (small_remainder f) k l ∙ sym (h k l))
       (cases_lt k (degree m.0))
+
+  -- a test of 0 in each ring of remainders
+  pub remainders_zero_test : (P' : CommRingOn (Poly R)) → IsPolynomialRing R P' → (E : CommRingOn (Remainder R m)) → IsRemainderRing R m P' E
+      → ZeroTest E.zero (is_zero_remainder R Z m monic)
+  remainders_zero_test = for_remainders (λ X. ZeroTest X.zero (is_zero_remainder R Z m monic)) (zero_remainder_test R Z m monic)

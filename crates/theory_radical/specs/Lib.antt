@@ -4,4 +4,5 @@ pub mod Ideal
 pub mod LiftRing
 pub mod Chain
 pub mod Functional
+pub mod ChainLaws
 pub mod Tower

@@ -6,6 +6,7 @@ use Rattle.theory_rings.specs.IntegersMod.{Fin, integers_mod, residue}
 use Rattle.theory_rings.specs.Polynomial.{Poly, coefficient, IsMonic, IsPolynomialRing}
 use Rattle.theory_rings.specs.Division.{IsIrreducible}
 use Rattle.theory_rings.specs.Remainder.{Remainder, IsRemainderRing}
+use Rattle.theory_radical.specs.LiftRing.{LiftRingOn}
 
 -- the rings of polynomials and of remainders on the way
 pub record TowerOver {K : Type 0} (R : CommRingOn K) : Type 0 where
@@ -57,3 +58,9 @@ module _ (p n : ℕ) (two_le : 2 ≤ p) (two_le_pow : 2 ≤ p ^ n) where
   -- down takes each coefficient modulo p
   abbrev pub IsCoefficientwise : (T : LiftTower) (k : ResidueTower) → (TowerElement T → TowerElement k) → Type 0
   IsCoefficientwise T k down = (y : TowerElement T) (u v : ℕ) → double_coefficient k (down y).0 u v ≡ residue p two_le (double_coefficient T y.0 u v).0
+
+-- L is the lift ring that T gives of the field k: it has the ring of T, and each coefficient goes to its residue modulo p
+pub record IsTowerLift (p n : ℕ) (two_le : 2 ≤ p) (two_le_pow : 2 ≤ p ^ n) (T : LiftTower p n two_le two_le_pow) (k : ResidueTower p n two_le two_le_pow)
+    (F : FieldOn (TowerElement k)) (L : LiftRingOn F p n (TowerElement T)) : Type 0 where
+  pub ring : L.ring ≡ T.second
+  pub down : IsCoefficientwise p n two_le two_le_pow T k L.down
