@@ -1,12 +1,14 @@
 -- The remainders by a monic polynomial over a lift ring are a lift ring of those by its residue; and monic polynomials are lifted.
-use Rattle.std.specs.Prelude.{◌≡◌, ◌≢◌, ℕ, zero, suc, ◌^◌, ◌<◌, ◌≤◌, Bool, length}
+use Rattle.std.specs.Prelude.{◌≡◌, ◌≢◌, ℕ, zero, suc, ◌^◌, ◌<◌, ◌≤◌, Bool, cond, length}
 use Rattle.std.proofs.Common.{refl, sym, ◌∙◌, ap, ap₂, subst, arith, ⊎_elim}
-use Rattle.std.proofs.lemmas.Bool.{cases_lt}
+use Rattle.std.proofs.lemmas.Bool.{cases_lt, cond_both}
 use Rattle.theory_rings.specs.Ring.{CommRingOn, ZeroTest}
 use Rattle.theory_rings.specs.Power.{times}
 use Rattle.theory_rings.specs.Homomorphism.{IsRingHom}
 use Rattle.theory_rings.specs.Polynomial.{Poly, coefficient, constant_coefficients, lead, degree, IsMonic, IsPolynomialRing}
 use Rattle.theory_rings.specs.Remainder.{Remainder, IsRemainderRing}
+use Rattle.theory_rings.proofs.Rings.RingLaws.{add-neg}
+use Rattle.theory_rings.proofs.Rings.ZeroTests.{is_zero-false, eq_of_sub_eq_zero}
 use Rattle.theory_rings.proofs.Powers.Times.{times_char}
 use Rattle.theory_rings.proofs.Polynomials.PolynomialRing.{Poly-path, coefficient_past, polynomial, coefficient-polynomial, coefficient-one}
 use Rattle.theory_rings.proofs.Polynomials.Degrees.{length-degree, lead-ne-zero_of_length, lt_length, degree_eq, coefficient_above}
@@ -167,3 +169,45 @@ degree-pos_of_nontrivial S Z g monic E h = ⊎_elim
     (λ (l : degree g.0 ≤ 0). absurd (h (Remainder-ext S Z g monic E.one E.zero (λ k.
     remainder-past S g monic E.one k (omega arith) ∙ sym (remainder-past S g monic E.zero k (omega arith))))))
     (cases_lt 0 (degree g.0))
+
+-- where q times 1 is 0 in R, it is in each ring of remainders
+pub remainders_times-one : {K : Type 0} (R : CommRingOn K) {is_zero : K → Bool} (Z : ZeroTest R.zero is_zero) (f : Poly R) (monic : IsMonic R f)
+    (q : ℕ) → times R.monoid q R.one ≡ R.zero → (P : CommRingOn (Poly R)) → IsPolynomialRing R P → (E : CommRingOn (Remainder R f)) → IsRemainderRing R f P E
+    → times E.monoid q E.one ≡ E.zero
+remainders_times-one R Z f monic q e =
+    let Q = remainders R Z f monic in
+    for_remainders R Z f monic (λ X. times X.monoid q X.one ≡ X.zero)
+    (Remainder-ext R Z f monic (times Q.monoid q Q.one) Q.zero (λ k. remainder-coefficient-times R Z f monic q Q.one k
+    ∙ times_char R.ring q e (coefficient R Q.one.0 k) ∙ sym (remainder-coefficient-zero R Z f monic k)))
+
+-- over each lift ring of a ring with a test of 0 there are representatives that keep 0 and 1, so that a monic polynomial is lifted
+module _ {K W : Type 0} (S : CommRingOn K) {is_zero' : K → Bool} (Z' : ZeroTest S.zero is_zero') (R : CommRingOn W) {is_zero : W → Bool} (Z : ZeroTest R.zero is_zero)
+    (p n : ℕ) (down : W → K) (L : IsLiftRing S R p n down) (nontrivial : S.one ≢ S.zero) where
+  rep : K → W
+  rep x = cond (is_zero' x) R.zero (cond (is_zero' (S.◌⊕◌ x (S.neg S.one))) R.one (up S R p n down L x))
+
+  down-rep : (x : K) → down (rep x) ≡ x
+  unfolding rep
+  down-rep x = cond_both (is_zero' x) R.zero (cond (is_zero' (S.◌⊕◌ x (S.neg S.one))) R.one (up S R p n down L x)) (λ y. down y ≡ x)
+      (λ e. down-zero S R p n down L ∙ sym (Z'.is_zero-sound x e))
+      (λ _. cond_both (is_zero' (S.◌⊕◌ x (S.neg S.one))) R.one (up S R p n down L x) (λ y. down y ≡ x)
+      (λ e. L.homomorphism.map-one ∙ sym (eq_of_sub_eq_zero S.additive x S.one (Z'.is_zero-sound (S.◌⊕◌ x (S.neg S.one)) e)))
+      (λ _. down-up S R p n down L x))
+
+  rep-one : rep S.one ≡ R.one
+  unfolding rep
+  rep-one = ap (λ b. cond b R.zero (cond (is_zero' (S.◌⊕◌ S.one (S.neg S.one))) R.one (up S R p n down L S.one))) (is_zero-false Z' S.one nontrivial)
+      ∙ ap (λ b. cond b R.one (up S R p n down L S.one)) (ap is_zero' (add-neg S.additive S.one) ∙ Z'.is_zero-zero)
+
+  rep-zero : rep S.zero ≡ R.zero
+  unfolding rep
+  rep-zero = ap (λ b. cond b R.zero (cond (is_zero' (S.◌⊕◌ S.zero (S.neg S.one))) R.one (up S R p n down L S.zero))) Z'.is_zero-zero
+
+  pub section_of_lift : (rep : K → W) × IsSection S R down rep
+  section_of_lift = (rep, record { down-rep = down-rep; rep-zero = rep-zero; rep-one = rep-one })
+
+pub monic_lift : {K W : Type 0} (S : CommRingOn K) {is_zero' : K → Bool} (Z' : ZeroTest S.zero is_zero') (R : CommRingOn W) {is_zero : W → Bool} (Z : ZeroTest R.zero is_zero)
+    (p n : ℕ) (down : W → K) → IsLiftRing S R p n down → (g : Poly S) → IsMonic S g → (f : Poly R) × IsMonic R f × ((k : ℕ) → coefficient S g k ≡ down (coefficient R f k))
+monic_lift S Z' R Z p n down L g monic =
+    let s = section_of_lift S Z' R Z p n down L (one-ne-zero_of_monic S g monic) in
+    (lift_poly S Z' R Z p n down L s.0 s.1 g monic, lift_poly_monic S Z' R Z p n down L s.0 s.1 g monic, lift_poly-reduces S Z' R Z p n down L s.0 s.1 g monic)

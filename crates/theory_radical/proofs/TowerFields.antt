@@ -23,7 +23,9 @@ use Rattle.theory_rings.proofs.FiniteFields.EnumeratedTuples.{tuple, tuple_injec
 use Rattle.theory_rings.proofs.FiniteFields.FiniteFields.{root_by_power}
 use Rattle.theory_radical.specs.LiftRing.{HasRoots}
 use Rattle.theory_radical.specs.Tower.{TowerOver, TowerElement, IsIrreducibleTower}
-use Rattle.theory_radical.proofs.RemainderRings.{Remainder-ext, remainder-past, remainders_eq, small_remainder, small_remainder-coefficient}
+use Rattle.theory_rings.proofs.Polynomials.Remainders.{is_zero_remainder}
+use Rattle.theory_radical.proofs.RemainderRings.{Remainder-ext, remainder-past, remainders_eq, remainders_zero_test, small_remainder, small_remainder-coefficient}
+use Rattle.theory_radical.proofs.RemainderLifts.{one-ne-zero_of_monic, degree-pos_of_nontrivial}
 
 -- a number below p as a field element, where p is prime
 module _ (p : ℕ) (prime : IsPrime p) where
@@ -52,13 +54,15 @@ module _ (p : ℕ) (prime : IsPrime p) where
     inv-mul = λ a n. inverse_by-mul a (cases_lt 0 a.0) n;
   }
 
+-- the numbers below p, numbered by themselves
+module _ (p : ℕ) (two_le : 2 ≤ p) where
   numbers : Enumerated (Fin p)
   numbers = record {
     size = p;
-    member = residue p prime.two_le;
+    member = residue p two_le;
     number = λ a. a.0;
     number-lt = value-lt p;
-    member-number = residue-value p prime.two_le;
+    member-number = residue-value p two_le;
     number-member = λ i l. mod-eq_of_lt l;
   }
 
@@ -142,35 +146,50 @@ module _ (p : ℕ) (prime : IsPrime p) (k : TowerOver (integers_mod p prime.two_
   second_part : FieldPart k.second
   second_part = remainder_part F1 k.second_modulus k.second_monic k.second_polynomials k.second_polynomials_is irreducible.second k.second k.second_is
 
-  abbrev tower_field : FieldOn (TowerElement k)
-  tower_field = field_with k.second second_part
-
   -- a field whose ring is that of the tower
-  pub tower_is_field : (E : FieldOn (TowerElement k)) × (E.cring ≡ k.second)
-  tower_is_field = (tower_field, refl)
+  pub tower_is_field : (F : FieldOn (TowerElement k)) × (F.cring ≡ k.second)
+  tower_is_field = (field_with k.second second_part, refl)
 
-  abbrev E1 : Enumerated (Remainder F0.cring k.first_modulus)
-  E1 = remainder_numbers F0.cring F0.zero_test k.first_modulus k.first_monic (numbers p prime)
+-- a field with the ring of a tower is finite
+module _ (p : ℕ) (two_le : 2 ≤ p) (k : TowerOver (integers_mod p two_le)) (F : FieldOn (TowerElement k)) (same : F.cring ≡ k.second) where
+  abbrev R : CommRingOn (Fin p)
+  R = integers_mod p two_le
+
+  abbrev Z : ZeroTest R.zero (residue_is_zero p two_le)
+  Z = residue_zero_test p two_le
+
+  abbrev Z1 : ZeroTest k.first.zero (is_zero_remainder R Z k.first_modulus k.first_monic)
+  Z1 = remainders_zero_test R Z k.first_modulus k.first_monic k.first_polynomials k.first_polynomials_is k.first k.first_is
+
+  abbrev E1 : Enumerated (Remainder R k.first_modulus)
+  E1 = remainder_numbers R Z k.first_modulus k.first_monic (numbers p two_le)
 
   pub tower_numbers : Enumerated (TowerElement k)
-  tower_numbers = remainder_numbers F1.cring F1.zero_test k.second_modulus k.second_monic E1
+  tower_numbers = remainder_numbers k.first Z1 k.second_modulus k.second_monic E1
 
   -- it has (p^d)^e elements, d and e the degrees of the moduli
   pub size-tower : tower_numbers.size ≡ (p ^ degree k.first_modulus.0) ^ degree k.second_modulus.0
   unfolding tower_numbers
-  size-tower = size-remainder_numbers F1.cring F1.zero_test k.second_modulus k.second_monic E1
-      ∙ ap (λ j. j ^ degree k.second_modulus.0) (size-remainder_numbers F0.cring F0.zero_test k.first_modulus k.first_monic (numbers p prime)
-      ∙ ap (λ j. j ^ degree k.first_modulus.0) (size-numbers p prime))
+  size-tower = size-remainder_numbers k.first Z1 k.second_modulus k.second_monic E1
+      ∙ ap (λ j. j ^ degree k.second_modulus.0) (size-remainder_numbers R Z k.first_modulus k.first_monic (numbers p two_le)
+      ∙ ap (λ j. j ^ degree k.first_modulus.0) (size-numbers p two_le))
+
+  first_degree-pos : 1 ≤ degree k.first_modulus.0
+  first_degree-pos = degree-pos_of_nontrivial R Z k.first_modulus k.first_monic k.first (one-ne-zero_of_monic k.first k.second_modulus k.second_monic)
+
+  second_degree-pos : 1 ≤ degree k.second_modulus.0
+  second_degree-pos = degree-pos_of_nontrivial k.first Z1 k.second_modulus k.second_monic F.cring F.one-nonzero
 
   dvd_size : p ∣ tower_numbers.size
   dvd_size =
       let q = p ^ degree k.first_modulus.0 in
-      let a : p ∣ q = dvd-pow p (degree k.first_modulus.0) irreducible.first.positive in
-      let b : q ∣ q ^ degree k.second_modulus.0 = dvd-pow q (degree k.second_modulus.0) irreducible.second.positive in
+      let a : p ∣ q = dvd-pow p (degree k.first_modulus.0) first_degree-pos in
+      let b : q ∣ q ^ degree k.second_modulus.0 = dvd-pow q (degree k.second_modulus.0) second_degree-pos in
       subst (λ j. p ∣ j) (sym size-tower) (dvd_trans p a b)
 
-  pub tower_roots : HasRoots k.second.ring p
+  -- so each element has a p-th root
+  pub tower_roots : HasRoots F.ring p
   tower_roots = record {
-    root = λ a. power k.second.ring a (tower_numbers.size / p);
-    power-root = λ a. root_by_power tower_field tower_numbers p a dvd_size;
+    root = λ a. power F.ring a (tower_numbers.size / p);
+    power-root = λ a. root_by_power F tower_numbers p a dvd_size;
   }

@@ -3,17 +3,19 @@
 use Rattle.std.specs.Prelude.{◌≡◌, ◌≢◌, ℕ, zero, suc, ◌^◌, ◌<◌, ◌≤◌, Bool}
 use Rattle.std.proofs.Common.{refl, sym, ◌∙◌, ap}
 use Rattle.theory_rings.specs.Ring.{CommRingOn, ZeroTest}
+use Rattle.theory_rings.specs.Power.{times}
 use Rattle.theory_rings.specs.IntegersMod.{Fin, integers_mod, residue, residue_is_zero}
 use Rattle.theory_rings.specs.Polynomial.{Poly, coefficient, IsMonic}
 use Rattle.theory_rings.specs.Remainder.{Remainder, IsRemainderRing}
+use Rattle.theory_rings.proofs.Powers.Times.{times_char}
 use Rattle.theory_rings.proofs.Numbers.IntegersMod.{residue_zero_test, residue-zero, residue-one}
 use Rattle.theory_rings.proofs.Polynomials.PolynomialRing.{polynomials, is_polynomial_ring}
 use Rattle.theory_rings.proofs.Polynomials.Remainders.{remainders, is_remainder_ring, is_zero_remainder, zero_remainder_test}
 use Rattle.theory_radical.specs.LiftRing.{IsLiftRing}
 use Rattle.theory_radical.specs.Tower.{TowerOver, TowerElement, ResidueTower, LiftTower, Reduces, HasSameNumbers, IsCoefficientwise, double_coefficient}
-use Rattle.theory_radical.proofs.IntegerLifts.{reduce, raise_residue, reduce-raise, value-raise, integers_lift}
+use Rattle.theory_radical.proofs.IntegerLifts.{reduce, raise_residue, reduce-raise, value-raise, integers_lift, times-modulus}
 use Rattle.theory_radical.proofs.RemainderRings.{Remainder-ext, Remainder-set, remainders_zero_test}
-use Rattle.theory_radical.proofs.RemainderLifts.{IsSection, one-ne-zero_of_monic, lift_poly, lift_poly-coefficient, lift_poly-reduces, lift_poly_monic, remainder_down, remainder_down-coefficient, remainders_lift, remainder_rep, remainder_rep-coefficient, remainders_section, degree-pos_of_nontrivial}
+use Rattle.theory_radical.proofs.RemainderLifts.{IsSection, one-ne-zero_of_monic, lift_poly, lift_poly-coefficient, lift_poly-reduces, lift_poly_monic, remainder_down, remainder_down-coefficient, remainders_lift, remainder_rep, remainder_rep-coefficient, remainders_section, degree-pos_of_nontrivial, remainders_times-one}
 
 module _ (p n : ℕ) (two_le : 2 ≤ p) (two_le_pow : 2 ≤ p ^ n) where
   abbrev S : CommRingOn (Fin p)
@@ -68,6 +70,13 @@ module _ (p n : ℕ) (two_le : 2 ≤ p) (two_le_pow : 2 ≤ p ^ n) where
     unfolding tower_down
     tower_lift = remainders_lift k.first (first_test' k) T.first (first_test T) p n first_down first_lift T.second_modulus T.second_monic k.second_modulus k.second_monic second_reduces
         k.second_polynomials k.second_polynomials_is k.second k.second_is T.second_polynomials T.second_polynomials_is T.second T.second_is
+
+  -- in which p^n is 0
+  pub tower_times-modulus : (T : LiftTower p n two_le two_le_pow) (y : TowerElement T) → times T.second.monoid (p ^ n) y ≡ T.second.zero
+  tower_times-modulus T y = times_char T.second.ring (p ^ n)
+      (remainders_times-one T.first (first_test T) T.second_modulus T.second_monic (p ^ n)
+      (remainders_times-one R Z T.first_modulus T.first_monic (p ^ n) (times-modulus p n two_le two_le_pow R.one) T.first_polynomials T.first_polynomials_is T.first T.first_is)
+      T.second_polynomials T.second_polynomials_is T.second T.second_is) y
 
   pub tower_set : (T : LiftTower p n two_le two_le_pow) → IsSet (TowerElement T)
   tower_set T = Remainder-set T.first (first_test T) T.second_modulus T.second_monic

@@ -6,3 +6,4 @@ pub mod Chain
 pub mod Functional
 pub mod ChainLaws
 pub mod Tower
+pub mod LiftLaws
