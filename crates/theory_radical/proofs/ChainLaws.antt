@@ -14,7 +14,7 @@ use Rattle.theory_radical.specs.Ideal.{IsNilpotentIdeal}
 use Rattle.theory_radical.specs.LiftRing.{IsLiftRing, LiftRingOn, HasRoots}
 use Rattle.theory_radical.specs.Chain.{mat_power, IsLift, trace_power, Chain}
 use Rattle.theory_radical.specs.ChainLaws.{TracesOfMatrixPowers, IndependentOfLift, AdditiveOnChain, MayStop, EndsInRadical, NextIsKernel, IsRadicalChain}
-use Rattle.theory_radical.specs.Tower.{TowerElement, ResidueTower, LiftTower, Reduces, IsTowerLift}
+use Rattle.theory_radical.specs.Tower.{TowerElement, TowerMod, Reduces, IsTowerLift}
 use Rattle.theory_radical.proofs.Multiples.{multiple-add, multiple_of_pow_le, congruent_trans, mul-multiple, congruent-mul, congruent_refl}
 use Rattle.theory_radical.proofs.PowersOfSums.{trace-power_congr}
 use Rattle.theory_radical.proofs.LiftedMatrices.{mat_trace_is, trace-power, congruent_matrices}
@@ -100,7 +100,7 @@ module _ {K W V : Type 0} {F : FieldOn K} {p n : ℕ} (prime : IsPrime p) (L : L
   }
 
 -- the lift ring of a tower, of a field with the ring of the other
-module _ (p n : ℕ) (two_le : 2 ≤ p) (two_le_pow : 2 ≤ p ^ n) (T : LiftTower p n two_le two_le_pow) (k : ResidueTower p n two_le two_le_pow)
+module _ (p n : ℕ) (two_le : 2 ≤ p) (two_le_pow : 2 ≤ p ^ n) (T : TowerMod (p ^ n) two_le_pow) (k : TowerMod p two_le)
     (reduces : Reduces p n two_le two_le_pow T k) (F : FieldOn (TowerElement k)) (same : F.cring ≡ k.second) where
   pub tower_lift_ring : LiftRingOn F p n (TowerElement T)
   tower_lift_ring = record {

@@ -16,7 +16,7 @@ use Rattle.theory_radical.proofs.Words.{turn, turns, head_of, tail_of, repeat, s
 use Rattle.theory_radical.proofs.FirstTurns.{is_first}
 use Rattle.theory_radical.proofs.WordSums.{sum_words, sum_words_congr, only, map-sum_words, letters, letters-append, letters-repeat, add-power_words}
 use Rattle.theory_radical.proofs.Orbits.{rest, sum_words_prime}
-use Rattle.theory_radical.proofs.Multiples.{multiple-zero, multiple-add, multiple-pow_times, multiple_of_pow_le}
+use Rattle.theory_radical.proofs.Multiples.{multiple-zero, multiple-add, multiple-pow_times, multiple_of_pow_le, congruent_of_eq, congruent_trans, congruent-add, congruent_zero}
 
 -- the power of a product, turned round
 pub power-mul_suc : {K : Type 0} (R : RingOn K) (a b : K) (m : ℕ) → power R (R.◌⊗◌ b a) (suc m) ≡ R.◌⊗◌ b (R.◌⊗◌ (power R (R.◌⊗◌ a b) m) a)
@@ -77,19 +77,17 @@ module _ {K V : Type 0} (R : RingOn K) (G : AddCommGroupOn V) (t : K → V) (tra
           let h : sum_words monoid (p ^ 0) (value s) ≡ ends = ap (λ k. sum_words monoid k (value s)) (pow-zero p)
           ∙ ap₂ (λ x y. x ⊕ y) (ap (λ y. t (power R y (p ^ s))) (R.mul-one a) ∙ ap (λ k. t (power R a (p ^ k))) q)
           (ap (λ y. t (power R y (p ^ s))) (R.mul-one b) ∙ ap (λ k. t (power R b (p ^ k))) q) in
-          record { part = G.zero; is = h ∙ sym (ap (λ z. ends ⊕ z) (times-zero monoid d) ∙ add-zero monoid ends) }
+          congruent_of_eq monoid d (sum_words monoid (p ^ 0) (value s)) ends h
       sum_value (suc i) s e =
-          let h = sum_value i (suc s) (omega arith) in
-          let r = rest_small i s (omega arith) in
+          let front = sum_words monoid (p ^ i) (value (suc s)) in
           let u = times monoid (p ^ suc i) (sum_words monoid (p ^ suc i) (rest monoid p prime i (value s))) in
           let ends = t (power R a (p ^ N)) ⊕ t (power R b (p ^ N)) in
-          let m = multiple-add monoid d (times monoid d h.part) u (record { part = h.part; is = refl }) r in
-          record {
-            part = m.part;
-            is = sum_words_prime monoid p prime i (value s) (value-turn s)
-                ∙ ap (λ x. x ⊕ u) (sum_words_congr monoid (p ^ i) (λ w. value s (repeat p w)) (value (suc s)) (λ w l. value-repeat s w) ∙ h.is)
-                ∙ G.add_assoc ends (times monoid d h.part) u ∙ ap (λ x. ends ⊕ x) m.is;
-          }
+          congruent_trans monoid d (sum_words monoid (p ^ suc i) (value s)) (front ⊕ u) ends
+          (congruent_of_eq monoid d (sum_words monoid (p ^ suc i) (value s)) (front ⊕ u)
+          (sum_words_prime monoid p prime i (value s) (value-turn s)
+          ∙ ap (λ x. x ⊕ u) (sum_words_congr monoid (p ^ i) (λ w. value s (repeat p w)) (value (suc s)) (λ w l. value-repeat s w))))
+          (subst (CongruentMod monoid d (front ⊕ u)) (add-zero monoid ends)
+          (congruent-add monoid d front ends u G.zero (sum_value i (suc s) (omega arith)) (congruent_zero monoid d u (rest_small i s (omega arith)))))
 
       -- the trace of the power of the sum is the sum of the traces of the powers
       pub trace-power_add : CongruentMod monoid d (t (power R (R.◌⊕◌ a b) (p ^ N))) (t (power R a (p ^ N)) ⊕ t (power R b (p ^ N)))

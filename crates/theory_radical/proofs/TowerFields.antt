@@ -22,7 +22,7 @@ use Rattle.theory_rings.proofs.Polynomials.Irreducible.{remainder_field}
 use Rattle.theory_rings.proofs.FiniteFields.EnumeratedTuples.{tuple, tuple_injective, number_of_tuple, number_of_tuple_lt, tuple-number_of_tuple}
 use Rattle.theory_rings.proofs.FiniteFields.FiniteFields.{root_by_power}
 use Rattle.theory_radical.specs.LiftRing.{HasRoots}
-use Rattle.theory_radical.specs.Tower.{TowerOver, TowerElement, IsIrreducibleTower}
+use Rattle.theory_radical.specs.Tower.{TowerElement, TowerMod, IsIrreducibleTower}
 use Rattle.theory_rings.proofs.Polynomials.Remainders.{is_zero_remainder}
 use Rattle.theory_radical.proofs.RemainderRings.{Remainder-ext, remainder-past, remainders_eq, remainders_zero_test, small_remainder, small_remainder-coefficient}
 use Rattle.theory_radical.proofs.RemainderLifts.{one-ne-zero_of_monic, degree-pos_of_nontrivial}
@@ -133,7 +133,7 @@ dvd-pow : (a k : ℕ) → 1 ≤ k → a ∣ a ^ k
 dvd-pow a zero h = absurd (omega arith)
 dvd-pow a (suc k) h = subst (λ j. a ∣ j) (sym (pow-succ' a k)) (dvd-mul_right a (a ^ k))
 
-module _ (p : ℕ) (prime : IsPrime p) (k : TowerOver (integers_mod p prime.two_le)) (irreducible : IsIrreducibleTower k) where
+module _ (p : ℕ) (prime : IsPrime p) (k : TowerMod p prime.two_le) (irreducible : IsIrreducibleTower k) where
   abbrev F0 : FieldOn (Fin p)
   F0 = prime_field p prime
 
@@ -151,7 +151,7 @@ module _ (p : ℕ) (prime : IsPrime p) (k : TowerOver (integers_mod p prime.two_
   tower_is_field = (field_with k.second second_part, refl)
 
 -- a field with the ring of a tower is finite
-module _ (p : ℕ) (two_le : 2 ≤ p) (k : TowerOver (integers_mod p two_le)) (F : FieldOn (TowerElement k)) (same : F.cring ≡ k.second) where
+module _ (p : ℕ) (two_le : 2 ≤ p) (k : TowerMod p two_le) (F : FieldOn (TowerElement k)) (same : F.cring ≡ k.second) where
   abbrev R : CommRingOn (Fin p)
   R = integers_mod p two_le
 

@@ -12,7 +12,7 @@ use Rattle.theory_rings.proofs.Numbers.IntegersMod.{residue_zero_test, residue-z
 use Rattle.theory_rings.proofs.Polynomials.PolynomialRing.{polynomials, is_polynomial_ring}
 use Rattle.theory_rings.proofs.Polynomials.Remainders.{remainders, is_remainder_ring, is_zero_remainder, zero_remainder_test}
 use Rattle.theory_radical.specs.LiftRing.{IsLiftRing}
-use Rattle.theory_radical.specs.Tower.{TowerOver, TowerElement, ResidueTower, LiftTower, Reduces, HasSameNumbers, IsCoefficientwise, double_coefficient}
+use Rattle.theory_radical.specs.Tower.{TowerElement, TowerMod, Reduces, HasSameNumbers, IsCoefficientwise, double_coefficient}
 use Rattle.theory_radical.proofs.IntegerLifts.{reduce, raise_residue, reduce-raise, value-raise, integers_lift, times-modulus}
 use Rattle.theory_radical.proofs.RemainderRings.{Remainder-ext, Remainder-set, remainders_zero_test}
 use Rattle.theory_radical.proofs.RemainderLifts.{IsSection, one-ne-zero_of_monic, lift_poly, lift_poly-coefficient, lift_poly-reduces, lift_poly_monic, remainder_down, remainder_down-coefficient, remainders_lift, remainder_rep, remainder_rep-coefficient, remainders_section, degree-pos_of_nontrivial, remainders_times-one}
@@ -34,13 +34,13 @@ module _ (p n : ℕ) (two_le : 2 ≤ p) (two_le_pow : 2 ≤ p ^ n) where
   L = integers_lift p n two_le two_le_pow
 
   -- a test of 0 in the first ring of a tower
-  abbrev pub first_test' : (k : ResidueTower p n two_le two_le_pow) → ZeroTest k.first.zero (is_zero_remainder S Z' k.first_modulus k.first_monic)
+  abbrev pub first_test' : (k : TowerMod p two_le) → ZeroTest k.first.zero (is_zero_remainder S Z' k.first_modulus k.first_monic)
   first_test' k = remainders_zero_test S Z' k.first_modulus k.first_monic k.first_polynomials k.first_polynomials_is k.first k.first_is
 
-  abbrev pub first_test : (T : LiftTower p n two_le two_le_pow) → ZeroTest T.first.zero (is_zero_remainder R Z T.first_modulus T.first_monic)
+  abbrev pub first_test : (T : TowerMod (p ^ n) two_le_pow) → ZeroTest T.first.zero (is_zero_remainder R Z T.first_modulus T.first_monic)
   first_test T = remainders_zero_test R Z T.first_modulus T.first_monic T.first_polynomials T.first_polynomials_is T.first T.first_is
 
-  module _ (T : LiftTower p n two_le two_le_pow) (k : ResidueTower p n two_le two_le_pow) (reduces : Reduces p n two_le two_le_pow T k) where
+  module _ (T : TowerMod (p ^ n) two_le_pow) (k : TowerMod p two_le) (reduces : Reduces p n two_le two_le_pow T k) where
     abbrev first_down : Remainder R T.first_modulus → Remainder S k.first_modulus
     first_down = remainder_down S Z' R Z p n (reduce p n two_le two_le_pow) L T.first_modulus T.first_monic k.first_modulus k.first_monic reduces.first
 
@@ -72,17 +72,17 @@ module _ (p n : ℕ) (two_le : 2 ≤ p) (two_le_pow : 2 ≤ p ^ n) where
         k.second_polynomials k.second_polynomials_is k.second k.second_is T.second_polynomials T.second_polynomials_is T.second T.second_is
 
   -- in which p^n is 0
-  pub tower_times-modulus : (T : LiftTower p n two_le two_le_pow) (y : TowerElement T) → times T.second.monoid (p ^ n) y ≡ T.second.zero
+  pub tower_times-modulus : (T : TowerMod (p ^ n) two_le_pow) (y : TowerElement T) → times T.second.monoid (p ^ n) y ≡ T.second.zero
   tower_times-modulus T y = times_char T.second.ring (p ^ n)
       (remainders_times-one T.first (first_test T) T.second_modulus T.second_monic (p ^ n)
       (remainders_times-one R Z T.first_modulus T.first_monic (p ^ n) (times-modulus p n two_le two_le_pow R.one) T.first_polynomials T.first_polynomials_is T.first T.first_is)
       T.second_polynomials T.second_polynomials_is T.second T.second_is) y
 
-  pub tower_set : (T : LiftTower p n two_le two_le_pow) → IsSet (TowerElement T)
+  pub tower_set : (T : TowerMod (p ^ n) two_le_pow) → IsSet (TowerElement T)
   tower_set T = Remainder-set T.first (first_test T) T.second_modulus T.second_monic
 
   -- the lift of a tower
-  module _ (k : ResidueTower p n two_le two_le_pow) where
+  module _ (k : TowerMod p two_le) where
     section : IsSection S R (reduce p n two_le two_le_pow) (raise_residue p n two_le two_le_pow)
     section = record {
       down-rep = reduce-raise p n two_le two_le_pow;
@@ -136,7 +136,7 @@ module _ (p n : ℕ) (two_le : 2 ≤ p) (two_le_pow : 2 ≤ p ^ n) where
     g-coefficient : (u : ℕ) → coefficient Q g u ≡ Q_rep (coefficient k.first k.second_modulus u)
     g-coefficient = lift_poly-coefficient k.first (first_test' k) Q Q_test p n Q_down Q_lift Q_rep Q_section k.second_modulus k.second_monic
 
-    pub lifted_tower : LiftTower p n two_le two_le_pow
+    pub lifted_tower : TowerMod (p ^ n) two_le_pow
     lifted_tower = record {
       first_polynomials = P;
       first_polynomials_is = is_polynomial_ring R Z;

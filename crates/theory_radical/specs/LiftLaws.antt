@@ -9,7 +9,7 @@ use Rattle.theory_rings.specs.Polynomial.{Poly, coefficient, degree, IsMonic, Is
 use Rattle.theory_rings.specs.Remainder.{Remainder, IsRemainderRing}
 use Rattle.theory_radical.specs.Congruence.{MultipleOf}
 use Rattle.theory_radical.specs.LiftRing.{IsLiftRing, HasRoots}
-use Rattle.theory_radical.specs.Tower.{TowerOver, TowerElement, IsIrreducibleTower, ResidueTower, LiftTower, Reduces, HasSameNumbers, IsCoefficientwise}
+use Rattle.theory_radical.specs.Tower.{TowerElement, IsIrreducibleTower, TowerMod, Reduces, HasSameNumbers, IsCoefficientwise}
 
 -- the integers modulo p^n, of those modulo p
 abbrev pub IntegersAreLiftRings : Type 0
@@ -37,22 +37,22 @@ module _ {K W : Type 0} (S : CommRingOn K) (R : CommRingOn W) where
 
 -- the ring of T is a lift ring of that of k, where its moduli reduce to those of k, and p^n is 0 in it
 abbrev pub TowersAreLiftRings : Type 0
-TowersAreLiftRings = (p n : ℕ) (two_le : 2 ≤ p) (two_le_pow : 2 ≤ p ^ n) (T : LiftTower p n two_le two_le_pow) (k : ResidueTower p n two_le two_le_pow)
+TowersAreLiftRings = (p n : ℕ) (two_le : 2 ≤ p) (two_le_pow : 2 ≤ p ^ n) (T : TowerMod (p ^ n) two_le_pow) (k : TowerMod p two_le)
     → Reduces p n two_le two_le_pow T k
     → (down : TowerElement T → TowerElement k) × IsCoefficientwise p n two_le two_le_pow T k down × IsLiftRing k.second T.second p n down
     × ((y : TowerElement T) → times T.second.monoid (p ^ n) y ≡ T.second.zero)
 
 -- each k has such a T, by the numbers below p that are its coefficients
 abbrev pub TowersHaveLifts : Type 0
-TowersHaveLifts = (p n : ℕ) (two_le : 2 ≤ p) (two_le_pow : 2 ≤ p ^ n) (k : ResidueTower p n two_le two_le_pow)
-    → (T : LiftTower p n two_le two_le_pow) × Reduces p n two_le two_le_pow T k × HasSameNumbers p n two_le two_le_pow T k
+TowersHaveLifts = (p n : ℕ) (two_le : 2 ≤ p) (two_le_pow : 2 ≤ p ^ n) (k : TowerMod p two_le)
+    → (T : TowerMod (p ^ n) two_le_pow) × Reduces p n two_le two_le_pow T k × HasSameNumbers p n two_le two_le_pow T k
 
 -- where the moduli are irreducible, the ring of k is a field
 abbrev pub IrreducibleTowersAreFields : Type 0
-IrreducibleTowersAreFields = (p : ℕ) (prime : IsPrime p) (k : TowerOver (integers_mod p prime.two_le)) → IsIrreducibleTower k
+IrreducibleTowersAreFields = (p : ℕ) (prime : IsPrime p) (k : TowerMod p prime.two_le) → IsIrreducibleTower k
     → (F : FieldOn (TowerElement k)) × (F.cring ≡ k.second)
 
 -- a field with the ring of k is finite, and has p-th roots
 abbrev pub TowerFieldsHaveRoots : Type 0
-TowerFieldsHaveRoots = (p : ℕ) (two_le : 2 ≤ p) (k : TowerOver (integers_mod p two_le)) (F : FieldOn (TowerElement k)) → F.cring ≡ k.second
+TowerFieldsHaveRoots = (p : ℕ) (two_le : 2 ≤ p) (k : TowerMod p two_le) (F : FieldOn (TowerElement k)) → F.cring ≡ k.second
     → HasRoots F.ring p × ((E : Enumerated (TowerElement k)) × (E.size ≡ (p ^ degree k.first_modulus.0) ^ degree k.second_modulus.0))
