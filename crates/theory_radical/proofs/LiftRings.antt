@@ -10,13 +10,15 @@ use Rattle.theory_rings.specs.Ring.{CommRingOn}
 use Rattle.theory_rings.specs.Power.{times}
 use Rattle.theory_rings.specs.Prime.{IsPrime}
 use Rattle.theory_rings.proofs.Rings.RingLaws.{add-zero, add-neg}
-use Rattle.theory_rings.proofs.Rings.Homomorphisms.{map-zero, map-neg}
+use Rattle.theory_rings.specs.Homomorphism.{IsRingHom}
+use Rattle.theory_rings.proofs.Rings.Homomorphisms.{map-zero, map-neg, comp_hom}
 use Rattle.theory_rings.proofs.Powers.Times.{one-times, add-times, mul-times, map-times, times_char}
 use Rattle.theory_rings.proofs.Numbers.ClosedSets.{IsClosed}
 use Rattle.theory_rings.proofs.Numbers.Divisibility.{dvd_or_not}
 use Rattle.theory_rings.proofs.Numbers.Primes.{IsPrime-one_mem}
 use Rattle.theory_radical.specs.Congruence.{MultipleOf, CongruentMod}
 use Rattle.theory_radical.specs.LiftRing.{IsLiftRing}
+use Rattle.theory_radical.specs.LiftLaws.{IsBijective, IsomorphicLiftRings}
 use Rattle.theory_radical.proofs.Multiples.{multiple_of_pow_le}
 
 module _ {K W : Type 0} (S : CommRingOn K) (R : CommRingOn W) (p n : ℕ) (down : W → K) (L : IsLiftRing S R p n down) where
@@ -78,3 +80,34 @@ module _ {K W : Type 0} (S : CommRingOn K) (R : CommRingOn W) (p n : ℕ) (down 
     times-one_exact r l h = ⊎_elim
         (λ (g : 0 < r). let d = le_of_dvd g (pow_dvd r h n (omega arith)) in absurd (omega arith))
         (λ (g : r ≤ 0). omega arith) (cases_lt 0 r)
+
+-- lift rings by isomorphisms
+module _ {K W K' W' : Type 0} (S : CommRingOn K) (R : CommRingOn W) (S' : CommRingOn K') (R' : CommRingOn W') where
+  -- a multiple in an isomorphic ring
+  multiple_of_iso : (g : W' → W) → IsRingHom R'.ring R.ring g → IsBijective g → (q : ℕ) (y : W') → MultipleOf R.monoid q (g y) → MultipleOf R'.monoid q y
+  multiple_of_iso g G bi q y h =
+      let z = bi.surjective h.part in
+      record {
+        part = z.0;
+        is = bi.injective y (times R'.monoid q z.0) (h.is ∙ ap (times R.monoid q) (sym z.1)
+            ∙ sym (map-times R'.monoid R.monoid g (map-zero R'.ring R.ring g G) G.map-add q z.0));
+      }
+
+  map_multiple : (g : W' → W) → IsRingHom R'.ring R.ring g → (q : ℕ) (y : W') → MultipleOf R'.monoid q y → MultipleOf R.monoid q (g y)
+  map_multiple g G q y h = record { part = g h.part; is = ap g h.is ∙ map-times R'.monoid R.monoid g (map-zero R'.ring R.ring g G) G.map-add q h.part }
+
+  pub isomorphic_lift_rings : IsomorphicLiftRings S R S' R'
+  isomorphic_lift_rings p n down L h H bh g G bg = record {
+    homomorphism = comp_hom R'.ring R.ring S'.ring g (λ y. h (down y)) G (comp_hom R.ring S.ring S'.ring down h L.homomorphism H);
+    onto = λ x.
+        let a = bh.surjective x in
+        let b = L.onto a.0 in
+        let c = bg.surjective b.0 in
+        (c.0, ap (λ y. h (down y)) c.1 ∙ ap h b.1 ∙ a.1);
+    kernel = λ y e. multiple_of_iso g G bg p y (L.kernel (g y) (bh.injective (down (g y)) S.zero (e ∙ sym (map-zero S.ring S'.ring h H))));
+    characteristic = ap (times S'.monoid p) (sym H.map-one) ∙ sym (map-times S.monoid S'.monoid h (map-zero S.ring S'.ring h H) H.map-add p S.one)
+        ∙ ap h L.characteristic ∙ map-zero S.ring S'.ring h H;
+    cancels = λ i l y m. multiple_of_iso g G bg p y (L.cancels i l (g y)
+        (subst (MultipleOf R.monoid (p ^ suc i)) (map-times R'.monoid R.monoid g (map-zero R'.ring R.ring g G) G.map-add (p ^ i) y)
+        (map_multiple g G (p ^ suc i) (times R'.monoid (p ^ i) y) m)));
+  }

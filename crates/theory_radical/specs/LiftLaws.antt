@@ -4,12 +4,18 @@ use Rattle.theory_rings.specs.Ring.{CommRingOn, FieldOn}
 use Rattle.theory_rings.specs.Power.{times}
 use Rattle.theory_rings.specs.Prime.{IsPrime}
 use Rattle.theory_rings.specs.Enumerated.{Enumerated}
+use Rattle.theory_rings.specs.Homomorphism.{IsRingHom}
 use Rattle.theory_rings.specs.IntegersMod.{integers_mod, residue}
 use Rattle.theory_rings.specs.Polynomial.{Poly, coefficient, degree, IsMonic, IsPolynomialRing}
 use Rattle.theory_rings.specs.Remainder.{Remainder, IsRemainderRing}
 use Rattle.theory_radical.specs.Congruence.{MultipleOf}
 use Rattle.theory_radical.specs.LiftRing.{IsLiftRing, HasRoots}
 use Rattle.theory_radical.specs.Tower.{TowerElement, IsIrreducibleTower, TowerMod, Reduces, HasSameNumbers, IsCoefficientwise}
+
+-- one to one and onto
+pub record IsBijective {X Y : Type 0} (f : X → Y) : Type 0 where
+  pub injective : (a b : X) → f a ≡ f b → a ≡ b
+  pub surjective : (y : Y) → (x : X) × (f x ≡ y)
 
 -- the integers modulo p^n, of those modulo p
 abbrev pub IntegersAreLiftRings : Type 0
@@ -34,6 +40,12 @@ module _ {K W : Type 0} (S : CommRingOn K) (R : CommRingOn W) where
   abbrev pub OneHasFullOrder : Type 0
   OneHasFullOrder = (p n : ℕ) (down : W → K) → IsLiftRing S R p n down → IsPrime p → (S.one ≡ S.zero → ⊥)
       → (r : ℕ) → r < p ^ n → MultipleOf R.monoid (p ^ n) (times R.monoid r R.one) → r ≡ 0
+
+-- rings that are isomorphic to R and S, by g and h
+abbrev pub IsomorphicLiftRings : {K W K' W' : Type 0} → CommRingOn K → CommRingOn W → CommRingOn K' → CommRingOn W' → Type 0
+IsomorphicLiftRings {K} {W} {K'} {W'} S R S' R' = (p n : ℕ) (down : W → K) → IsLiftRing S R p n down
+    → (h : K → K') → IsRingHom S.ring S'.ring h → IsBijective h → (g : W' → W) → IsRingHom R'.ring R.ring g → IsBijective g
+    → IsLiftRing S' R' p n (λ y. h (down (g y)))
 
 -- the ring of T is a lift ring of that of k, where its moduli reduce to those of k, and p^n is 0 in it
 abbrev pub TowersAreLiftRings : Type 0

@@ -8,7 +8,7 @@ ghost use Rattle.theory_radical.specs.LiftRing.{LiftRingOn, HasRoots};
 ghost use Rattle.theory_radical.specs.Functional.{NextFunctional};
 ghost use Rattle.theory_radical.specs.ChainLaws.{IsRadicalChain};
 ghost use Rattle.theory_radical.specs.Tower.{TowerElement, TowerMod, Reduces, IsTowerLift};
-ghost use Rattle.theory_radical.specs.LiftLaws.{IntegersAreLiftRings, RemaindersAreLiftRings, HasMonicLifts, OneHasFullOrder, TowersAreLiftRings, TowersHaveLifts, IrreducibleTowersAreFields, TowerFieldsHaveRoots};
+ghost use Rattle.theory_radical.specs.LiftLaws.{IntegersAreLiftRings, IsomorphicLiftRings, RemaindersAreLiftRings, HasMonicLifts, OneHasFullOrder, TowersAreLiftRings, TowersHaveLifts, IrreducibleTowersAreFields, TowerFieldsHaveRoots};
 
 use theory_rings::structures::CommutativeRing;
 
@@ -23,6 +23,16 @@ pub fn remainders_are_lift_rings<S: CommutativeRing, R: CommutativeRing>()
     ensures remainders { RemaindersAreLiftRings S.ring R.ring }
     ensures lifts { HasMonicLifts S.ring R.ring }
     ensures order { OneHasFullOrder S.ring R.ring }
+{}
+
+/// What is isomorphic to a lift ring is one of each ring that is isomorphic to the first.
+pub fn isomorphic_lift_rings<
+    S: CommutativeRing,
+    R: CommutativeRing,
+    T: CommutativeRing,
+    U: CommutativeRing,
+>()
+    ensures { IsomorphicLiftRings S.ring R.ring T.ring U.ring }
 {}
 
 /// The ring (Z/p^n)[t]/(f)[x]/(g) is a lift ring of its residue (Z/p)[t]/(f)[x]/(g), and each of the latter has such a lift ring.
