@@ -1,9 +1,9 @@
 -- The chain of an algebra by all lifts is that by one lift, so that its members are two-sided ideals and its traces do not depend
 -- on the lift. On each member the next trace is additive.
-use Rattle.std.specs.Prelude.{◌≡◌, ℕ, zero, suc, ◌^◌, ◌<◌, ◌≤◌}
-use Rattle.std.proofs.Common.{refl, sym, ◌∙◌, ap, ap₂, subst, arith}
+use Rattle.std.specs.Prelude.{◌≡◌, ℕ, zero, suc, ◌^◌}
+use Rattle.std.proofs.Common.{sym, ◌∙◌, ap, ap₂, subst}
 use Rattle.theory_rings.specs.Ring.{RingOn, FieldOn}
-use Rattle.theory_rings.specs.Power.{power, times}
+use Rattle.theory_rings.specs.Power.{power}
 use Rattle.theory_rings.specs.Prime.{IsPrime}
 use Rattle.theory_rings.proofs.Rings.RingLaws.{zero-mul, additive-zero}
 use Rattle.theory_rings.proofs.Rings.Fields.{field_set}
@@ -11,8 +11,8 @@ use Rattle.theory_rings.proofs.Sums.Sums.{mul-sum}
 use Rattle.theory_rings.proofs.Powers.Powers.{power-zero}
 use Rattle.theory_spaces.specs.Module.{AlgebraOn, module_of}
 use Rattle.theory_spaces.specs.Linear.{Basis}
-use Rattle.theory_spaces.specs.Matrix.{Matrix, mat_trace, Mat}
-use Rattle.theory_spaces.proofs.Matrices.{mat, mat-entry, matrices}
+use Rattle.theory_spaces.specs.Matrix.{Matrix, Mat}
+use Rattle.theory_spaces.proofs.Matrices.{mat, mat-entry}
 use Rattle.theory_spaces.proofs.MatrixAlgebra.{matrix_algebra}
 use Rattle.theory_radical.specs.Congruence.{MultipleOf, CongruentMod}
 use Rattle.theory_radical.specs.Trace.{IsTrace}
@@ -20,7 +20,7 @@ use Rattle.theory_radical.specs.Ideal.{IsIdeal}
 use Rattle.theory_radical.specs.LiftRing.{LiftRingOn}
 use Rattle.theory_radical.specs.Chain.{IsLift, trace_power, Vanishes, Chain}
 use Rattle.theory_radical.proofs.Orbits.{pow_pos}
-use Rattle.theory_radical.proofs.Multiples.{multiple_of_congruent, multiple-zero, congruent_of_eq, congruent_sym, congruent_trans, congruent-add}
+use Rattle.theory_radical.proofs.Multiples.{multiple_of_congruent, multiple-zero, congruent_sym, congruent_trans, congruent-add}
 use Rattle.theory_radical.proofs.PowersOfSums.{trace-power_congr}
 use Rattle.theory_radical.proofs.RingChains.{IsLiftMap, value, ValueVanishes, Member, value_congr, value-add, value_multiple, Member-add, Member-left, Member-right}
 use Rattle.theory_radical.proofs.LiftedMatrices.{MW, MF, tr, mat_trace_is, trace-power, congruent_of_residues, raise, down-raise, raise_is_lift}

@@ -1,6 +1,6 @@
 -- The chain of an algebra of dimension m holds each nilpotent ideal, and where m is below p^n its member n is one.
 use Rattle.std.specs.Prelude.{◌≡◌, ℕ, zero, suc, ◌-◌, ◌^◌, ◌<◌, ◌≤◌}
-use Rattle.std.proofs.Common.{refl, sym, ◌∙◌, ap, subst, arith, inl, inr, ⊎_elim}
+use Rattle.std.proofs.Common.{sym, ◌∙◌, ap, subst, arith, inl, inr, ⊎_elim}
 use Rattle.std.proofs.lemmas.Bool.{cases_lt}
 use Rattle.std.proofs.Math.Nat.{pow-zero}
 use Rattle.theory_rings.specs.Ring.{RingOn, FieldOn}
@@ -12,10 +12,10 @@ use Rattle.theory_spaces.specs.Module.{AlgebraOn, module_of}
 use Rattle.theory_spaces.specs.Linear.{comb, InSpan, Basis}
 use Rattle.theory_spaces.specs.Matrix.{delta, Mat}
 use Rattle.theory_spaces.specs.Algebra.{IsNilpotent}
-use Rattle.theory_spaces.proofs.Matrices.{clip, clip-in, clip_within, matrices, mat-entry}
+use Rattle.theory_spaces.proofs.Matrices.{clip-in, clip_within}
 use Rattle.theory_spaces.proofs.Spaces.{coords_of}
 use Rattle.theory_radical.specs.Congruence.{MultipleOf, CongruentMod}
-use Rattle.theory_radical.specs.Ideal.{IsIdeal, ProductsVanish, IsNilpotentIdeal, IsLargestNilpotentIdeal}
+use Rattle.theory_radical.specs.Ideal.{ProductsVanish, IsNilpotentIdeal, IsLargestNilpotentIdeal}
 use Rattle.theory_radical.specs.LiftRing.{LiftRingOn}
 use Rattle.theory_radical.specs.Chain.{Chain}
 use Rattle.theory_radical.proofs.Orbits.{pow_pos}
@@ -23,13 +23,13 @@ use Rattle.theory_radical.proofs.Multiples.{multiple_of_congruent, congruent_sym
 use Rattle.theory_radical.proofs.PowersOfSums.{trace-power_congr}
 use Rattle.theory_radical.proofs.RingChains.{value, value_turned, Member-vanishes}
 use Rattle.theory_radical.proofs.MatrixCorners.{corner, corner-mul, corner-trace}
-use Rattle.theory_radical.proofs.Cores.{power-idempotent, nilpotent_turned, idempotent_turned, FromCorner}
+use Rattle.theory_radical.proofs.Cores.{power-idempotent, nilpotent_turned, idempotent_turned}
 use Rattle.theory_radical.proofs.Fitting.{fitting}
 use Rattle.theory_radical.proofs.NilIdeals.{nil_ideal_products_vanish, nilpotent_of_ideal}
 use Rattle.theory_radical.proofs.LiftRings.{times-one_exact, down-zero}
 use Rattle.theory_radical.proofs.LiftedMatrices.{MW, MF, tr, mat_trace_is, congruent_of_residues, raise, down-raise, raise_is_lift, down-delta}
 use Rattle.theory_radical.proofs.RegularMatrices.{regular, regular-mul, regular-zero, regular-power, regular_faithful}
-use Rattle.theory_radical.proofs.AlgebraChain.{lift, lift_is, tr_is, val, ValVanishes, In, in_chain, chain_in, in_ideal, chain_ideal, value_of_zero}
+use Rattle.theory_radical.proofs.AlgebraChain.{lift, lift_is, tr_is, ValVanishes, In, in_chain, chain_in, in_ideal, chain_ideal, value_of_zero}
 
 -- the value of the unit of a corner
 module _ {K W : Type 0} {F : FieldOn K} {p n : ℕ} (prime : IsPrime p) (L : LiftRingOn F p n W) (m r : ℕ) (l : r ≤ m) where

@@ -1,21 +1,19 @@
 -- What the traces of powers of lifts and the chain do, together; and the same over a ring (Z/p^n)[t]/(f)[x]/(g).
-use Rattle.std.specs.Prelude.{◌≡◌, ℕ, suc, ◌^◌, ◌<◌, ◌≤◌}
-use Rattle.std.proofs.Common.{refl, sym, ◌∙◌, ap, ap₂, subst, arith}
-use Rattle.theory_rings.specs.Ring.{RingOn, CommRingOn, FieldOn}
+use Rattle.std.specs.Prelude.{◌≡◌, ℕ, suc, ◌^◌, ◌≤◌}
+use Rattle.std.proofs.Common.{refl, sym, ◌∙◌, ap, subst, arith}
+use Rattle.theory_rings.specs.Ring.{CommRingOn, FieldOn}
 use Rattle.theory_rings.specs.Power.{power, times}
 use Rattle.theory_rings.specs.Prime.{IsPrime}
-use Rattle.theory_rings.specs.IntegersMod.{integers_mod}
 use Rattle.theory_spaces.specs.Module.{AlgebraOn, module_of}
 use Rattle.theory_spaces.specs.Linear.{Basis}
 use Rattle.theory_spaces.specs.Matrix.{Matrix, mat_trace}
 use Rattle.theory_spaces.proofs.Matrices.{mat, mat-entry, matrices}
 use Rattle.theory_radical.specs.Congruence.{MultipleOf, CongruentMod}
-use Rattle.theory_radical.specs.Ideal.{IsNilpotentIdeal}
-use Rattle.theory_radical.specs.LiftRing.{IsLiftRing, LiftRingOn, HasRoots}
-use Rattle.theory_radical.specs.Chain.{mat_power, IsLift, trace_power, Chain}
+use Rattle.theory_radical.specs.LiftRing.{IsLiftRing, LiftRingOn}
+use Rattle.theory_radical.specs.Chain.{IsLift, trace_power, Chain}
 use Rattle.theory_radical.specs.ChainLaws.{TracesOfMatrixPowers, IndependentOfLift, AdditiveOnChain, MayStop, EndsInRadical, NextIsKernel, IsRadicalChain}
 use Rattle.theory_radical.specs.Tower.{TowerElement, TowerMod, Reduces, IsTowerLift}
-use Rattle.theory_radical.proofs.Multiples.{multiple-add, multiple_of_pow_le, congruent_trans, mul-multiple, congruent-mul, congruent_refl}
+use Rattle.theory_radical.proofs.Multiples.{multiple-add, multiple_of_pow_le, congruent_trans, congruent-mul, congruent_refl}
 use Rattle.theory_radical.proofs.PowersOfSums.{trace-power_congr}
 use Rattle.theory_radical.proofs.LiftedMatrices.{mat_trace_is, trace-power, congruent_matrices}
 use Rattle.theory_radical.proofs.AlgebraChain.{lift, lift_is_lift, val, in_chain, chain_ideal, val_multiple, val-scale, trace_power_congr, trace_power_congr_sym, trace_power_of_lifts, trace_power-add}

@@ -10,15 +10,15 @@ use Rattle.theory_rings.proofs.Rings.RingLaws.{mul-zero, zero-mul, mul-neg, neg-
 use Rattle.theory_rings.proofs.Rings.Fields.{field_set, inv_mul_cancel_left}
 use Rattle.theory_rings.proofs.Rings.ZeroTests.{eq_of_sub_eq_zero}
 use Rattle.theory_rings.proofs.Sums.Bump.{bump, unbump, bump-unbump, unbump-lt}
-use Rattle.theory_rings.proofs.Sums.Sums.{sum_congr, sum_eq_zero, sum-add, sum-neg, sum_take_out, sum_eq_single, mul-sum}
+use Rattle.theory_rings.proofs.Sums.Sums.{sum_congr, sum_eq_zero, sum-add, sum-neg, sum_take_out, mul-sum}
 use Rattle.theory_rings.proofs.Powers.Powers.{power_first, power_last}
 use Rattle.theory_spaces.specs.Matrix.{Matrix, mat_mul, delta, Within, Mat}
 use Rattle.theory_spaces.proofs.Families.{put_at, put_at-here, put_at-bump}
 use Rattle.theory_spaces.proofs.Decide.{Related, Free, decide}
-use Rattle.theory_spaces.proofs.Matrices.{Mat-path, mat_times, matrices, clip, clip_within, delta-same, delta-other, sum-delta_mul}
+use Rattle.theory_spaces.proofs.Matrices.{Mat-path, mat_times, matrices, clip_within, sum-delta_mul}
 use Rattle.theory_radical.proofs.RingChains.{Turned, done, step}
 use Rattle.theory_radical.proofs.PowersOfSums.{power-mul_suc}
-use Rattle.theory_radical.proofs.MatrixCorners.{sum_front, within_le, corner, corner_product, corner-mul, product_within}
+use Rattle.theory_radical.proofs.MatrixCorners.{sum_front, corner, corner_product, corner-mul, product_within}
 
 module _ {K : Type 0} (F : FieldOn K) (n : ℕ) where
   infixl 65 ◌⊕◌

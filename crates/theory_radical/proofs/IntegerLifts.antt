@@ -1,7 +1,7 @@
 -- The integers modulo p^n are a lift ring of those modulo p.
 use Rattle.std.specs.Prelude.{◌≡◌, ℕ, zero, suc, ◌+◌, ◌-◌, ◌*◌, ◌/◌, ◌%◌, ◌^◌, ◌<◌, ◌≤◌}
 use Rattle.std.specs.Int.{◌∣◌}
-use Rattle.std.proofs.Common.{refl, sym, ◌∙◌, ap, ap₂, subst, arith, mul_assoc}
+use Rattle.std.proofs.Common.{sym, ◌∙◌, ap, subst, arith, mul_assoc}
 use Rattle.std.proofs.lemmas.Nat.{pow-add}
 use Rattle.std.proofs.lemmas.Nat.Gcd.{dvd_of_mod-eq-zero}
 use Rattle.std.proofs.Math.Nat.{mod-mod_of_dvd, mod-eq_of_lt, mul-mod_right, mod_self, dvd-mul_right, mul-div_cancel', eq_of_mul-eq-mul_left, pow-suc, pow-zero, one-le-pow, pow-le-pow_right}

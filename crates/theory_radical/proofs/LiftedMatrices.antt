@@ -1,19 +1,18 @@
 -- Matrices over a lift ring: they agree modulo p where their residues do, entry by entry, and a matrix over the field is lifted
 -- entry by entry.
 use Rattle.std.specs.Prelude.{◌≡◌, ℕ, zero, suc, ◌<◌, ◌≤◌, cond, eqb, Bool, true, false, ◌⊎◌}
-use Rattle.std.proofs.Common.{refl, sym, ◌∙◌, ap, ap₂, arith, inl, inr, ⊎_elim}
+use Rattle.std.proofs.Common.{refl, sym, ◌∙◌, ap, ap₂, inl, inr, ⊎_elim}
 use Rattle.std.proofs.lemmas.Bool.{cases_lt}
 use Rattle.theory_rings.specs.Ring.{RingOn, CommRingOn, FieldOn}
-use Rattle.theory_rings.specs.Sum.{sum}
 use Rattle.theory_rings.specs.Power.{power, times}
 use Rattle.theory_rings.proofs.Rings.Fields.{field_set}
 use Rattle.theory_rings.proofs.Sums.Sums.{sum_congr, map-sum}
 use Rattle.theory_rings.proofs.Powers.Times.{map-times}
-use Rattle.theory_spaces.specs.Matrix.{Matrix, mat_mul, delta, mat_trace, Mat}
+use Rattle.theory_spaces.specs.Matrix.{Matrix, delta, mat_trace, Mat}
 use Rattle.theory_spaces.proofs.Matrices.{Mat-ext, mat, mat-entry, matrices, mat_trace_comm, mat_trace-add}
-use Rattle.theory_radical.specs.Congruence.{MultipleOf, CongruentMod}
+use Rattle.theory_radical.specs.Congruence.{CongruentMod}
 use Rattle.theory_radical.specs.Trace.{IsTrace}
-use Rattle.theory_radical.specs.LiftRing.{IsLiftRing, LiftRingOn}
+use Rattle.theory_radical.specs.LiftRing.{LiftRingOn}
 use Rattle.theory_radical.specs.Chain.{mat_power}
 use Rattle.theory_radical.proofs.Multiples.{congruent_of_eq}
 use Rattle.theory_radical.proofs.RingChains.{IsLiftMap}

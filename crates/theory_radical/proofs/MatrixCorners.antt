@@ -1,13 +1,13 @@
 -- The n by n matrices that are 0 outside their first r rows and columns, and the unit among them.
-use Rattle.std.specs.Prelude.{◌≡◌, ℕ, zero, suc, ◌+◌, ◌-◌, ◌<◌, ◌≤◌, ◌⊎◌}
-use Rattle.std.proofs.Common.{refl, sym, ◌∙◌, ap, ap₂, arith, inl, inr, ⊎_elim}
+use Rattle.std.specs.Prelude.{◌≡◌, ℕ, ◌+◌, ◌-◌, ◌<◌, ◌≤◌}
+use Rattle.std.proofs.Common.{sym, ◌∙◌, ap, arith, inl, inr, ⊎_elim}
 use Rattle.std.proofs.lemmas.Bool.{cases_lt}
 use Rattle.theory_rings.specs.Ring.{RingOn}
 use Rattle.theory_rings.specs.Sum.{sum}
 use Rattle.theory_rings.specs.Power.{times}
-use Rattle.theory_rings.proofs.Rings.RingLaws.{add-zero, mul-zero, zero-mul}
+use Rattle.theory_rings.proofs.Rings.RingLaws.{add-zero, zero-mul}
 use Rattle.theory_rings.proofs.Sums.Sums.{sum_congr, sum_eq_zero, sum-split}
-use Rattle.theory_spaces.specs.Matrix.{Matrix, mat_mul, delta, mat_trace, Within, Mat}
+use Rattle.theory_spaces.specs.Matrix.{Matrix, delta, mat_trace, Within, Mat}
 use Rattle.theory_spaces.proofs.Matrices.{Mat-path, clip, clip-in, clip_within, mat_mul_within, matrices, delta-same, delta-mat_mul}
 
 module _ {K : Type 0} (R : RingOn K) (set : IsSet K) (n : ℕ) where

@@ -1,7 +1,7 @@
 -- Over a field with p-th roots the p^i-th root of the residue is a linear functional on member i of the chain, i below n, and the
 -- next member is the kernel of functionals.
-use Rattle.std.specs.Prelude.{◌≡◌, ℕ, zero, suc, ◌*◌, ◌^◌, ◌<◌, ◌↔◌}
-use Rattle.std.proofs.Common.{refl, sym, ◌∙◌, ap, ap₂, arith}
+use Rattle.std.specs.Prelude.{◌≡◌, ℕ, zero, suc, ◌^◌, ◌<◌}
+use Rattle.std.proofs.Common.{sym, ◌∙◌, ap, ap₂}
 use Rattle.std.proofs.Math.Nat.{pow-zero, pow-suc}
 use Rattle.theory_rings.specs.Ring.{FieldOn}
 use Rattle.theory_rings.specs.Sum.{sum}
@@ -11,10 +11,10 @@ use Rattle.theory_rings.proofs.Sums.Sums.{sum_congr}
 use Rattle.theory_rings.proofs.Powers.Powers.{power_first, power-zero, power-mul, power-power, power_only_zero}
 use Rattle.theory_rings.proofs.Powers.FrobeniusMap.{frobenius_injective, frobenius_iterate-add, frobenius_iterate-sum}
 use Rattle.theory_spaces.specs.Module.{AlgebraOn, module_of}
-use Rattle.theory_spaces.specs.Linear.{comb, Basis}
+use Rattle.theory_spaces.specs.Linear.{Basis}
 use Rattle.theory_radical.specs.LiftRing.{LiftRingOn, HasRoots}
 use Rattle.theory_radical.specs.Chain.{Vanishes, Chain}
-use Rattle.theory_radical.specs.Functional.{TraceResidue, NextFunctional, LinearEquations}
+use Rattle.theory_radical.specs.Functional.{NextFunctional, LinearEquations}
 use Rattle.theory_radical.proofs.Orbits.{pow_pos}
 use Rattle.theory_radical.proofs.AlgebraChain.{in_chain, chain_in, val_vanishes, vanishes_val}
 use Rattle.theory_radical.proofs.TraceResidues.{residue, residue_is, residue-add, residue-scale, vanishes_of_residue, residue_of_vanishes, next_of_residues, residue_equations}

@@ -1,7 +1,7 @@
 -- The sum of f, which turning leaves as it is, over the words of p^(i + 1) letters: that of f(u · .. · u), p times u, over the
 -- words u of p^i letters, and p^(i + 1) times a sum over the first turns of the others.
-use Rattle.std.specs.Prelude.{◌≡◌, ℕ, zero, suc, ◌+◌, ◌-◌, ◌*◌, ◌^◌, ◌<◌, Bool, true, false, List, ◌++◌, length, not}
-use Rattle.std.proofs.Common.{refl, sym, ◌∙◌, ap, ap₂, arith, inl, inr, ⊎_elim}
+use Rattle.std.specs.Prelude.{◌≡◌, ℕ, suc, ◌+◌, ◌-◌, ◌*◌, ◌^◌, ◌<◌, Bool, true, false, List, ◌++◌, not}
+use Rattle.std.proofs.Common.{sym, ◌∙◌, ap, ap₂, arith, inl, inr, ⊎_elim}
 use Rattle.std.proofs.lemmas.Bool.{cases_Bool, false_from_ne_true, false≢true}
 use Rattle.std.proofs.Math.Nat.{pow-succ', one-le-pow}
 use Rattle.theory_rings.specs.Ring.{AddCommMonoidOn}

@@ -1,14 +1,14 @@
 -- The value of a trace at the p^N-th power of a sum, and that modulo p^(N + 1) it depends on the element modulo p alone.
-use Rattle.std.specs.Prelude.{◌≡◌, ℕ, zero, suc, ◌+◌, ◌-◌, ◌*◌, ◌^◌, ◌<◌, ◌≤◌, Bool, true, false, cond, List, [], ◌∷◌, ◌++◌, length, ◌⊎◌, not}
+use Rattle.std.specs.Prelude.{◌≡◌, ℕ, zero, suc, ◌+◌, ◌*◌, ◌^◌, Bool, true, false, cond, List, [], ◌∷◌, ◌++◌, length, ◌⊎◌, not}
 use Rattle.std.proofs.Common.{refl, sym, ◌∙◌, ap, ap₂, subst, arith, inl, inr, ⊎_elim}
-use Rattle.std.proofs.lemmas.Bool.{cases_Bool, false≢true, not-true}
+use Rattle.std.proofs.lemmas.Bool.{false≢true, not-true}
 use Rattle.std.proofs.Math.Nat.{pow-zero, pow-suc}
 use Rattle.theory_rings.specs.Ring.{AddCommGroupOn, RingOn}
 use Rattle.theory_rings.specs.Power.{power, times}
 use Rattle.theory_rings.specs.Prime.{IsPrime}
 use Rattle.theory_rings.proofs.Numbers.Digits.{lt_pow_self}
 use Rattle.theory_rings.proofs.Rings.RingLaws.{add-zero, additive-zero}
-use Rattle.theory_rings.proofs.Powers.Powers.{power_first, power_last, power-power, power-mul-mul}
+use Rattle.theory_rings.proofs.Powers.Powers.{power_first, power-power, power-mul-mul}
 use Rattle.theory_rings.proofs.Powers.Times.{times-zero, times-add, one-times, map-times, times-mul_assoc, mul-times_comm, power-times}
 use Rattle.theory_radical.specs.Congruence.{MultipleOf, CongruentMod}
 use Rattle.theory_radical.specs.Trace.{IsTrace}

@@ -1,6 +1,6 @@
 -- The multiplications by the elements of an algebra from the left, as matrices: a faithful representation.
 use Rattle.std.specs.Prelude.{◌≡◌, ℕ, ◌<◌}
-use Rattle.std.proofs.Common.{refl, sym, ◌∙◌, ap, ap₂, arith}
+use Rattle.std.proofs.Common.{sym, ◌∙◌, ap, ap₂}
 use Rattle.theory_rings.specs.Ring.{RingOn, CommRingOn}
 use Rattle.theory_rings.specs.Power.{power}
 use Rattle.theory_rings.proofs.Rings.RingLaws.{additive-zero}

@@ -1,11 +1,11 @@
 -- The remainders by a monic polynomial over a lift ring are a lift ring of those by its residue; and monic polynomials are lifted.
 use Rattle.std.specs.Prelude.{◌≡◌, ◌≢◌, ℕ, zero, suc, ◌^◌, ◌<◌, ◌≤◌, Bool, cond, length}
-use Rattle.std.proofs.Common.{refl, sym, ◌∙◌, ap, ap₂, subst, arith, ⊎_elim}
+use Rattle.std.proofs.Common.{sym, ◌∙◌, ap, arith, ⊎_elim}
 use Rattle.std.proofs.lemmas.Bool.{cases_lt, cond_both}
 use Rattle.theory_rings.specs.Ring.{CommRingOn, ZeroTest}
 use Rattle.theory_rings.specs.Power.{times}
 use Rattle.theory_rings.specs.Homomorphism.{IsRingHom}
-use Rattle.theory_rings.specs.Polynomial.{Poly, coefficient, constant_coefficients, lead, degree, IsMonic, IsPolynomialRing}
+use Rattle.theory_rings.specs.Polynomial.{Poly, coefficient, constant_coefficients, degree, IsMonic, IsPolynomialRing}
 use Rattle.theory_rings.specs.Remainder.{Remainder, IsRemainderRing}
 use Rattle.theory_rings.proofs.Rings.RingLaws.{add-neg}
 use Rattle.theory_rings.proofs.Rings.ZeroTests.{is_zero-false, eq_of_sub_eq_zero}
@@ -16,7 +16,7 @@ use Rattle.theory_rings.proofs.Polynomials.Mapping.{map_poly, coefficient-map_po
 use Rattle.theory_rings.proofs.Polynomials.Remainders.{remainders, remainders-one_poly}
 use Rattle.theory_radical.specs.Congruence.{MultipleOf}
 use Rattle.theory_radical.specs.LiftRing.{IsLiftRing}
-use Rattle.theory_radical.proofs.LiftRings.{up, down-up, down-zero, down_multiple}
+use Rattle.theory_radical.proofs.LiftRings.{up, down-up, down-zero}
 use Rattle.theory_radical.proofs.RemainderRings.{for_remainders, Remainder-ext, remainder-past, remainder-coefficient-zero, remainder-coefficient-times, small_remainder, small_remainder-coefficient, small_remainder-all}
 
 -- representatives that keep 0 and 1

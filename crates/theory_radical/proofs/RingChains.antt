@@ -1,9 +1,9 @@
 -- The chain of ideals over any ring that is lifted modulo p into a ring with a trace: its members are two-sided ideals, on
 -- each of which the next trace is additive and a multiple of p^i.
-use Rattle.std.specs.Prelude.{◌≡◌, ℕ, zero, suc, ◌+◌, ◌-◌, ◌*◌, ◌^◌, ◌<◌, ◌≤◌, Bool, true, false, List, [], ◌∷◌, length, ◌⊎◌}
-use Rattle.std.proofs.Common.{refl, sym, ◌∙◌, ap, ap₂, subst, arith, ⊎_elim}
+use Rattle.std.specs.Prelude.{◌≡◌, ℕ, zero, suc, ◌+◌, ◌-◌, ◌^◌, ◌<◌, ◌≤◌, Bool, true, false, List, [], ◌∷◌, length}
+use Rattle.std.proofs.Common.{sym, ◌∙◌, ap, subst, arith, ⊎_elim}
 use Rattle.std.proofs.lemmas.Bool.{cases_lt}
-use Rattle.std.proofs.Math.Nat.{pow-zero, pow-suc, pow-succ'}
+use Rattle.std.proofs.Math.Nat.{pow-zero, pow-succ'}
 use Rattle.theory_rings.specs.Ring.{AddCommGroupOn, RingOn}
 use Rattle.theory_rings.specs.Power.{power, times}
 use Rattle.theory_rings.specs.Prime.{IsPrime}

@@ -1,12 +1,12 @@
 -- The ring (Z/p^n)[t]/(f)[x]/(g) is a lift ring of its residue over Z/p; and each ring over Z/p has such a lift ring, with the same
 -- numbers as coefficients of the moduli.
-use Rattle.std.specs.Prelude.{◌≡◌, ◌≢◌, ℕ, zero, suc, ◌^◌, ◌<◌, ◌≤◌, Bool}
-use Rattle.std.proofs.Common.{refl, sym, ◌∙◌, ap}
+use Rattle.std.specs.Prelude.{◌≡◌, ℕ, ◌^◌, ◌≤◌}
+use Rattle.std.proofs.Common.{sym, ◌∙◌, ap}
 use Rattle.theory_rings.specs.Ring.{CommRingOn, ZeroTest}
 use Rattle.theory_rings.specs.Power.{times}
 use Rattle.theory_rings.specs.IntegersMod.{Fin, integers_mod, residue, residue_is_zero}
 use Rattle.theory_rings.specs.Polynomial.{Poly, coefficient, IsMonic}
-use Rattle.theory_rings.specs.Remainder.{Remainder, IsRemainderRing}
+use Rattle.theory_rings.specs.Remainder.{Remainder}
 use Rattle.theory_rings.proofs.Powers.Times.{times_char}
 use Rattle.theory_rings.proofs.Numbers.IntegersMod.{residue_zero_test, residue-zero, residue-one}
 use Rattle.theory_rings.proofs.Polynomials.PolynomialRing.{polynomials, is_polynomial_ring}

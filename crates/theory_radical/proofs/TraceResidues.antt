@@ -1,9 +1,9 @@
 -- On member i of the chain, i below n, the residue of the trace of the p^i-th power over p^i: additive, of degree p^i in multiples,
 -- and 0 just where the trace is 0 modulo p^(i + 1). So the next member is given by equations.
-use Rattle.std.specs.Prelude.{◌≡◌, ℕ, zero, suc, ◌*◌, ◌^◌, ◌<◌, ◌≤◌, ◌↔◌}
+use Rattle.std.specs.Prelude.{◌≡◌, ℕ, zero, suc, ◌^◌, ◌<◌}
 use Rattle.std.proofs.Common.{refl, sym, ◌∙◌, ap, ap₂, subst, arith}
 use Rattle.std.proofs.Math.Nat.{pow-suc}
-use Rattle.theory_rings.specs.Ring.{RingOn, FieldOn}
+use Rattle.theory_rings.specs.Ring.{FieldOn}
 use Rattle.theory_rings.specs.Sum.{sum}
 use Rattle.theory_rings.specs.Power.{power, times}
 use Rattle.theory_rings.specs.Prime.{IsPrime}
@@ -18,11 +18,10 @@ use Rattle.theory_spaces.specs.Linear.{comb, Basis}
 use Rattle.theory_spaces.proofs.Modules.{left_linear, right_linear, map-comb, comb_in}
 use Rattle.theory_radical.specs.Congruence.{MultipleOf, CongruentMod}
 use Rattle.theory_radical.specs.LiftRing.{LiftRingOn}
-use Rattle.theory_radical.specs.Chain.{Chain, trace_power}
 use Rattle.theory_radical.specs.Functional.{TraceResidue, ResidueEquations}
-use Rattle.theory_radical.proofs.Multiples.{multiple-times, congruent_of_eq, congruent_sym, congruent_trans}
+use Rattle.theory_radical.proofs.Multiples.{multiple-times}
 use Rattle.theory_radical.proofs.LiftRings.{down_multiple, down-up, up}
-use Rattle.theory_radical.proofs.AlgebraChain.{val, ValVanishes, In, in_chain, chain_in, in_ideal, in-zero, in-scale, val-zero, val-add, val-scale, val_multiple, val_vanishes, vanishes_val, trace_power_congr_sym}
+use Rattle.theory_radical.proofs.AlgebraChain.{val, ValVanishes, In, in_chain, chain_in, in_ideal, in-zero, in-scale, val-zero, val-add, val-scale, val_multiple, trace_power_congr_sym}
 
 module _ {K W V : Type 0} {F : FieldOn K} {p n : ℕ} (prime : IsPrime p) (L : LiftRingOn F p n W) (A : AlgebraOn F.ring V) (m : ℕ) (B : Basis (module_of A) m)
     (i : ℕ) (within : i < n) where

@@ -1,5 +1,5 @@
 -- What the traces of powers of lifts and the chain do.
-use Rattle.std.specs.Prelude.{◌≡◌, ℕ, suc, ◌^◌, ◌<◌, ◌≤◌}
+use Rattle.std.specs.Prelude.{ℕ, suc, ◌^◌, ◌<◌}
 use Rattle.theory_rings.specs.Ring.{RingOn, CommRingOn, AddCommGroupOn, FieldOn}
 use Rattle.theory_rings.specs.Power.{power}
 use Rattle.theory_rings.specs.Prime.{IsPrime}

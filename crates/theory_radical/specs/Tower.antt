@@ -2,7 +2,7 @@
 -- F_p[t]/(f)[x], and over those modulo p^n their lift rings.
 use Rattle.std.specs.Prelude.{◌≡◌, ℕ, ◌^◌, ◌≤◌}
 use Rattle.theory_rings.specs.Ring.{CommRingOn, FieldOn}
-use Rattle.theory_rings.specs.IntegersMod.{Fin, integers_mod, residue}
+use Rattle.theory_rings.specs.IntegersMod.{integers_mod, residue}
 use Rattle.theory_rings.specs.Polynomial.{Poly, coefficient, IsMonic, IsPolynomialRing}
 use Rattle.theory_rings.specs.Division.{IsIrreducible}
 use Rattle.theory_rings.specs.Remainder.{Remainder, IsRemainderRing}
