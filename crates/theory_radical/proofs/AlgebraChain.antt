@@ -12,7 +12,7 @@ use Rattle.theory_rings.proofs.Powers.Powers.{power-zero}
 use Rattle.theory_spaces.specs.Module.{AlgebraOn, module_of}
 use Rattle.theory_spaces.specs.Linear.{Basis}
 use Rattle.theory_spaces.specs.Matrix.{Matrix, Mat}
-use Rattle.theory_spaces.proofs.Matrices.{mat, mat-entry}
+use Rattle.theory_spaces.proofs.Matrices.{Mat-ext, mat, mat-entry}
 use Rattle.theory_spaces.proofs.MatrixAlgebra.{matrix_algebra}
 use Rattle.theory_radical.specs.Congruence.{MultipleOf, CongruentMod}
 use Rattle.theory_radical.specs.Trace.{IsTrace}
@@ -83,6 +83,11 @@ module _ {K W V : Type 0} {F : FieldOn K} {p n : ℕ} (prime : IsPrime p) (L : L
 
   pub trace_power_congr_sym : (i : ℕ) (x : V) (N : Matrix W) → IsLift L A m B x N → CongruentMod L.ring.monoid (p ^ suc i) (val i x) (trace_power L A m B i N)
   trace_power_congr_sym i x N h = congruent_sym L.ring.additive (p ^ suc i) (trace_power L A m B i N) (val i x) (trace_power_congr i x N h)
+
+  -- the trace of this one is the value
+  pub trace_power_lift : (i : ℕ) (x : V) → trace_power L A m B i (lift x).0 ≡ val i x
+  trace_power_lift i x = sym (trace-power L.ring L.set m (lift x).0 (p ^ i))
+      ∙ ap (λ N. tr L m (power S N (p ^ i))) (Mat-ext L.ring.ring L.set m (mat L.ring.ring L.set m (lift x).0) (lift x) (mat-entry L.ring.ring L.set m (lift x).0))
 
   -- two lifts of an element
   pub trace_power_of_lifts : (i : ℕ) (x : V) (M N : Matrix W) → IsLift L A m B x M → IsLift L A m B x N

@@ -18,10 +18,10 @@ use Rattle.theory_spaces.specs.Linear.{comb, Basis}
 use Rattle.theory_spaces.proofs.Modules.{left_linear, right_linear, map-comb, comb_in}
 use Rattle.theory_radical.specs.Congruence.{MultipleOf, CongruentMod}
 use Rattle.theory_radical.specs.LiftRing.{LiftRingOn}
-use Rattle.theory_radical.specs.Functional.{TraceResidue, ResidueEquations}
+use Rattle.theory_radical.specs.Functional.{TraceResidue, ResidueOnChain, ResidueEquations}
 use Rattle.theory_radical.proofs.Multiples.{multiple-times}
 use Rattle.theory_radical.proofs.LiftRings.{down_multiple, down-up, up}
-use Rattle.theory_radical.proofs.AlgebraChain.{val, ValVanishes, In, in_chain, chain_in, in_ideal, in-zero, in-scale, val-zero, val-add, val-scale, val_multiple, trace_power_congr_sym}
+use Rattle.theory_radical.proofs.AlgebraChain.{lift, lift_is_lift, trace_power_lift, val, ValVanishes, In, in_chain, chain_in, in_ideal, in-zero, in-scale, val-zero, val-add, val-scale, val_multiple, val_vanishes, vanishes_val, trace_power_congr_sym}
 
 module _ {K W V : Type 0} {F : FieldOn K} {p n : ℕ} (prime : IsPrime p) (L : LiftRingOn F p n W) (A : AlgebraOn F.ring V) (m : ℕ) (B : Basis (module_of A) m)
     (i : ℕ) (within : i < n) where
@@ -171,3 +171,27 @@ module _ {K W V : Type 0} {F : FieldOn K} {p n : ℕ} (prime : IsPrime p) (L : L
           let J = in_ideal prime L A m B i in
           let g = J.right-in (v s) (B.vec j) (each s ls) in
           (g, residue_is (v s ⊗ B.vec j) g (r s j) (given s j ls l)))
+
+  is_trace_residue : (x : V) (h : I x) → TraceResidue L A m B i x (residue x h)
+  is_trace_residue x h =
+      let u = value_quotient x h in
+      record {
+        lift = (lift prime L A m B x).0;
+        is_lift = lift_is_lift prime L A m B x;
+        quotient = u.0;
+        divides = trace_power_lift prime L A m B i x ∙ u.1;
+        residue = u.2;
+      }
+
+  pub residue_on_chain : ResidueOnChain L A m B i
+  residue_on_chain = record {
+    residue = λ x h. residue x (in_chain prime L A m B i x h);
+    is_residue = λ x h. is_trace_residue x (in_chain prime L A m B i x h);
+    unique = λ x h r t. residue_is x (in_chain prime L A m B i x h) r t;
+    map-add = λ x y h g s. residue-add x y (in_chain prime L A m B i x h) (in_chain prime L A m B i y g) (in_chain prime L A m B i (x ⊕ y) s);
+    map-scale = λ c x h s. residue-scale c x (in_chain prime L A m B i x h) (in_chain prime L A m B i (c • x) s);
+    kernel = λ x h. (
+      λ e. vanishes_val prime L A m B i x (vanishes_of_residue x (in_chain prime L A m B i x h) e),
+      λ v. residue_of_vanishes x (in_chain prime L A m B i x h) (val_vanishes prime L A m B i x v),
+    );
+  }

@@ -10,7 +10,7 @@ use Rattle.theory_radical.specs.Congruence.{MultipleOf, CongruentMod}
 use Rattle.theory_radical.specs.Ideal.{IsIdeal, ProductsVanish, IsNilpotentIdeal, IsLargestNilpotentIdeal}
 use Rattle.theory_radical.specs.LiftRing.{LiftRingOn, HasRoots}
 use Rattle.theory_radical.specs.Chain.{mat_power, IsLift, trace_power, Chain}
-use Rattle.theory_radical.specs.Functional.{NextFunctional, ResidueEquations, LinearEquations}
+use Rattle.theory_radical.specs.Functional.{ResidueOnChain, NextFunctional, ResidueEquations, LinearEquations}
 
 -- in a ring with a trace: the p^i-th powers of elements that agree modulo p have traces that agree modulo p^(i + 1)
 abbrev pub TracesOfPowers : {K V : Type 0} → RingOn K → AddCommGroupOn V → (K → V) → Type 0
@@ -64,6 +64,7 @@ module _ {K W V : Type 0} {F : FieldOn K} {p n : ℕ} (L : LiftRingOn F p n W) (
     pub functional : HasRoots F.ring p → (i : ℕ) → i < n → NextFunctional L A m B i
     pub linear : (i : ℕ) → i < n → LinearEquations L A m B i
     pub equations : (i : ℕ) → i < n → ResidueEquations L A m B i
+    pub residue : (i : ℕ) → i < n → ResidueOnChain L A m B i
 
   -- all of it, with J in the place of each nilpotent ideal
   pub record IsRadicalChain (J : V → Type 0) : Type 0 where

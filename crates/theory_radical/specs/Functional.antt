@@ -19,6 +19,18 @@ module _ {K W V : Type 0} {F : FieldOn K} {p n : ℕ} (L : LiftRingOn F p n W) (
     pub divides : trace_power L A m B i lift ≡ times L.ring.monoid (p ^ i) quotient
     pub residue : L.down quotient ≡ r
 
+  -- on member i of the chain there is exactly one residue at each element. It is additive, takes a scalar out as its p^i-th power, and
+  -- is 0 just where the trace vanishes
+  pub record ResidueOnChain (i : ℕ) : Type 0 where
+    pub residue : (x : V) → Chain L A m B i x → K
+    pub is_residue : (x : V) (h : Chain L A m B i x) → TraceResidue i x (residue x h)
+    pub unique : (x : V) (h : Chain L A m B i x) (r : K) → TraceResidue i x r → residue x h ≡ r
+    pub map-add : (x y : V) (h : Chain L A m B i x) (g : Chain L A m B i y) (s : Chain L A m B i (A.◌⊕◌ x y))
+        → residue (A.◌⊕◌ x y) s ≡ F.◌⊕◌ (residue x h) (residue y g)
+    pub map-scale : (c : K) (x : V) (h : Chain L A m B i x) (s : Chain L A m B i (A.◌•◌ c x))
+        → residue (A.◌•◌ c x) s ≡ F.◌⊗◌ (power F.ring c (p ^ i)) (residue x h)
+    pub kernel : (x : V) (h : Chain L A m B i x) → (residue x h ≡ F.zero) ↔ Vanishes L A m B i x
+
   -- a linear functional on member i of the chain: its value at x is the p^i-th root of the residue. Its kernel is where the
   -- trace vanishes, and x lies in the next member just where the functional is 0 at the products of x and the vectors of a basis
   pub record NextFunctional (i : ℕ) : Type 0 where
