@@ -17,7 +17,8 @@ use Rattle.theory_spaces.proofs.Spaces.{coords_of}
 use Rattle.theory_radical.specs.Congruence.{MultipleOf, CongruentMod}
 use Rattle.theory_radical.specs.Ideal.{ProductsVanish, IsNilpotentIdeal, IsLargestNilpotentIdeal}
 use Rattle.theory_radical.specs.LiftRing.{LiftRingOn}
-use Rattle.theory_radical.specs.Chain.{Chain}
+use Rattle.theory_radical.specs.Chain.{trace_power, Chain}
+use Rattle.theory_radical.specs.ChainLaws.{IdempotentRank, TracesOfNilpotentsAndIdempotents}
 use Rattle.theory_radical.proofs.Orbits.{pow_pos}
 use Rattle.theory_radical.proofs.Multiples.{multiple_of_congruent, congruent_sym, congruent_trans}
 use Rattle.theory_radical.proofs.PowersOfSums.{trace-power_congr}
@@ -29,7 +30,7 @@ use Rattle.theory_radical.proofs.NilIdeals.{nil_ideal_products_vanish, nilpotent
 use Rattle.theory_radical.proofs.LiftRings.{times-one_exact, down-zero}
 use Rattle.theory_radical.proofs.LiftedMatrices.{MW, MF, tr, mat_trace_is, congruent_of_residues, raise, down-raise, raise_is_lift, down-delta}
 use Rattle.theory_radical.proofs.RegularMatrices.{regular, regular-mul, regular-zero, regular-power, regular_faithful}
-use Rattle.theory_radical.proofs.AlgebraChain.{lift, lift_is, tr_is, ValVanishes, In, in_chain, chain_in, in_ideal, chain_ideal, value_of_zero}
+use Rattle.theory_radical.proofs.AlgebraChain.{lift, lift_is, lift_is_lift, tr_is, ValVanishes, vanishes_val, trace_power_congr, In, in_chain, chain_in, in_ideal, chain_ideal, value_of_zero}
 
 -- the value of the unit of a corner
 module _ {K W : Type 0} {F : FieldOn K} {p n : ℕ} (prime : IsPrime p) (L : LiftRingOn F p n W) (m r : ℕ) (l : r ≤ m) where
@@ -89,6 +90,30 @@ module _ {K W V : Type 0} {F : FieldOn K} {p n : ℕ} (prime : IsPrime p) (L : L
       (value_turned (MF L m) T L.ring.additive (tr L m) p (raise L m) prime (tr_is prime L A m B) (raise_is_lift L m) i (MF L m).zero (reg x) t)
       (value_of_zero prime L A m B i)
 
+  -- the trace of an idempotent is its rank
+  pub idempotent_rank : (e : V) → e ⊗ e ≡ e → IdempotentRank L A m B e
+  idempotent_rank e idem =
+      let r = idempotent_turned F m (reg e) (sym (regular-mul F.cring (field_set F) A m B e e) ∙ ap reg idem) in
+      record {
+        rank = r.rank;
+        rank_le = r.fits;
+        none = λ z. regular_faithful F.cring (field_set F) A m B e (r.none z);
+        trace = λ i N l.
+            let E = corner F.ring (field_set F) m r.rank r.fits in
+            let one = times L.ring.monoid r.rank L.ring.one in
+            let k = p ^ suc i in
+            congruent_trans L.ring.monoid k (trace_power L A m B i N) (raised i (reg e)) one (trace_power_congr prime L A m B i e N l)
+            (congruent_trans L.ring.monoid k (raised i (reg e)) (raised i E) one
+            (value_turned (MF L m) T L.ring.additive (tr L m) p (raise L m) prime (tr_is prime L A m B) (raise_is_lift L m) i E (reg e) r.turned)
+            (value_corner prime L m r.rank r.fits i));
+      }
+
+  pub special_traces : TracesOfNilpotentsAndIdempotents L A m B
+  special_traces = record {
+    nilpotent = λ i x h. vanishes_val prime L A m B i x (nilpotent_vanishes i x h);
+    idempotent = idempotent_rank;
+  }
+
   -- what has only nilpotent multiples lies in each member of the chain
   in_of_nilpotent : (i : ℕ) (x : V) → ((c : V) → IsNilpotent A.ring (x ⊗ c)) → In prime L A m B i x
   in_of_nilpotent zero x h = tt
@@ -106,18 +131,16 @@ module _ {K W V : Type 0} {F : FieldOn K} {p n : ℕ} (prime : IsPrime p) (L : L
     -- an idempotent of the last member is 0
     idempotent_zero : (i : ℕ) → suc i ≡ n → (e : V) → e ⊗ e ≡ e → ValVanishes prime L A m B i e → e ≡ A.zero
     idempotent_zero i q e idem v =
-        let r = idempotent_turned F m (reg e) (sym (regular-mul F.cring (field_set F) A m B e e) ∙ ap reg idem) in
-        let fits = r.fits in
-        let E = corner F.ring (field_set F) m r.rank r.fits in
+        let r = idempotent_rank e idem in
+        let small = r.rank_le in
         let one = times L.ring.monoid r.rank L.ring.one in
         let k = p ^ suc i in
-        let near : CongruentMod L.ring.monoid k one (raised i (reg e)) = congruent_sym L.ring.additive k (raised i (reg e)) one
-        (congruent_trans L.ring.monoid k (raised i (reg e)) (raised i E) one
-        (value_turned (MF L m) T L.ring.additive (tr L m) p (raise L m) prime (tr_is prime L A m B) (raise_is_lift L m) i E (reg e) r.turned)
-        (value_corner prime L m r.rank r.fits i)) in
-        let w : MultipleOf L.ring.monoid (p ^ n) one = subst (λ j. MultipleOf L.ring.monoid (p ^ j) one) q (multiple_of_congruent L.ring.monoid k one (raised i (reg e)) near v) in
-        regular_faithful F.cring (field_set F) A m B e
-        (r.none (times-one_exact F.cring L.ring p n L.down L.is_lift prime F.one-nonzero r.rank (omega arith) w))
+        let N = (lift prime L A m B e).0 in
+        let h = lift_is_lift prime L A m B e in
+        let near : CongruentMod L.ring.monoid k one (trace_power L A m B i N) = congruent_sym L.ring.additive k (trace_power L A m B i N) one (r.trace i N h) in
+        let w : MultipleOf L.ring.monoid (p ^ n) one = subst (λ j. MultipleOf L.ring.monoid (p ^ j) one) q
+        (multiple_of_congruent L.ring.monoid k one (trace_power L A m B i N) near (vanishes_val prime L A m B i e v N h)) in
+        r.none (times-one_exact F.cring L.ring p n L.down L.is_lift prime F.one-nonzero r.rank (omega arith) w)
 
     idempotent_in_zero : (e : V) → e ⊗ e ≡ e → In prime L A m B n e → e ≡ A.zero
     idempotent_in_zero e idem h = ⊎_elim

@@ -17,7 +17,7 @@ use Rattle.theory_radical.proofs.Multiples.{multiple-add, multiple_of_pow_le, co
 use Rattle.theory_radical.proofs.PowersOfSums.{trace-power_congr}
 use Rattle.theory_radical.proofs.LiftedMatrices.{mat_trace_is, trace-power, congruent_matrices}
 use Rattle.theory_radical.proofs.AlgebraChain.{lift, lift_is_lift, val, in_chain, chain_ideal, val_multiple, val-scale, trace_power_congr, trace_power_congr_sym, trace_power_of_lifts, trace_power-add}
-use Rattle.theory_radical.proofs.ChainEnd.{chain_holds, chain_stops, chain_end, chain_end_products}
+use Rattle.theory_radical.proofs.ChainEnd.{special_traces, chain_holds, chain_stops, chain_end, chain_end_products}
 use Rattle.theory_radical.proofs.TraceResidues.{residue_equations, residue_on_chain}
 use Rattle.theory_radical.proofs.NextIdeal.{linear_equations, next_functional}
 use Rattle.theory_radical.proofs.Towers.{tower_down, tower_down_coefficientwise, tower_lift, tower_set}
@@ -91,6 +91,7 @@ module _ {K W V : Type 0} {F : FieldOn K} {p n : ℕ} (prime : IsPrime p) (L : L
   is_radical_chain J = record {
     independent = independent_of_lift;
     additive = additive_on_chain;
+    traces = special_traces prime L A m B;
     ideals = chain_ideal prime L A m B;
     holds = chain_holds prime L A m B J;
     stop = may_stop;

@@ -1,15 +1,16 @@
 -- What the traces of powers of lifts and the chain do.
-use Rattle.std.specs.Prelude.{ℕ, suc, ◌^◌, ◌<◌}
+use Rattle.std.specs.Prelude.{◌≡◌, ℕ, suc, ◌^◌, ◌<◌, ◌≤◌}
 use Rattle.theory_rings.specs.Ring.{RingOn, CommRingOn, AddCommGroupOn, FieldOn}
-use Rattle.theory_rings.specs.Power.{power}
+use Rattle.theory_rings.specs.Power.{power, times}
 use Rattle.theory_rings.specs.Prime.{IsPrime}
 use Rattle.theory_spaces.specs.Module.{AlgebraOn, module_of}
 use Rattle.theory_spaces.specs.Linear.{Basis}
 use Rattle.theory_spaces.specs.Matrix.{Matrix, mat_trace}
+use Rattle.theory_spaces.specs.Algebra.{IsNilpotent}
 use Rattle.theory_radical.specs.Congruence.{MultipleOf, CongruentMod}
 use Rattle.theory_radical.specs.Ideal.{IsIdeal, ProductsVanish, IsNilpotentIdeal, IsLargestNilpotentIdeal}
 use Rattle.theory_radical.specs.LiftRing.{LiftRingOn, HasRoots}
-use Rattle.theory_radical.specs.Chain.{mat_power, IsLift, trace_power, Chain}
+use Rattle.theory_radical.specs.Chain.{mat_power, IsLift, trace_power, Vanishes, Chain}
 use Rattle.theory_radical.specs.Functional.{ResidueOnChain, NextFunctional, ResidueEquations, LinearEquations}
 
 -- in a ring with a trace: the p^i-th powers of elements that agree modulo p have traces that agree modulo p^(i + 1)
@@ -39,6 +40,18 @@ module _ {K W V : Type 0} {F : FieldOn K} {p n : ℕ} (L : LiftRingOn F p n W) (
         → CongruentMod L.ring.monoid (p ^ suc i) (trace_power L A m B i Z) (L.ring.◌⊕◌ (trace_power L A m B i X) (trace_power L A m B i Y))
     pub scale : (i : ℕ) (x : V) (c : W) (X Z : Matrix W) → IsLift L A m B x X → IsLift L A m B (A.◌•◌ (L.down c) x) Z
         → CongruentMod L.ring.monoid (p ^ suc i) (trace_power L A m B i Z) (L.ring.◌⊗◌ (power L.ring.ring c (p ^ i)) (trace_power L A m B i X))
+
+  -- the traces of an idempotent are its rank, a number up to m that is 0 only for 0
+  pub record IdempotentRank (e : V) : Type 0 where
+    pub rank : ℕ
+    pub rank_le : rank ≤ m
+    pub none : rank ≡ 0 → e ≡ A.zero
+    pub trace : (i : ℕ) (N : Matrix W) → IsLift L A m B e N → CongruentMod L.ring.monoid (p ^ suc i) (trace_power L A m B i N) (times L.ring.monoid rank L.ring.one)
+
+  -- those of a nilpotent element are 0
+  pub record TracesOfNilpotentsAndIdempotents : Type 0 where
+    pub nilpotent : (i : ℕ) (x : V) → IsNilpotent A.ring x → Vanishes L A m B i x
+    pub idempotent : (e : V) → A.◌⊗◌ e e ≡ e → IdempotentRank e
 
   -- each member of the chain is a two-sided ideal
   abbrev pub ChainOfIdeals : Type 0
@@ -70,6 +83,7 @@ module _ {K W V : Type 0} {F : FieldOn K} {p n : ℕ} (L : LiftRingOn F p n W) (
   pub record IsRadicalChain (J : V → Type 0) : Type 0 where
     pub independent : IndependentOfLift
     pub additive : AdditiveOnChain
+    pub traces : TracesOfNilpotentsAndIdempotents
     pub ideals : ChainOfIdeals
     pub holds : ChainHolds J
     pub stop : MayStop

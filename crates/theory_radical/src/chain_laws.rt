@@ -5,7 +5,7 @@ ghost use Rattle.theory_rings.specs.Prime.{IsPrime};
 ghost use Rattle.theory_spaces.specs.Module.{AlgebraOn, module_of};
 ghost use Rattle.theory_spaces.specs.Linear.{Basis};
 ghost use Rattle.theory_radical.specs.LiftRing.{LiftRingOn};
-ghost use Rattle.theory_radical.specs.ChainLaws.{IndependentOfLift, AdditiveOnChain, ChainOfIdeals, ChainHolds, MayStop, EndsInRadical, NextIsKernel};
+ghost use Rattle.theory_radical.specs.ChainLaws.{IndependentOfLift, AdditiveOnChain, TracesOfNilpotentsAndIdempotents, ChainOfIdeals, ChainHolds, MayStop, EndsInRadical, NextIsKernel};
 
 /// An algebra with a basis over a field, a lift ring of the field in which p^i can be cancelled for i below n, and a set of
 /// elements of the algebra.
@@ -44,6 +44,11 @@ pub fn trace_is_independent_of_lift<A: LiftedAlgebra>()
 /// On member i of the chain the trace of the p^i-th power is a multiple of p^i and, modulo p^(i + 1), additive.
 pub fn trace_is_additive_on_chain<A: LiftedAlgebra>()
     ensures { AdditiveOnChain A.lift_ring A.algebra A.dimension A.basis }
+{}
+
+/// The traces of a nilpotent element are 0, and those of an idempotent its rank, which is 0 only for 0.
+pub fn traces_of_nilpotents_and_idempotents<A: LiftedAlgebra>()
+    ensures { TracesOfNilpotentsAndIdempotents A.lift_ring A.algebra A.dimension A.basis }
 {}
 
 /// Each member of the chain is a two-sided ideal.
