@@ -1,0 +1,14 @@
+pub mod SumsOf
+pub mod Multiples
+pub mod Chains
+pub mod Maximal
+pub mod LatticeTests
+pub mod SimpleQuotients
+pub mod Scaling
+pub mod LinearMaps
+pub mod Columns
+pub mod MatrixReps
+pub mod Ramified
+pub mod TableClaims
+pub mod Dual
+pub mod Example

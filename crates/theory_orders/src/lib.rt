@@ -1,0 +1,2 @@
+// The mathematics of orders.
+#![tactic(auto)]
