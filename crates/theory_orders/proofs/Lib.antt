@@ -12,3 +12,7 @@ pub mod Ramified
 pub mod TableClaims
 pub mod Dual
 pub mod Example
+pub mod Independence
+pub mod InvertibleIdeals
+pub mod Approximation
+pub mod Composition
