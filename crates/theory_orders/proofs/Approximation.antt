@@ -61,7 +61,7 @@ module _ {K V : Type 0} (F : FieldOn K) (Z : ValuationOn F) (p q : K) (U : Unifo
   unfolding Near
   Near_less k s x h = subst L (sym (A.mul-scale (pw p k) (pw q (k + s)) x) ∙ ap (λ a. a • x) (lower k s)) (Lam_scale F Z p q U A N os O (pw p k) (pw q (k + s) • x) (p_power_in k) h)
 
-  Near_add : (s : ℕ) (x y : V) → Near s x → Near s y → Near s (x ⊕ y)
+  pub Near_add : (s : ℕ) (x y : V) → Near s x → Near s y → Near s (x ⊕ y)
   unfolding Near
   Near_add s x y h g = subst L (sym (A.scale-add (pw q s) x y)) (O.add_in (pw q s • x) (pw q s • y) h g)
 
@@ -227,12 +227,13 @@ module _ {K V : Type 0} (F : FieldOn K) (Z : ValuationOn F) (p q : K) (U : Unifo
           ap₂ (λ a b. E.coord (bracket u (os a)) b) (sym (div-mul-add i N j k)) (sym (mod-mul-add i N j k)) ∙ h (i * N + j) (pair-lt N N i j g k)))) y (whole y)
 
       -- what commutes with the basis up to a fixed power of p is a scalar up to p
-      pub near_scalar : ((c : ℕ) → ((a : V) → ((i : ℕ) → i < N → Near (c + 1) (bracket a (os i))) → (k : K) × Near 1 (a ⊕ neg (k • A.one))) → ⊥) → ⊥
+      pub near_scalar : ((c : ℕ) → ((a : V) → ((i : ℕ) → i < N → Near (suc c) (bracket a (os i))) → (k : K) × Near 1 (a ⊕ neg (k • A.one))) → ⊥) → ⊥
       unfolding Bounded Near
       near_scalar stop = all_bounded ell ell_functional (N * N) (λ B. stop B.0 (λ a h.
+          let e : suc B.0 ≡ B.0 + 1 = omega arith in
           let r = B.1 1 a (λ t g.
           let b = os (t / N) in
           subst In (E.coord-scale (pw q (B.0 + 1)) (bracket a b) (t % N))
-          (integral_weights F Z M N os ind (pw q (B.0 + 1) • bracket a b) (h (t / N) (row-lt N N t g)) (E.coord (pw q (B.0 + 1) • bracket a b)) (E.expand (pw q (B.0 + 1) • bracket a b)) (t % N) (column-lt N N t g))) in
+          (integral_weights F Z M N os ind (pw q (B.0 + 1) • bracket a b) (subst (λ k. L (pw q k • bracket a b)) e (h (t / N) (row-lt N N t g))) (E.coord (pw q (B.0 + 1) • bracket a b)) (E.expand (pw q (B.0 + 1) • bracket a b)) (t % N) (column-lt N N t g))) in
           let k = ct.multiple r.0 (commutes r.0 r.1) in
           (k.0, subst (λ z. L (pw q 1 • (a ⊕ neg z))) k.1 r.2)))

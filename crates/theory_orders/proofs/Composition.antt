@@ -19,7 +19,7 @@ use Rattle.theory_orders.specs.Lattices.{Lattice}
 use Rattle.theory_orders.proofs.SumsOf.{SumOf_map, SumOf_one, SumOf_add, SumOf_ideal}
 use Rattle.theory_orders.proofs.Multiples.{Multiple-ideal, Multiple-of, of-Multiple}
 use Rattle.theory_orders.proofs.LatticeTests.{decided, in_lattice}
-use Rattle.theory_orders.proofs.SimpleQuotients.{whole, generated_in}
+use Rattle.theory_orders.proofs.Ideals.{ideal_same, whole, generated_in}
 use Rattle.theory_orders.proofs.Scaling.{Lam_scale}
 use Rattle.theory_orders.proofs.Independence.{IsSublattice, IndependentMod, right_sublattice, ideal_sublattice, sub_neg, grow_up, grow_down, at_most}
 use Rattle.theory_orders.proofs.InvertibleIdeals.{Word}
@@ -305,16 +305,6 @@ module _ {K V : Type 0} (F : FieldOn K) (Z : ValuationOn F) (p q : K) (U : Unifo
     pub is_lattice : ((n : ℕ) (g : ℕ → V) → Same Q (Lattice F Z A n g) → ⊥) → ⊥
     is_lattice = spanned (suc N) zero (omega arith) os (record { no_unit = λ c int h i l u. absurd (omega arith) }) (λ i l. absurd (omega arith))
 
-  -- sets with the same members
-  pub ideal_same : (I J : V → Type 0) → Same I J → IsIdeal A L I → IsIdeal A L J
-  ideal_same I J e h = record {
-    inside = λ x j. h.inside x (e.1 x j);
-    zero_in = e.0 A.zero h.zero_in;
-    add_in = λ x y j k. e.0 (x ⊕ y) (h.add_in x y (e.1 x j) (e.1 y k));
-    left = λ a x la j. e.0 (a ⊗ x) (h.left a x la (e.1 x j));
-    right = λ a x la j. e.0 (x ⊗ a) (h.right a x la (e.1 x j));
-  }
-
   -- the maximal ideals that are lattices
   abbrev pub MaximalLattice : Type 0
   MaximalLattice = (n : ℕ) × (g : ℕ → V) × IsMaximalIdeal A p L (Lattice F Z A n g)
@@ -326,7 +316,7 @@ module _ {K V : Type 0} (F : FieldOn K) (Z : ValuationOn F) (p q : K) (U : Unifo
   pub maximal_of : (Q : V → Type 0) → IsIdeal A L Q → Within P Q → (Q A.one → ⊥) → ((a : V) → L a → (Q a → ⊥) → NN (Generated A L Q a A.one))
       → (n : ℕ) (g : ℕ → V) → Same Q (Lattice F Z A n g) → IsMaximalIdeal A p L (Lattice F Z A n g)
   maximal_of Q I over proper generates n g e = record {
-    ideal = ideal_same Q (Lattice F Z A n g) e I;
+    ideal = ideal_same A L Q (Lattice F Z A n g) e I;
     over = λ x h. e.0 x (over x h);
     simple = record {
       proper = λ h. proper (e.1 A.one (h A.one O.one_in));

@@ -280,14 +280,14 @@ module _ {K V : Type 0} {R : RingOn K} (A : AlgebraOn R V) (p q : K) (pq : R.◌
         )) (y ⊗ A.one) (SumOf_left A (Product A X M) Q y (λ t h. (h.0, h.1, h.2, h.3, ap (λ s. y ⊗ s) h.4)) A.one r)))
         A.one (left_powers r k)
 
-    -- the powers of M fall strictly
-    pub falls_strictly : LeftUnit → (k : ℕ) → Within (Ch k) (S (suc k)) → ⊥
-    falls_strictly r k h = H.simple.proper (SumOf_in A (Product A (Y k) (Ch k)) M I.zero_in I.add_in (λ z w.
+    -- the powers of M, a set that is stable, fall strictly
+    pub falls_strictly : ((x : V) → ((M x → ⊥) → ⊥) → M x) → LeftUnit → (k : ℕ) → ((c : V) → Ch k c → (S (suc k) c → ⊥) → ⊥) → ⊥
+    falls_strictly stable r k h = H.simple.proper (SumOf_in A (Product A (Y k) (Ch k)) M I.zero_in I.add_in (λ z w.
         let y = w.0 in
-        subst M (sym w.4) (SumOf_in A (Ch (suc k)) (λ v. M (y ⊗ v)) (subst M (sym (mul-zero A.ring y)) I.zero_in)
+        stable z (λ out. h w.1 w.3 (λ s. out (subst M (sym w.4) (SumOf_in A (Ch (suc k)) (λ v. M (y ⊗ v)) (subst M (sym (mul-zero A.ring y)) I.zero_in)
         (λ a b ha hb. subst M (sym (A.mul-add y a b)) (I.add_in (y ⊗ a) (y ⊗ b) ha hb)) (λ v c.
         let d = Chain_unlast A L O M I k v c in
-        subst M (sym (ap (λ t. y ⊗ t) d.4 ∙ sym (A.mul_assoc y d.0 d.1))) (I.left (y ⊗ d.0) d.1 (w.2.0 d.0 d.2) d.3)) w.1 (h w.1 w.3))) A.one (left_powers r k))
+        subst M (sym (ap (λ t. y ⊗ t) d.4 ∙ sym (A.mul_assoc y d.0 d.1))) (I.left (y ⊗ d.0) d.1 (w.2.0 d.0 d.2) d.3)) w.1 s))))) A.one (left_powers r k))
 
     abbrev pub Co : ℕ → V → Type 0
     Co e = Carried (Ch e) 1

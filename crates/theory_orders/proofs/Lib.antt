@@ -1,4 +1,5 @@
 pub mod SumsOf
+pub mod Ideals
 pub mod Multiples
 pub mod Chains
 pub mod Maximal
@@ -16,3 +17,5 @@ pub mod Independence
 pub mod InvertibleIdeals
 pub mod Approximation
 pub mod Composition
+pub mod PowerOfOne
+pub mod OnlyIdeal

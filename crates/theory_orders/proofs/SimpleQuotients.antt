@@ -13,6 +13,7 @@ use Rattle.theory_spaces.proofs.PairIndex.{pair-lt, row-lt, column-lt}
 use Rattle.theory_orders.specs.Orders.{IsOrder, IsIdeal, SumOf, Product, Power, Around, Generated, Multiple, Within, Test, Radical, SimpleQuotient, SimpleByElements}
 use Rattle.theory_orders.specs.Lattices.{Lattice}
 use Rattle.theory_orders.proofs.SumsOf.{SumOf_in, SumOf_one}
+use Rattle.theory_orders.proofs.Ideals.{IdealSum, IdealSum_ideal, whole, generated_in}
 use Rattle.theory_orders.proofs.Chains.{Chain, Chain_inside, chain_in_power}
 use Rattle.theory_orders.proofs.LatticeTests.{decided, pairs_of, pairs_of-at, lattice_test, lattice_test-in, in-lattice_test}
 
@@ -22,45 +23,20 @@ module _ {K V : Type 0} {R : RingOn K} (A : AlgebraOn R V) (L J : V → Type 0) 
   infixl 70 ◌⊗◌
   open A use {◌⊕◌, ◌⊗◌}
 
-  -- an ideal that holds one is everything
-  pub whole : (T : V → Type 0) → IsIdeal A L T → T A.one → Within L T
-  whole T I h x l = subst T (A.mul-one x) (I.left x A.one l h)
-
-  -- an ideal that holds a and J holds what they generate
-  pub generated_in : (T : V → Type 0) → IsIdeal A L T → Within J T → (a : V) → T a → Within (Generated A L J a) T
-  generated_in T I j a h = SumOf_in A (λ x. Around A L a x ⊎ J x) T I.zero_in I.add_in (λ x. ⊎_elim
-      (λ (w : Around A L a x). subst T (sym w.4) (I.right w.1 (w.0 ⊗ a) w.3 (I.left w.0 a w.2 h))) (j x))
-
-  -- a is in the ideal that it generates
-  pub generator : (a : V) → Generated A L J a a
-  generator a = SumOf_one A (λ x. Around A L a x ⊎ J x) a (inl (A.one, A.one, O.one_in, O.one_in, sym (A.mul-one (A.one ⊗ a) ∙ A.one-mul a)))
-
   module _ (S : SimpleByElements A L J) where
     pub simple_by_tests : SimpleQuotient A L J
     simple_by_tests = record {
       proper = λ h. S.proper (h A.one O.one_in);
       nothing_between = λ t IT j. ⊎_elim
-          (λ (h : IsTrue (t A.one)). inr (whole (Test t) IT h))
+          (λ (h : IsTrue (t A.one)). inr (whole A L J O (Test t) IT h))
           (λ (h : IsTrue (t A.one) → ⊥). inl (λ x tx. ⊎_elim (λ w. w)
-          (λ (r : Generated A L J x A.one). absurd (h (generated_in (Test t) IT j x tx A.one r)))
+          (λ (r : Generated A L J x A.one). absurd (h (generated_in A L J O (Test t) IT j x tx A.one r)))
           (S.generates x (IT.inside x tx))))
           (decided (t A.one));
     }
 
     module _ (p : K) (I : IsIdeal A L J) (over : Within (Multiple A p L) J) (e : ℕ) (falls : Within (Power A J e) (Multiple A p L))
         (T : V → Type 0) (IT : IsIdeal A L T) (T_over : Within (Multiple A p L) T) where
-      abbrev Mixed : V → Type 0
-      Mixed x = (a : V) × (b : V) × T a × J b × (x ≡ a ⊕ b)
-
-      Mixed_ideal : IsIdeal A L Mixed
-      Mixed_ideal = record {
-        inside = λ x h. subst L (sym h.4) (O.add_in h.0 h.1 (IT.inside h.0 h.2) (I.inside h.1 h.3));
-        zero_in = (A.zero, A.zero, IT.zero_in, I.zero_in, sym (A.zero-add A.zero));
-        add_in = λ x y h g. (h.0 ⊕ g.0, h.1 ⊕ g.1, IT.add_in h.0 g.0 h.2 g.2, I.add_in h.1 g.1 h.3 g.3, ap₂ A.◌⊕◌ h.4 g.4 ∙ add_add_add_comm A.monoid h.0 h.1 g.0 g.1);
-        left = λ l x hl h. (l ⊗ h.0, l ⊗ h.1, IT.left l h.0 hl h.2, I.left l h.1 hl h.3, ap (λ z. l ⊗ z) h.4 ∙ A.mul-add l h.0 h.1);
-        right = λ l x hl h. (h.0 ⊗ l, h.1 ⊗ l, IT.right l h.0 hl h.2, I.right l h.1 hl h.3, ap (λ z. z ⊗ l) h.4 ∙ A.add-mul h.0 h.1 l);
-      }
-
       -- where T and J make one, T is everything
       absorbed : (a b : V) → T a → J b → A.one ≡ a ⊕ b → (m : ℕ) → Within (Chain A J L m) T → Within L T
       absorbed a b ha hb s zero h = h
@@ -72,7 +48,7 @@ module _ {K V : Type 0} {R : RingOn K} (A : AlgebraOn R V) (L J : V → Type 0) 
       pub one_or_within : (x : V) → T x → J x ⊎ T A.one
       one_or_within x h = ⊎_elim inl
           (λ (r : Generated A L J x A.one).
-          let m = generated_in Mixed Mixed_ideal (λ y hy. (A.zero, y, IT.zero_in, hy, sym (A.zero-add y))) x (x, A.zero, h, I.zero_in, sym (add-zero A.monoid x)) A.one r in
+          let m = generated_in A L J O (IdealSum A T J) (IdealSum_ideal A L O T J IT I) (λ y hy. (A.zero, y, IT.zero_in, hy, sym (A.zero-add y))) x (x, A.zero, h, I.zero_in, sym (add-zero A.monoid x)) A.one r in
           inr (absorbed m.0 m.1 m.2 m.3 m.4 (suc e) (λ y c. T_over y (falls y (chain_in_power A L O J I e y c))) A.one O.one_in))
           (S.generates x (IT.inside x h))
 
