@@ -14,7 +14,7 @@ use Rattle.theory_spaces.proofs.Families.{push, push-below, push-at, below_suc, 
 use Rattle.theory_spaces.proofs.Modules.{InSpan-zero, InSpan-add, InSpan-scale, InSpan-member, InSpan-join_left, InSpan-join_right, InSpan_trans, scale-sum, span_in}
 use Rattle.theory_spaces.proofs.Spaces.{coords_of}
 use Rattle.theory_orders.specs.Uniformizer.{UniformizerOn}
-use Rattle.theory_orders.specs.Orders.{IsOrder, IsIdeal, SumOf, Around, Generated, Multiple, Within, Same, Test, IsMaximalIdeal}
+use Rattle.theory_orders.specs.Orders.{IsOrder, IsIdeal, SumOf, Around, Generated, Multiple, WordProduct, Within, Same, Test, IsMaximalIdeal}
 use Rattle.theory_orders.specs.Lattices.{Lattice}
 use Rattle.theory_orders.proofs.SumsOf.{SumOf_map, SumOf_one, SumOf_add, SumOf_ideal}
 use Rattle.theory_orders.proofs.Multiples.{Multiple-ideal, Multiple-of, of-Multiple}
@@ -22,7 +22,6 @@ use Rattle.theory_orders.proofs.LatticeTests.{decided, in_lattice}
 use Rattle.theory_orders.proofs.Ideals.{ideal_same, whole, generated_in}
 use Rattle.theory_orders.proofs.Scaling.{Lam_scale}
 use Rattle.theory_orders.proofs.Independence.{IsSublattice, IndependentMod, right_sublattice, ideal_sublattice, sub_neg, grow_up, grow_down, at_most}
-use Rattle.theory_orders.proofs.InvertibleIdeals.{Word}
 
 -- not refutable
 abbrev pub NN : Type 0 → Type 0
@@ -279,6 +278,12 @@ module _ {K V : Type 0} (F : FieldOn K) (Z : ValuationOn F) (p q : K) (U : Unifo
         sym (A.mul-scale p (m.1.weights i).0 (os i)) ∙ ap (λ a. a • os i) (F.mul_comm p (m.1.weights i).0) ∙ A.mul-scale (m.1.weights i).0 p (os i));
   }
 
+  pub multiple_same : Same P (Lattice F Z A N (λ i. p • os i))
+  multiple_same = (
+    multiple_lattice,
+    λ x h. span_in RA P P_sub N (λ i. p • os i) (λ i l. (os i, InSpan-member RA N i os l, refl)) x h,
+  )
+
   module _ (Q : V → Type 0) (I : IsIdeal A L Q) (over : Within P Q) where
     Q_sub : Sub Q
     Q_sub = ideal_sublattice F Z p q U A N os O Q I
@@ -331,7 +336,7 @@ module _ {K V : Type 0} (F : FieldOn K) (Z : ValuationOn F) (p q : K) (U : Unifo
   }
 
   abbrev W : List MaximalLattice → V → Type 0
-  W = Word A p q U.pq qp L O members
+  W = WordProduct A L members
 
   descend : (f k : ℕ) → N < k + f → (D : V → Type 0) → RightIdeal D → (u : List MaximalLattice) → Within (W u) D → (x : ℕ → V) → Indep D k x → ((i : ℕ) → i < k → L (x i))
       → ((w : List MaximalLattice) → Within (W w) P → ⊥) → ⊥

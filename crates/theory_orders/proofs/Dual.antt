@@ -32,6 +32,14 @@ use Rattle.theory_orders.proofs.LatticeTests.{over_integers, integral_weights}
 use Rattle.theory_orders.proofs.Scaling.{Lam_scale, Lam_up, lowered}
 use Rattle.theory_orders.proofs.Ramified.{spanning}
 
+module _ {K : Type 0} (F : FieldOn K) (Z : ValuationOn F) where
+  integral_sum : (m : ℕ) (f : ℕ → K) → ((i : ℕ) → i < m → IsIntegral F Z (f i)) → IsIntegral F Z (sum F.monoid m f)
+  integral_sum zero f h = Z.zero_in
+  integral_sum (suc m) f h = Z.add_in (sum F.monoid m f) (f m) (integral_sum m f (λ i l. h i (omega arith))) (h m (omega arith))
+
+  pub integral_times : (m : ℕ) → IsIntegral F Z (times F.monoid m F.one)
+  integral_times m = integral_sum m (λ _. F.one) (λ i l. Z.one_in)
+
 module _ {K V : Type 0} (F : FieldOn K) (Z : ValuationOn F) (A : AlgebraOn F.ring V) (n : ℕ) (B : Basis (module_of A) n)
     (os : ℕ → V) (D : IsOrderAt F Z A n os) where
   infixl 65 ◌⊕◌
@@ -64,13 +72,9 @@ module _ {K V : Type 0} (F : FieldOn K) (Z : ValuationOn F) (A : AlgebraOn F.rin
   os-in : (i : ℕ) → i < n → L (os i)
   os-in i l = InSpan-member (restrict F Z M) n i os l
 
-  integral_sum : (m : ℕ) (f : ℕ → K) → ((i : ℕ) → i < m → In (f i)) → In (sum F.monoid m f)
-  integral_sum zero f h = Z.zero_in
-  integral_sum (suc m) f h = Z.add_in (sum F.monoid m f) (f m) (integral_sum m f (λ i l. h i (omega arith))) (h m (omega arith))
-
   -- traces of the order are integral
   pub trace_integral : (a : V) → L a → In (t a)
-  trace_integral a l = subst In (sym (trace_basis F.cring A n n B E a)) (integral_sum n (λ j. E.coord (a ⊗ os j) j) (λ j k.
+  trace_integral a l = subst In (sym (trace_basis F.cring A n n B E a)) (integral_sum F Z n (λ j. E.coord (a ⊗ os j) j) (λ j k.
       integral_weights F Z M n os D.independent (a ⊗ os j) (O.mul_in a (os j) l (os-in j k)) (E.coord (a ⊗ os j)) (E.expand (a ⊗ os j)) j k))
 
   pub in_dual : Within L (Dual F Z A n B L)
@@ -88,7 +92,7 @@ module _ {K V : Type 0} (F : FieldOn K) (Z : ValuationOn F) (A : AlgebraOn F.rin
       ∙ mat_mul_congr F.ring n C C (mat_mul F.ring n g G.inverse) (delta F.ring) 0 k (λ i _. refl) (λ i j. G.inverts i k j l)
       ∙ mat_mul-delta F.ring n C 0 k l in
       over_integers F Z M n os x c (E.expand x) (λ k l. subst In (weight k l)
-      (integral_sum n (λ j. F.◌⊗◌ (mat_mul F.ring n C g 0 j) (G.inverse j k)) (λ j i.
+      (integral_sum F Z n (λ j. F.◌⊗◌ (mat_mul F.ring n C g 0 j) (G.inverse j k)) (λ j i.
       Z.mul_in (mat_mul F.ring n C g 0 j) (G.inverse j k) (subst In (sym (value j i)) (h (os j) (os-in j i))) (G.integral j k i l))))
 
   pub self_dual_of_unimodular : IsUnimodular F Z A n B os → IsSelfDual F Z A n B L

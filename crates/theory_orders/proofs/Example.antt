@@ -58,8 +58,8 @@ module _ {K : Type 0} (F : FieldOn K) (Z : ValuationOn F) (p q : K) (U : Uniform
   abbrev C : Ex
   C = var 7
 
-  abbrev A : AlgebraOn F.ring V
-  A = record {
+  abbrev pub root_algebra : AlgebraOn F.ring V
+  root_algebra = record {
     ring = record {
       additive = record {
         monoid = record {
@@ -89,13 +89,22 @@ module _ {K : Type 0} (F : FieldOn K) (Z : ValuationOn F) (p q : K) (U : Uniform
     scale-right = λ c x y. ap₂ pair (by_sorted F.cring (env x y x c) (mul X (by C Y)).0 (by C (mul X Y)).0 refl) (by_sorted F.cring (env x y x c) (mul X (by C Y)).1 (by C (mul X Y)).1 refl);
   }
 
+  abbrev pub order_vectors : ℕ → V
+  order_vectors zero = (F.one, F.zero)
+  order_vectors (suc i) = (F.zero, F.one)
+
+  abbrev pub radical_vectors : ℕ → V
+  radical_vectors zero = (p, F.zero)
+  radical_vectors (suc i) = (F.zero, F.one)
+
+  abbrev A : AlgebraOn F.ring V
+  A = root_algebra
+
   abbrev os : ℕ → V
-  os zero = (F.one, F.zero)
-  os (suc i) = (F.zero, F.one)
+  os = order_vectors
 
   abbrev js : ℕ → V
-  js zero = (p, F.zero)
-  js (suc i) = (F.zero, F.one)
+  js = radical_vectors
 
   abbrev In : K → Type 0
   In a = IsTrue (Z.integral a)

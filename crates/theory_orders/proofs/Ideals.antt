@@ -1,11 +1,11 @@
 -- Two-sided ideals of an order: what an element generates, meets and sums, and sets with the same members.
 use Rattle.std.specs.Prelude.{◌≡◌, ◌⊎◌}
-use Rattle.std.proofs.Common.{sym, ◌∙◌, ap, ap₂, subst, inl, ⊎_elim}
+use Rattle.std.proofs.Common.{sym, ◌∙◌, ap, ap₂, subst, inl, inr, ⊎_elim}
 use Rattle.theory_rings.specs.Ring.{RingOn}
 use Rattle.theory_rings.proofs.Rings.RingLaws.{add_add_add_comm}
 use Rattle.theory_spaces.specs.Module.{AlgebraOn}
-use Rattle.theory_orders.specs.Orders.{IsOrder, IsIdeal, Around, Generated, Within, Same}
-use Rattle.theory_orders.proofs.SumsOf.{SumOf_in, SumOf_one}
+use Rattle.theory_orders.specs.Orders.{IsOrder, IsIdeal, Around, Generated, SimpleQuotient, SimpleByElements, Within, Same, Test}
+use Rattle.theory_orders.proofs.SumsOf.{SumOf_in, SumOf_map, SumOf_one}
 
 abbrev pub Both : {V : Type 0} → (V → Type 0) → (V → Type 0) → V → Type 0
 Both I J x = I x × J x
@@ -61,3 +61,17 @@ module _ {K V : Type 0} {R : RingOn K} (A : AlgebraOn R V) where
     -- a is in the ideal that it generates
     pub generator : (a : V) → Generated A L J a a
     generator a = SumOf_one A (λ x. Around A L a x ⊎ J x) a (inl (A.one, A.one, O.one_in, O.one_in, sym (A.mul-one (A.one ⊗ a) ∙ A.one-mul a)))
+
+  module _ (L I J : V → Type 0) (e : Same I J) where
+    pub simple_same : SimpleQuotient A L I → SimpleQuotient A L J
+    simple_same S = record {
+      proper = λ h. S.proper (λ x l. e.1 x (h x l));
+      nothing_between = λ t T h. ⊎_elim (λ (w : Within (Test t) I). inl (λ x tx. e.0 x (w x tx))) inr (S.nothing_between t T (λ x i. h x (e.0 x i)));
+    }
+
+    pub elements_same : SimpleByElements A L I → SimpleByElements A L J
+    elements_same S = record {
+      proper = λ h. S.proper (e.1 A.one h);
+      generates = λ a l. ⊎_elim (λ i. inl (e.0 a i))
+          (λ r. inr (SumOf_map A (λ x. Around A L a x ⊎ I x) (λ x. Around A L a x ⊎ J x) (λ x. ⊎_elim inl (λ i. inr (e.0 x i))) A.one r)) (S.generates a l);
+    }

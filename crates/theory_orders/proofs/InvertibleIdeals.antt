@@ -8,7 +8,7 @@ use Rattle.theory_rings.proofs.Rings.RingLaws.{mul-zero, zero-mul}
 use Rattle.theory_rings.proofs.Powers.Powers.{power_last}
 use Rattle.theory_spaces.specs.Module.{AlgebraOn, module_of}
 use Rattle.theory_spaces.proofs.Modules.{scale-zero}
-use Rattle.theory_orders.specs.Orders.{IsOrder, IsIdeal, SumOf, Product, Products, Around, Generated, Multiple, LeftOrder, Inverse, SimpleByElements, Within}
+use Rattle.theory_orders.specs.Orders.{IsOrder, IsIdeal, SumOf, Product, Products, Around, Generated, Multiple, WordProduct, LeftOrder, Inverse, SimpleByElements, Within}
 use Rattle.theory_orders.proofs.SumsOf.{SumOf_in, SumOf_map, SumOf_zero, SumOf_one, SumOf_add, SumOf_left, SumOf_right}
 use Rattle.theory_orders.proofs.Multiples.{up, up-left, up-right, up-plus, up-add, up-zero, Multiple-of, of-Multiple}
 use Rattle.theory_orders.proofs.Chains.{Chain, Chain_first, Chain_last, Chain_unlast, Chain_left, Chain_right, Chain_left_of, Chain_right_of, Chain_inside}
@@ -325,14 +325,9 @@ module _ {K V : Type 0} {R : RingOn K} (A : AlgebraOn R V) (p q : K) (pq : R.◌
         (SumOf_one A (Ch (suc e)) (u ⊗ (p • y)) (Chain_last A L O M I e u (p • y) w.2 (h (p • y) co))))
         A.one (right_powers r e))
 
-  -- products of members of ideals; the last factor stands first in the word
   module _ {X : Type 0} (M : X → V → Type 0) where
-    abbrev pub Word : List X → V → Type 0
-    Word [] x = L x
-    Word (i ∷ u) x = (y : V) × (m : V) × Word u y × M i m × (x ≡ y ⊗ m)
-
     -- where a word falls into p·L, some letter has an inverse from both sides
-    pub some_invertible : (H : (i : X) → MaximalIdeal (M i)) → (Multiple A p L A.one → ⊥) → (u : List X) → Within (Word u) (Multiple A p L)
+    pub some_invertible : (H : (i : X) → MaximalIdeal (M i)) → (Multiple A p L A.one → ⊥) → (u : List X) → Within (WordProduct A L M u) (Multiple A p L)
         → ((i : X) → LeftUnit (M i) (H i) → RightUnit (M i) (H i) → ⊥) → ⊥
     some_invertible H proper [] f stop = proper (f A.one O.one_in)
     some_invertible H proper (i ∷ u) f stop =

@@ -19,3 +19,6 @@ pub mod Approximation
 pub mod Composition
 pub mod PowerOfOne
 pub mod OnlyIdeal
+pub mod Settled
+pub mod MaximalOrders
+pub mod LeftOrders

@@ -12,7 +12,7 @@ use Rattle.theory_spaces.proofs.Modules.{scale-zero, InSpan-zero, InSpan-add, In
 use Rattle.theory_spaces.proofs.Spaces.{coords_of}
 use Rattle.theory_spaces.proofs.PairIndex.{pair-lt, row-lt, column-lt}
 use Rattle.theory_orders.specs.Uniformizer.{UniformizerOn}
-use Rattle.theory_orders.specs.Orders.{IsOrder, IsIdeal, SumOf, Product, Products, Power, Multiple, Radical, LeftOrder, Inverse, SimpleQuotient, SimpleByElements, IsMaximalIdeal, IsInvertible, OnlyMaximalIdeal, Within, Same, Test}
+use Rattle.theory_orders.specs.Orders.{IsOrder, IsIdeal, SumOf, Product, Products, Power, Multiple, WordProduct, Radical, LeftOrder, Inverse, SimpleQuotient, SimpleByElements, IsMaximalIdeal, IsInvertible, OnlyMaximalIdeal, Within, Same, Test}
 use Rattle.theory_orders.specs.Lattices.{Lattice, IsOrderAt, NothingGrows}
 use Rattle.theory_orders.specs.Ramified.{IsRamified}
 use Rattle.theory_orders.proofs.SumsOf.{SumOf_in, SumOf_map, SumOf_zero, SumOf_one, SumOf_add, SumOf_left, SumOf_right}
@@ -23,8 +23,8 @@ use Rattle.theory_orders.proofs.LatticeTests.{decided, pairs_of, pairs_of-at, la
 use Rattle.theory_orders.proofs.SimpleQuotients.{simple_by_elements, radical_of_simple, one_or_within, nilpotent_within, mul_lattice, lattice_mul}
 use Rattle.theory_orders.proofs.Scaling.{Lam_scale}
 use Rattle.theory_orders.proofs.Independence.{ideal_sublattice}
-use Rattle.theory_orders.proofs.InvertibleIdeals.{MaximalIdeal, LeftUnit, RightUnit, M_X, X_left, Word, some_invertible}
-use Rattle.theory_orders.proofs.Composition.{NN, decide_in, multiple_lattice, MaximalLattice, members, some_word}
+use Rattle.theory_orders.proofs.InvertibleIdeals.{MaximalIdeal, LeftUnit, RightUnit, M_X, X_left, some_invertible}
+use Rattle.theory_orders.proofs.Composition.{NN, decide_in, multiple_same, MaximalLattice, members, some_word}
 use Rattle.theory_orders.proofs.PowerOfOne.{S, S_over, bounded, power_of_nilpotent, power_of_central}
 
 -- the first n numbers are searched for one that has a property
@@ -218,18 +218,12 @@ module _ {K V : Type 0} (F : FieldOn K) (Z : ValuationOn F) (p q : K) (U : Unifo
           ),
         )
 
-    multiple_same : Same P (Lat N (λ i. p • os i))
-    multiple_same = (
-      multiple_lattice F Z p q U A N B os O,
-      λ x h. span_in RA P (ideal_sublattice F Z p q U A N os O P P_ideal) N (λ i. p • os i) (λ i l. (os i, InSpan-member RA N i os l, refl)) x h,
-    )
-
     -- whether a power is p times the order
     decide_power : (k : ℕ) → Same (Power A J k) P ⊎ (Same (Power A J k) P → ⊥)
     decide_power k =
         let w = power_lattice k in
         let e = w.2 in
-        let d = multiple_same in
+        let d = multiple_same F Z p q U A N B os O in
         ⊎_elim
         (λ (h : Within (Lat w.0 w.1) (Lat N (λ i. p • os i))). ⊎_elim
         (λ (h' : Within (Lat N (λ i. p • os i)) (Lat w.0 w.1)). inl ((λ x y. d.1 x (h x (e.0 x y))), λ x y. e.1 x (h' x (d.0 x y))))
@@ -267,7 +261,7 @@ module _ {K V : Type 0} (F : FieldOn K) (Z : ValuationOn F) (p q : K) (U : Unifo
         rep zero = []
         rep (suc k) = tt ∷ rep k
 
-        chain_of : (k : ℕ) (x : V) → Word A p q U.pq qp L O (λ (i : Unit {0}). J) (rep k) x → Chain A J L k x
+        chain_of : (k : ℕ) (x : V) → WordProduct A L (λ (i : Unit {0}). J) (rep k) x → Chain A J L k x
         chain_of zero x w = w
         chain_of (suc k) x w = subst (Chain A J L (suc k)) (sym w.4) (Chain_last A L O J I k w.0 w.1 (chain_of k w.0 w.2) w.3)
 
@@ -278,12 +272,25 @@ module _ {K V : Type 0} (F : FieldOn K) (Z : ValuationOn F) (p q : K) (U : Unifo
       some_invertible A p q U.pq qp L O (members F Z p q U A N B os O) (λ i. to_maximal i.0 i.1 i.2 (ng i.0 i.1 i.2)) proper w falls
       (λ i l r. power_of_units i.0 i.1 i.2 (ng i.0 i.1 i.2) ct l r (stop i)))
 
+  -- of two maximal lattices one has the powers of the other
+  shared_power : (n : ℕ) (g : ℕ → V) → IsMaximalIdeal A p L (Lat n g) → (k : ℕ) (h : ℕ → V) → IsMaximalIdeal A p L (Lat k h) → Within (LeftOrder A (Lat k h)) L
+      → (e : ℕ) → Same (Power A (Lat k h) e) P → Same (Power A (Lat n g) e) P
+  shared_power n g m k h d left e pw =
+      let s = only k h d left e pw (Lat n g) m in
+      let t = power_same (Lat n g) (Lat k h) s e in
+      (λ x y. pw.0 x (t.0 x y), λ x y. t.1 x (pw.1 x y))
+
   -- each maximal ideal is that one
   pub exactly_one : Central A → NothingGrows F Z A p L → (n : ℕ) (g : ℕ → V) → IsMaximalIdeal A p L (Lat n g) → OnlyMaximalIdeal A p L (Lat n g)
   exactly_one ct ng n g m = only_of n g m (ng n g m) (λ stop. some_power ct ng (p_not_one (Lat n g) m) (λ i e l pw.
-      let s = only i.0 i.1 i.2 (ng i.0 i.1 i.2) e pw (Lat n g) m in
-      let t = power_same (Lat n g) (Lat i.0 i.1) s e in
-      stop e l (λ x h. pw.0 x (t.0 x h), λ x h. t.1 x (pw.1 x h))))
+      stop e l (shared_power n g m i.0 i.1 i.2 (ng i.0 i.1 i.2) e pw)))
+
+  -- the maximal ideals of a family with a product in p times the order are one
+  pub one_in_family : Central A → (size : ℕ → ℕ) (gen : ℕ → ℕ → V) → ((i : ℕ) → IsMaximalIdeal A p L (Lat (size i) (gen i))) → ((i : ℕ) → Within (LeftOrder A (Lat (size i) (gen i))) L)
+      → (w : List ℕ) → Within (WordProduct A L (λ i. Lat (size i) (gen i)) w) P → (i : ℕ) → OnlyMaximalIdeal A p L (Lat (size i) (gen i))
+  one_in_family ct size gen m left w falls i = only_of (size i) (gen i) (m i) (left i) (λ stop.
+      some_invertible A p q U.pq qp L O (λ k. Lat (size k) (gen k)) (λ k. to_maximal (size k) (gen k) (m k) (left k)) (p_not_one (Lat (size i) (gen i)) (m i)) w falls
+      (λ k l r. power_of_units (size k) (gen k) (m k) (left k) ct l r (λ e b pw. stop e b (shared_power (size i) (gen i) (m i) (size k) (gen k) (m k) (left k) e pw))))
 
   -- the radical is maximal
   pub maximal_of_radical : Central A → NothingGrows F Z A p L → (n : ℕ) (g : ℕ → V) → Radical A p L (Lat n g) → (Lat n g A.one → ⊥) → IsMaximalIdeal A p L (Lat n g)

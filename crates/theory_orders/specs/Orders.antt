@@ -1,7 +1,7 @@
 -- Sets of elements of an algebra, as facts about an element: orders, two-sided ideals with their sums, products and
 -- powers, the radical, left orders, simple quotients, maximal and invertible ideals. (Reiner, Maximal Orders, chapters 1,
 -- 2 and 9.)
-use Rattle.std.specs.Prelude.{◌≡◌, ℕ, zero, suc, ◌<◌, ◌⊎◌, Bool, IsTrue}
+use Rattle.std.specs.Prelude.{◌≡◌, ℕ, zero, suc, ◌<◌, ◌⊎◌, Bool, IsTrue, List, [], ◌∷◌}
 use Rattle.theory_rings.specs.Ring.{RingOn}
 use Rattle.theory_rings.specs.Sum.{sum}
 use Rattle.theory_spaces.specs.Module.{AlgebraOn}
@@ -58,6 +58,11 @@ module _ {K V : Type 0} {R : RingOn K} (A : AlgebraOn R V) where
   abbrev pub Power : (V → Type 0) → ℕ → V → Type 0
   Power J zero = J
   Power J (suc e) = Products (Power J e) J
+
+  -- a product of members of the sets of a word, one of L first; the last factor stands first in the word
+  abbrev pub WordProduct : {X : Type 0} → (V → Type 0) → (X → V → Type 0) → List X → V → Type 0
+  WordProduct L M [] x = L x
+  WordProduct L M (i ∷ u) x = (y : V) × (m : V) × WordProduct L M u y × M i m × (x ≡ y ⊗ m)
 
   -- p·L
   abbrev pub Multiple : K → (V → Type 0) → V → Type 0

@@ -1,0 +1,11 @@
+use Rattle.theory_orders.proofs.Settled.{self_dual, self_dual_or_ramified, unit_of_characteristic}
+use Rattle.theory_orders.proofs.dual_laws.self_dual_where_nothing_grows.Goals as goal
+
+pub returns-clause-simple : goal.returns-clause-simple
+returns-clause-simple g c = let a = g.A.PlacedAlgebra in self_dual a.field a.valuation a.p a.q a.uniformizer a.algebra a.dimension a.basis
+
+pub returns-clause-characteristic : goal.returns-clause-characteristic
+returns-clause-characteristic g c = λ k prime char out. let a = g.A.PlacedAlgebra in unit_of_characteristic a.field a.valuation k prime char a.dimension out
+
+pub returns-clause-settled : goal.returns-clause-settled
+returns-clause-settled g c = let a = g.A.PlacedAlgebra in self_dual_or_ramified a.field a.valuation a.p a.q a.uniformizer a.algebra a.dimension a.basis
