@@ -24,8 +24,8 @@ use Rattle.theory_orders.proofs.Scaling.{Lam_scale}
 use Rattle.theory_orders.proofs.Independence.{IsSublattice, IndependentMod, right_sublattice, ideal_sublattice, sub_neg, grow_up, grow_down, at_most}
 
 -- not refutable
-abbrev pub NN : Type 0 → Type 0
-NN X = (X → ⊥) → ⊥
+abbrev pub NotNot : Type 0 → Type 0
+NotNot X = (X → ⊥) → ⊥
 
 module _ {K V : Type 0} (F : FieldOn K) (Z : ValuationOn F) (p q : K) (U : UniformizerOn F Z p q)
     (A : AlgebraOn F.ring V) (N : ℕ) (B : Basis (module_of A) N) (os : ℕ → V) (O : IsOrder A (Lattice F Z A N os)) where
@@ -68,7 +68,7 @@ module _ {K V : Type 0} (F : FieldOn K) (Z : ValuationOn F) (p q : K) (U : Unifo
   pub decide_in : (n : ℕ) (g : ℕ → V) (x : V) → Lattice F Z A n g x ⊎ (Lattice F Z A n g x → ⊥)
   decide_in = in_lattice F Z M N (coords_of M N B)
 
-  pub P_stable : (x : V) → NN (P x) → P x
+  pub P_stable : (x : V) → NotNot (P x) → P x
   P_stable x h = ⊎_elim (λ l. Multiple-of A p q U.pq qp L x l) (λ (n : L (q • x) → ⊥). absurd (h (λ m. n (of-Multiple A p q U.pq qp L x m)))) (decide_in N os (q • x))
 
   pub record RightIdeal (C : V → Type 0) : Type 0 where
@@ -77,7 +77,7 @@ module _ {K V : Type 0} (F : FieldOn K) (Z : ValuationOn F) (p q : K) (U : Unifo
     pub zero_in : C A.zero
     pub add_in : (x y : V) → C x → C y → C (x ⊕ y)
     pub right : (x l : V) → C x → L l → C (x ⊗ l)
-    pub stable : (x : V) → NN (C x) → C x
+    pub stable : (x : V) → NotNot (C x) → C x
 
   sub_of : (C : V → Type 0) → RightIdeal C → Sub C
   sub_of C R = right_sublattice F Z p q U A N os O C R.zero_in R.add_in R.right
@@ -110,12 +110,12 @@ module _ {K V : Type 0} (F : FieldOn K) (Z : ValuationOn F) (p q : K) (U : Unifo
 
   -- each member of D outside of C generates D up to C
   abbrev Covers : (V → Type 0) → (V → Type 0) → Type 0
-  Covers D C = (s : V) → D s → (C s → ⊥) → (y : V) → D y → NN ((l : V) × L l × C (y ⊕ neg (s ⊗ l)))
+  Covers D C = (s : V) → D s → (C s → ⊥) → (y : V) → D y → NotNot ((l : V) × L l × C (y ⊕ neg (s ⊗ l)))
 
   -- C with one more generator
   module _ (C : V → Type 0) (RC : RightIdeal C) (s : V) (ls : L s) where
     abbrev More : V → Type 0
-    More z = NN ((l : V) × (c : V) × L l × C c × (z ≡ s ⊗ l ⊕ c))
+    More z = NotNot ((l : V) × (c : V) × L l × C c × (z ≡ s ⊗ l ⊕ c))
 
     More_of : Within C More
     More_of c h stop = stop (A.zero, c, O.zero_in, h, sym (ap (λ z. z ⊕ c) (mul-zero A.ring s) ∙ A.zero-add c))
@@ -196,7 +196,7 @@ module _ {K V : Type 0} (F : FieldOn K) (Z : ValuationOn F) (p q : K) (U : Unifo
       abbrev Fixes : V → V → Type 0
       Fixes t b = C (b ⊕ neg (b ⊗ t))
 
-      fixed : (b0 : V) → D b0 → (C (b0 ⊗ a) → ⊥) → (b : V) → D b → NN ((t : V) × T t × Fixes t b)
+      fixed : (b0 : V) → D b0 → (C (b0 ⊗ a) → ⊥) → (b : V) → D b → NotNot ((t : V) × T t × Fixes t b)
       fixed b0 h0 n0 b hb stop =
           let zero_case : C b → ⊥ = λ h. stop (
             A.zero,
@@ -216,7 +216,7 @@ module _ {K V : Type 0} (F : FieldOn K) (Z : ValuationOn F) (p q : K) (U : Unifo
           stop (t, SumOf_one A (Around A L a) t (l, v.0, w.1, v.1, refl), subst C (ap (λ z. b ⊕ neg z) (A.mul_assoc b (l ⊗ a) v.0)) v.2)))
 
       -- one t for finitely many
-      all_fixed : (b0 : V) → D b0 → (C (b0 ⊗ a) → ⊥) → (n : ℕ) (b : ℕ → V) → ((i : ℕ) → i < n → D (b i)) → NN ((t : V) × T t × ((i : ℕ) → i < n → Fixes t (b i)))
+      all_fixed : (b0 : V) → D b0 → (C (b0 ⊗ a) → ⊥) → (n : ℕ) (b : ℕ → V) → ((i : ℕ) → i < n → D (b i)) → NotNot ((t : V) × T t × ((i : ℕ) → i < n → Fixes t (b i)))
       all_fixed b0 h0 n0 zero b hb stop = stop (A.zero, T_ideal.zero_in, λ i l. absurd (omega arith))
       all_fixed b0 h0 n0 (suc n) b hb stop = all_fixed b0 h0 n0 n b (λ i l. hb i (omega arith)) (λ r.
           let t = r.0 in
@@ -239,7 +239,7 @@ module _ {K V : Type 0} (F : FieldOn K) (Z : ValuationOn F) (p q : K) (U : Unifo
                 (subst C (same bn) w.2),
           )))
 
-      pub Ann_generates : (Ann a → ⊥) → NN (Generated A L Ann a A.one)
+      pub Ann_generates : (Ann a → ⊥) → NotNot (Generated A L Ann a A.one)
       Ann_generates out stop = out (
         la,
         λ b0 h0. RC.stable (b0 ⊗ a) (λ n0.
@@ -318,7 +318,7 @@ module _ {K V : Type 0} (F : FieldOn K) (Z : ValuationOn F) (p q : K) (U : Unifo
   members i = Lattice F Z A i.0 i.1
 
   -- an ideal over p·L that is a lattice is maximal where each element outside cannot but generate one with it
-  pub maximal_of : (Q : V → Type 0) → IsIdeal A L Q → Within P Q → (Q A.one → ⊥) → ((a : V) → L a → (Q a → ⊥) → NN (Generated A L Q a A.one))
+  pub maximal_of : (Q : V → Type 0) → IsIdeal A L Q → Within P Q → (Q A.one → ⊥) → ((a : V) → L a → (Q a → ⊥) → NotNot (Generated A L Q a A.one))
       → (n : ℕ) (g : ℕ → V) → Same Q (Lattice F Z A n g) → IsMaximalIdeal A p L (Lattice F Z A n g)
   maximal_of Q I over proper generates n g e = record {
     ideal = ideal_same A L Q (Lattice F Z A n g) e I;

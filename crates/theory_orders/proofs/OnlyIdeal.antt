@@ -12,28 +12,28 @@ use Rattle.theory_spaces.proofs.Modules.{scale-zero, InSpan-zero, InSpan-add, In
 use Rattle.theory_spaces.proofs.Spaces.{coords_of}
 use Rattle.theory_spaces.proofs.PairIndex.{pair-lt, row-lt, column-lt}
 use Rattle.theory_orders.specs.Uniformizer.{UniformizerOn}
-use Rattle.theory_orders.specs.Orders.{IsOrder, IsIdeal, SumOf, Product, Products, Power, Multiple, WordProduct, Radical, LeftOrder, Inverse, SimpleQuotient, SimpleByElements, IsMaximalIdeal, IsInvertible, OnlyMaximalIdeal, Within, Same, Test}
+use Rattle.theory_orders.specs.Orders.{IsOrder, IsIdeal, SumOf, Product, Products, Power, Multiple, WordProduct, Generated, Radical, LeftOrder, Inverse, SimpleQuotient, SimpleByElements, IsMaximalIdeal, IsInvertible, OnlyMaximalIdeal, Within, Same, Test}
 use Rattle.theory_orders.specs.Lattices.{Lattice, IsOrderAt, NothingGrows}
 use Rattle.theory_orders.specs.Ramified.{IsRamified}
 use Rattle.theory_orders.proofs.SumsOf.{SumOf_in, SumOf_map, SumOf_zero, SumOf_one, SumOf_add, SumOf_left, SumOf_right}
-use Rattle.theory_orders.proofs.Ideals.{ideal_same, whole}
+use Rattle.theory_orders.proofs.Ideals.{ideal_same, whole, generated_in}
 use Rattle.theory_orders.proofs.Multiples.{Multiple-ideal, cancel_scale, of-Multiple}
-use Rattle.theory_orders.proofs.Chains.{Chain, Chain_last, Chain_unlast, chain_in_power, power_in_chains, power_chains}
+use Rattle.theory_orders.proofs.Chains.{Chain, Chain_last, Chain_unlast, chain_in_power, power_in_chains, power_chains, Chain_fewer}
 use Rattle.theory_orders.proofs.LatticeTests.{decided, pairs_of, pairs_of-at, lattice_test, lattice_test-in, in-lattice_test, lattice_within}
 use Rattle.theory_orders.proofs.SimpleQuotients.{simple_by_elements, radical_of_simple, one_or_within, nilpotent_within, mul_lattice, lattice_mul}
 use Rattle.theory_orders.proofs.Scaling.{Lam_scale}
 use Rattle.theory_orders.proofs.Independence.{ideal_sublattice}
 use Rattle.theory_orders.proofs.InvertibleIdeals.{MaximalIdeal, LeftUnit, RightUnit, M_X, X_left, some_invertible}
-use Rattle.theory_orders.proofs.Composition.{NN, decide_in, multiple_same, MaximalLattice, members, some_word}
+use Rattle.theory_orders.proofs.Composition.{NotNot, decide_in, multiple_same, MaximalLattice, members, some_word}
 use Rattle.theory_orders.proofs.PowerOfOne.{S, S_over, bounded, power_of_nilpotent, power_of_central}
 
 -- the first n numbers are searched for one that has a property
-search : (n : ℕ) (Q : ℕ → Type 0) → ((k : ℕ) → Q k ⊎ (Q k → ⊥)) → ((k : ℕ) × Q k) ⊎ ((k : ℕ) → k < n → Q k → ⊥)
-search zero Q d = inr (λ k l h. absurd (omega arith))
-search (suc n) Q d = ⊎_elim inl
+find_below : (n : ℕ) (Q : ℕ → Type 0) → ((k : ℕ) → Q k ⊎ (Q k → ⊥)) → ((k : ℕ) × Q k) ⊎ ((k : ℕ) → k < n → Q k → ⊥)
+find_below zero Q d = inr (λ k l h. absurd (omega arith))
+find_below (suc n) Q d = ⊎_elim inl
     (λ (none : (k : ℕ) → k < n → Q k → ⊥). ⊎_elim (λ h. inl (n, h))
     (λ (out : Q n → ⊥). inr (λ k l h. ⊎_elim (λ (g : k < n). none k g h) (λ (g : n ≤ k). let e : k ≡ n = omega arith in out (subst Q e h)) (cases_lt k n))) (d n))
-    (search n Q d)
+    (find_below n Q d)
 
 module _ {K V : Type 0} (F : FieldOn K) (Z : ValuationOn F) (p q : K) (U : UniformizerOn F Z p q)
     (A : AlgebraOn F.ring V) (N : ℕ) (B : Basis (module_of A) N) (os : ℕ → V) (D : IsOrderAt F Z A N os) where
@@ -69,7 +69,7 @@ module _ {K V : Type 0} (F : FieldOn K) (Z : ValuationOn F) (p q : K) (U : Unifo
   P_ideal : IsIdeal A L P
   P_ideal = Multiple-ideal A p L O (λ x l. Lam_scale F Z p q U A N os O p x U.p_in l)
 
-  stable : (n : ℕ) (g : ℕ → V) (x : V) → NN (Lat n g x) → Lat n g x
+  stable : (n : ℕ) (g : ℕ → V) (x : V) → NotNot (Lat n g x) → Lat n g x
   stable n g x h = ⊎_elim (λ l. l) (λ out. absurd (h out)) (decide_in F Z p q U A N B os O n g x)
 
   to_maximal : (n : ℕ) (g : ℕ → V) → IsMaximalIdeal A p L (Lat n g) → Within (LeftOrder A (Lat n g)) L → MaximalIdeal A p q U.pq qp L O (Lat n g)
@@ -236,7 +236,7 @@ module _ {K V : Type 0} (F : FieldOn K) (Z : ValuationOn F) (p q : K) (U : Unifo
     only_of h = ⊎_elim
         (λ (w : (e : ℕ) × Same (Power A J e) P). only_maximal w.0 w.1)
         (λ (none : (e : ℕ) → e < N → Same (Power A J e) P → ⊥). absurd (h none))
-        (search N (λ e. Same (Power A J e) P) decide_power)
+        (find_below N (λ e. Same (Power A J e) P) decide_power)
 
     -- a power, from a sum of products
     power_from : LeftUnit A p q U.pq qp L O J H → ((e : ℕ) → e < N → Same (Power A J e) P → ⊥)
@@ -291,6 +291,34 @@ module _ {K V : Type 0} (F : FieldOn K) (Z : ValuationOn F) (p q : K) (U : Unifo
   one_in_family ct size gen m left w falls i = only_of (size i) (gen i) (m i) (left i) (λ stop.
       some_invertible A p q U.pq qp L O (λ k. Lat (size k) (gen k)) (λ k. to_maximal (size k) (gen k) (m k) (left k)) (p_not_one (Lat (size i) (gen i)) (m i)) w falls
       (λ k l r. power_of_units (size k) (gen k) (m k) (left k) ct l r (λ e b pw. stop e b (shared_power (size i) (gen i) (m i) (size k) (gen k) (m k) (left k) e pw))))
+
+  -- maximal ideals by elements, of which some product lies in p times the order, are one
+  module _ (ct : Central A) {Y : Type 0} (G : Y → V → Type 0) (I : (i : Y) → IsIdeal A L (G i)) (over : (i : Y) → Within P (G i))
+      (E : (i : Y) → SimpleByElements A L (G i)) (left : (i : Y) → Within (LeftOrder A (G i)) L) where
+    as_maximal : (i : Y) → MaximalIdeal A p q U.pq qp L O (G i)
+    as_maximal i = record { ideal = I i; over = λ x l. over i (p • x) (x, l, refl); simple = E i; left_order = left i }
+
+    -- such an ideal is stable
+    ideal_stable : (i : Y) (x : V) → NotNot (G i x) → G i x
+    ideal_stable i x h =
+        let lx : L x = stable N os x (λ out. h (λ w. out ((I i).inside x w))) in
+        ⊎_elim (λ w. w) (λ (r : Generated A L (G i) x A.one).
+        absurd (h (λ w. (E i).proper (generated_in A L (G i) O (G i) (I i) (λ y j. j) x w A.one r)))) ((E i).generates x lx)
+
+    pub same_in_family : (w : List Y) → Within (WordProduct A L G w) P → (i k : Y) → Same (G i) (G k)
+    same_in_family w falls i k = (half i k, half k i)
+      where
+        half : (i k : Y) → Within (G i) (G k)
+        half i k x h = ideal_stable k x (λ out.
+            some_invertible A p q U.pq qp L O G as_maximal (λ m. (E i).proper (over i A.one m)) w falls (λ j l r.
+            power_of_central F Z p q U A N B os D (G j) (as_maximal j) (ideal_stable j) ct l r (λ e at fall.
+            let Jp : Within (Power A (G j) e) P = λ y hy. SumOf_in A (Chain A (G j) L (suc e)) P P_ideal.zero_in P_ideal.add_in
+            (λ z c. fall z (Chain_fewer A L O (G j) (I j) e z c)) y (power_in_chains A L O (G j) (I j) e y hy) in
+            let to_j : (t : Y) → Within (G t) (G j) = λ t y hy. ⊎_elim (λ v. v) (λ (v : G t A.one). absurd ((E t).proper v))
+            (one_or_within A L (G j) O (E j) p (I j) (over j) e Jp (G t) (I t) (over t) y hy) in
+            ⊎_elim out (λ (r : Generated A L (G k) x A.one).
+            (E j).proper (generated_in A L (G k) O (G j) (I j) (to_j k) x (to_j i x h) A.one r))
+            ((E k).generates x ((I i).inside x h)))))
 
   -- the radical is maximal
   pub maximal_of_radical : Central A → NothingGrows F Z A p L → (n : ℕ) (g : ℕ → V) → Radical A p L (Lat n g) → (Lat n g A.one → ⊥) → IsMaximalIdeal A p L (Lat n g)

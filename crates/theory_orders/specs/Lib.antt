@@ -5,3 +5,7 @@ pub mod Dual
 pub mod Ramified
 pub mod Split
 pub mod Tables
+pub mod OrderLaws
+pub mod DualLaws
+pub mod MaximalIdealLaws
+pub mod RamifiedLaws

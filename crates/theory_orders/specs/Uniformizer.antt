@@ -9,7 +9,7 @@ module _ {K : Type 0} (F : FieldOn K) (Z : ValuationOn F) where
   abbrev pub IsIntegral : K → Type 0
   IsIntegral a = IsTrue (Z.integral a)
 
-  -- a and its inverse are integral
+  -- a is not 0 and its inverse is integral; such an integral element is a unit
   abbrev pub IsUnit : K → Type 0
   IsUnit a = (a ≡ F.zero → ⊥) × IsIntegral (F.inv a)
 

@@ -1,8 +1,12 @@
 // Theorems on the maximal ideals of an order over p times it.
-ghost use Rattle.std.specs.Prelude.{ℕ, List};
+ghost use Rattle.std.specs.Prelude.{ℕ};
+ghost use Rattle.theory_rings.specs.Ring.{FieldOn};
+ghost use Rattle.theory_spaces.specs.Module.{AlgebraOn, module_of};
+ghost use Rattle.theory_spaces.specs.Linear.{Basis};
 ghost use Rattle.theory_spaces.specs.Algebra.{Central};
-ghost use Rattle.theory_orders.specs.Orders.{IsMaximalIdeal, OnlyMaximalIdeal, LeftOrder, Multiple, Radical, Within, WordProduct};
-ghost use Rattle.theory_orders.specs.Lattices.{Lattice, IsOrderAt, NothingGrows};
+ghost use Rattle.theory_spaces.specs.Valuation.{ValuationOn};
+ghost use Rattle.theory_orders.specs.Uniformizer.{UniformizerOn};
+ghost use Rattle.theory_orders.specs.MaximalIdealLaws.{MaximalIsOnly, RadicalIsOnly, FamilyIsOnly, FamilyIsOne};
 
 use crate::order_laws::PlacedAlgebra;
 
@@ -10,20 +14,41 @@ use crate::order_laws::PlacedAlgebra;
 /// radical and invertible, and p·Λ is a power of it. Each maximal ideal is that one, and so is the radical, unless it is Λ.
 /// It is enough that the maximal ideals of a family do not grow, of which some product lies in p·Λ.
 pub fn exactly_one_maximal_ideal<A: PlacedAlgebra>()
-    ensures each { (v : ℕ → A.Vector) → IsOrderAt A.field A.valuation A.algebra A.dimension v → Central A.algebra
-        → NothingGrows A.field A.valuation A.algebra A.p (Lattice A.field A.valuation A.algebra A.dimension v)
-        → (n : ℕ) (w : ℕ → A.Vector) → IsMaximalIdeal A.algebra A.p (Lattice A.field A.valuation A.algebra A.dimension v) (Lattice A.field A.valuation A.algebra n w)
-        → OnlyMaximalIdeal A.algebra A.p (Lattice A.field A.valuation A.algebra A.dimension v) (Lattice A.field A.valuation A.algebra n w) }
-    ensures radical { (v : ℕ → A.Vector) → IsOrderAt A.field A.valuation A.algebra A.dimension v → Central A.algebra
-        → NothingGrows A.field A.valuation A.algebra A.p (Lattice A.field A.valuation A.algebra A.dimension v)
-        → (n : ℕ) (w : ℕ → A.Vector) → Radical A.algebra A.p (Lattice A.field A.valuation A.algebra A.dimension v) (Lattice A.field A.valuation A.algebra n w)
-        → (Lattice A.field A.valuation A.algebra n w A.algebra.one → ⊥)
-        → OnlyMaximalIdeal A.algebra A.p (Lattice A.field A.valuation A.algebra A.dimension v) (Lattice A.field A.valuation A.algebra n w) }
-    ensures family { (v : ℕ → A.Vector) → IsOrderAt A.field A.valuation A.algebra A.dimension v → Central A.algebra
-        → (n : ℕ → ℕ) (w : ℕ → ℕ → A.Vector)
-        → ((i : ℕ) → IsMaximalIdeal A.algebra A.p (Lattice A.field A.valuation A.algebra A.dimension v) (Lattice A.field A.valuation A.algebra (n i) (w i)))
-        → ((i : ℕ) → Within (LeftOrder A.algebra (Lattice A.field A.valuation A.algebra (n i) (w i))) (Lattice A.field A.valuation A.algebra A.dimension v))
-        → (word : List ℕ) → Within (WordProduct A.algebra (Lattice A.field A.valuation A.algebra A.dimension v) (λ i. Lattice A.field A.valuation A.algebra (n i) (w i)) word)
-        (Multiple A.algebra A.p (Lattice A.field A.valuation A.algebra A.dimension v))
-        → (i : ℕ) → OnlyMaximalIdeal A.algebra A.p (Lattice A.field A.valuation A.algebra A.dimension v) (Lattice A.field A.valuation A.algebra (n i) (w i)) }
+    ensures each { Central A.algebra → MaximalIsOnly A.field A.valuation A.p A.algebra A.dimension }
+    ensures radical { Central A.algebra → RadicalIsOnly A.field A.valuation A.p A.algebra A.dimension }
+    ensures family { Central A.algebra → FamilyIsOnly A.field A.valuation A.p A.algebra A.dimension }
+{}
+
+/// A family of sets of elements of an algebra with a basis over a field with a valuation ring and a uniformizer p, which
+/// has the inverse q.
+pub trait IdealFamily {
+    ghost Scalar: { Type 0 };
+
+    ghost Vector: { Type 0 };
+
+    ghost Index: { Type 0 };
+
+    ghost field: { FieldOn Scalar };
+
+    ghost valuation: { ValuationOn field };
+
+    ghost p: { Scalar };
+
+    ghost q: { Scalar };
+
+    ghost uniformizer: { UniformizerOn field valuation p q };
+
+    ghost algebra: { AlgebraOn field.ring Vector };
+
+    ghost dimension: { ℕ };
+
+    ghost basis: { Basis (module_of algebra) dimension };
+
+    ghost Ideal: { Index → Vector → Type 0 };
+}
+
+/// Maximal ideals over p·Λ, given by elements, of which some product lies in p·Λ and none has a larger left order, are
+/// one, where the centre is the scalars.
+pub fn maximal_ideals_are_one<F: IdealFamily>()
+    ensures { Central F.algebra → FamilyIsOne F.field F.valuation F.p F.algebra F.dimension F.Ideal }
 {}

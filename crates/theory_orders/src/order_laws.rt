@@ -5,8 +5,8 @@ ghost use Rattle.theory_spaces.specs.Module.{AlgebraOn, module_of};
 ghost use Rattle.theory_spaces.specs.Linear.{Basis};
 ghost use Rattle.theory_spaces.specs.Valuation.{ValuationOn};
 ghost use Rattle.theory_orders.specs.Uniformizer.{UniformizerOn};
-ghost use Rattle.theory_orders.specs.Orders.{IsOrder, IsIdeal, Products, Power, Multiple, LeftOrder, Within, Radical, SimpleQuotient, SimpleByElements};
-ghost use Rattle.theory_orders.specs.Lattices.{Lattice};
+ghost use Rattle.theory_orders.specs.Orders.{IsOrder, IsIdeal, Products, Power, Multiple, LeftOrder, Within};
+ghost use Rattle.theory_orders.specs.OrderLaws.{SimpleToElements, SimpleToTests, RadicalOfSimple};
 
 /// Two ideals of an order.
 pub trait TwoIdeals {
@@ -71,18 +71,7 @@ pub trait PlacedAlgebra {
 /// The quotient of an order by an ideal is simple by tests just where it is simple by elements, for lattices; and an ideal
 /// over p·Λ with a power in p·Λ and a simple quotient is the radical.
 pub fn radical_tests_and_elements<A: PlacedAlgebra>()
-    ensures to_elements { (n : ℕ) (v : ℕ → A.Vector) → IsOrder A.algebra (Lattice A.field A.valuation A.algebra n v)
-        → (m : ℕ) (w : ℕ → A.Vector) → IsIdeal A.algebra (Lattice A.field A.valuation A.algebra n v) (Lattice A.field A.valuation A.algebra m w)
-        → SimpleQuotient A.algebra (Lattice A.field A.valuation A.algebra n v) (Lattice A.field A.valuation A.algebra m w)
-        → SimpleByElements A.algebra (Lattice A.field A.valuation A.algebra n v) (Lattice A.field A.valuation A.algebra m w) }
-    ensures to_tests { (n : ℕ) (v : ℕ → A.Vector) → IsOrder A.algebra (Lattice A.field A.valuation A.algebra n v)
-        → (m : ℕ) (w : ℕ → A.Vector)
-        → SimpleByElements A.algebra (Lattice A.field A.valuation A.algebra n v) (Lattice A.field A.valuation A.algebra m w)
-        → SimpleQuotient A.algebra (Lattice A.field A.valuation A.algebra n v) (Lattice A.field A.valuation A.algebra m w) }
-    ensures radical { (n : ℕ) (v : ℕ → A.Vector) → IsOrder A.algebra (Lattice A.field A.valuation A.algebra n v)
-        → (m : ℕ) (w : ℕ → A.Vector) → IsIdeal A.algebra (Lattice A.field A.valuation A.algebra n v) (Lattice A.field A.valuation A.algebra m w)
-        → Within (Multiple A.algebra A.p (Lattice A.field A.valuation A.algebra n v)) (Lattice A.field A.valuation A.algebra m w)
-        → (e : ℕ) → Within (Power A.algebra (Lattice A.field A.valuation A.algebra m w) e) (Multiple A.algebra A.p (Lattice A.field A.valuation A.algebra n v))
-        → SimpleByElements A.algebra (Lattice A.field A.valuation A.algebra n v) (Lattice A.field A.valuation A.algebra m w)
-        → Radical A.algebra A.p (Lattice A.field A.valuation A.algebra n v) (Lattice A.field A.valuation A.algebra m w) }
+    ensures to_elements { SimpleToElements A.field A.valuation A.algebra }
+    ensures to_tests { SimpleToTests A.field A.valuation A.algebra }
+    ensures radical { RadicalOfSimple A.field A.valuation A.algebra A.p }
 {}

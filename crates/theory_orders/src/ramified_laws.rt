@@ -1,40 +1,30 @@
 // Theorems on ramified places.
-ghost use Rattle.std.specs.Prelude.{◌≡◌, ℕ, ◌<◌, List, IsTrue};
+ghost use Rattle.std.specs.Prelude.{ℕ, ◌<◌, List};
 ghost use Rattle.theory_rings.specs.Ring.{FieldOn};
 ghost use Rattle.theory_rings.specs.Ops.{Ops, FieldLaws};
 ghost use Rattle.theory_rings.specs.Elements.{Elem, elements};
 ghost use Rattle.theory_spaces.specs.Module.{AlgebraOn};
-ghost use Rattle.theory_spaces.specs.Matrix.{Mat};
-ghost use Rattle.theory_spaces.specs.AlgebraMap.{IsAlgebraIso};
-ghost use Rattle.theory_spaces.specs.MatrixAlgebra.{IsMatrixAlgebra};
 ghost use Rattle.theory_spaces.specs.Valuation.{ValuationOn};
 ghost use Rattle.theory_orders.specs.Uniformizer.{IsIntegral, UniformizerOn};
-ghost use Rattle.theory_orders.specs.Orders.{IsOrder, OnlyMaximalIdeal, Within};
-ghost use Rattle.theory_orders.specs.Lattices.{Lattice};
 ghost use Rattle.theory_orders.specs.Ramified.{IsRamified};
+ghost use Rattle.theory_orders.specs.RamifiedLaws.{RamifiedExcludesIsomorphism, RamifiedOrderIsMaximal, RamifiedRadicalIsOnly};
 ghost use Rattle.theory_orders.specs.Tables.{RamifiedTable, SplitTable};
 
 use crate::order_laws::PlacedAlgebra;
 
 /// An algebra with a ramified place is isomorphic to no algebra of all matrices of a size n ≥ 1.
 pub fn ramified_excludes_isomorphism<A: PlacedAlgebra>()
-    ensures { (v w : ℕ → A.Vector) → IsRamified A.field A.valuation A.p A.algebra A.dimension v w
-        → (n : ℕ) → 0 < n → (B : AlgebraOn A.field.ring (Mat A.field.ring n)) → IsMatrixAlgebra A.field.ring n B
-        → (f : A.Vector → Mat A.field.ring n) → IsAlgebraIso A.algebra B f → ⊥ }
+    ensures { RamifiedExcludesIsomorphism A.field A.valuation A.p A.algebra A.dimension }
 {}
 
 /// The order of a ramified place is maximal: each order that is a lattice and holds it is it.
 pub fn ramified_order_is_maximal<A: PlacedAlgebra>()
-    ensures { (v w : ℕ → A.Vector) → IsRamified A.field A.valuation A.p A.algebra A.dimension v w
-        → (n : ℕ) (u : ℕ → A.Vector) → IsOrder A.algebra (Lattice A.field A.valuation A.algebra n u)
-        → Within (Lattice A.field A.valuation A.algebra A.dimension v) (Lattice A.field A.valuation A.algebra n u)
-        → Within (Lattice A.field A.valuation A.algebra n u) (Lattice A.field A.valuation A.algebra A.dimension v) }
+    ensures { RamifiedOrderIsMaximal A.field A.valuation A.p A.algebra A.dimension }
 {}
 
 /// The radical of a ramified place is the one maximal ideal over p·Λ and invertible, and p·Λ is a power of it.
 pub fn radical_of_ramified_place<A: PlacedAlgebra>()
-    ensures { (v w : ℕ → A.Vector) → IsRamified A.field A.valuation A.p A.algebra A.dimension v w
-        → OnlyMaximalIdeal A.algebra A.p (Lattice A.field A.valuation A.algebra A.dimension v) (Lattice A.field A.valuation A.algebra A.dimension w) }
+    ensures { RamifiedRadicalIsOnly A.field A.valuation A.p A.algebra A.dimension }
 {}
 
 /// A program's field with a valuation ring and a uniformizer p, which has the inverse q.
