@@ -1,12 +1,13 @@
 -- An element on which linear functionals are nearly 0 is near to one on which they are 0, with one loss for all; so an
 -- element that nearly commutes with a basis is near to a scalar, where the centre is the scalars.
-use Rattle.std.specs.Prelude.{◌≡◌, ℕ, zero, suc, ◌+◌, ◌*◌, ◌/◌, ◌%◌, ◌<◌, ◌⊎◌}
+use Rattle.std.specs.Prelude.{◌≡◌, ℕ, zero, suc, ◌+◌, ◌*◌, ◌/◌, ◌%◌, ◌<◌}
 use Rattle.std.proofs.Common.{refl, sym, ◌∙◌, ap, ap₂, subst, arith, ⊎_elim}
 use Rattle.std.proofs.lemmas.Nat.{div-mul-add, mod-mul-add}
 use Rattle.theory_rings.specs.Ring.{FieldOn}
 use Rattle.theory_rings.specs.Power.{power}
 use Rattle.theory_rings.proofs.Rings.RingLaws.{add_add_add_comm, add-neg, neg_add, neg_neg, additive-zero, additive-neg, mul-zero, mul-neg}
 use Rattle.theory_rings.proofs.Rings.Semirings.{semiring, mul_left_comm}
+use Rattle.theory_rings.proofs.Rings.Solver.{◌⊞◌, minus, ring2}
 use Rattle.theory_rings.proofs.Rings.ZeroTests.{eq_zero_or, eq_of_sub_eq_zero}
 use Rattle.theory_rings.proofs.Powers.Powers.{power-add, power-mul, power-one}
 use Rattle.theory_spaces.specs.Module.{ModuleOn, AlgebraOn, module_of}
@@ -107,6 +108,27 @@ module _ {K V : Type 0} (F : FieldOn K) (Z : ValuationOn F) (p q : K) (U : Unifo
           }) N os u.1 y,
         )
 
+  Div_sub : (s : ℕ) (a b : K) → Div s a → Div s b → Div s (F.◌⊕◌ a (F.neg b))
+  Div_sub s a b h g = subst In (sym (F.mul-add (pw q s) a (F.neg b)))
+      (Z.add_in (F.◌⊗◌ (pw q s) a) (F.◌⊗◌ (pw q s) (F.neg b)) h (subst In (sym (mul-neg F.ring (pw q s) b)) (Z.neg_in (F.◌⊗◌ (pw q s) b) g)))
+
+  -- a functional at what is near to 0
+  near_value : (l : V → K) → IsFunctional l → (m : ℕ) → ((y : V) → L y → In (F.◌⊗◌ (pw p m) (l y))) → (r : ℕ) (x : V) → Near (m + r) x → Div r (l x)
+  unfolding Near
+  near_value l h m b r x g = subst In
+      (ap (F.◌⊗◌ (pw p m)) (h.map-scale (pw q (m + r)) x) ∙ sym (F.mul_assoc (pw p m) (pw q (m + r)) (l x)) ∙ ap (λ z. F.◌⊗◌ z (l x)) (lower m r))
+      (b (pw q (m + r) • x) g)
+
+  -- a vector that p to the t brings into the order, times a scalar that is a multiple of a power of p
+  near_scale : (t s : ℕ) (k : K) (v : V) → L (up A p t v) → Div (t + s) k → Near s (k • v)
+  unfolding Near
+  near_scale t s k v l d =
+      let c = F.◌⊗◌ (pw q (t + s)) k in
+      subst L
+      (ap (λ z. c • z) (up-power A p t v) ∙ sym (A.mul-scale c (pw p t) v)
+      ∙ ap (λ z. z • v) (F.mul_comm c (pw p t) ∙ sym (F.mul_assoc (pw p t) (pw q (t + s)) k) ∙ ap (λ z. F.◌⊗◌ z k) (lower t s)) ∙ A.mul-scale (pw q s) k v)
+      (Lam_scale F Z p q U A N os O c (up A p t v) d l)
+
   -- what is in D at c + s is in W up to p to the s times the order
   pub Bounded : (V → Type 0) → (ℕ → V → Type 0) → Type 0
   Bounded W D = (c : ℕ) × ((s : ℕ) (a : V) → D (c + s) a → (u : V) × W u × Near s (a ⊕ neg u))
@@ -119,46 +141,42 @@ module _ {K V : Type 0} (F : FieldOn K) (Z : ValuationOn F) (p q : K) (U : Unifo
       abbrev D' : ℕ → V → Type 0
       D' s a = D s a × Div s (l a)
 
+      -- from a member of W near to a to one where the functional is 0
+      cut_at : (c m t s : ℕ) → ((y : V) → L y → In (F.◌⊗◌ (pw p m) (l y))) → (v : V) → W v → l v ≡ F.one → L (up A p t v)
+          → (a u : V) → W u → Near (m + (t + s)) (a ⊕ neg u) → Div (c + (m + (t + s))) (l a) → (w : V) × W' w × Near s (a ⊕ neg w)
+      cut_at c m t s bound v hv one low a u hu near d =
+          let x = a ⊕ neg u in
+          let k = l u in
+          let y = k • v in
+          let la : Div (t + s) (l a) = Div_less m (t + s) (l a) (Div_less c (m + (t + s)) (l a) d) in
+          let lx : Div (t + s) (l x) = near_value l h m bound (t + s) x near in
+          let is : F.◌⊕◌ (l a) (F.neg (l x)) ≡ k =
+          ap (λ z. F.◌⊕◌ (l a) (F.neg z)) (h.map-add a (neg u) ∙ ap (F.◌⊕◌ (l a)) (l-neg l h u)) ∙ ring2 F.cring (λ a k. (a ⊞ minus (a ⊞ minus k), k)) refl (l a) k in
+          let second : Near s y = near_scale t s k v low (subst (Div (t + s)) is (Div_sub (t + s) (l a) (l x) la lx)) in
+          let first : Near s x = Near_less t s x (Near_less m (t + s) x near) in
+          let sum : x ⊕ y ≡ a ⊕ neg (u ⊕ neg y) =
+          A.add_assoc a (neg u) y ∙ ap (λ z. a ⊕ z) (ap (λ z. neg u ⊕ z) (sym (neg_neg A.additive y)) ∙ sym (neg_add A.additive u (neg y))) in (
+            u ⊕ neg y,
+            (
+              SW.add-in u (neg y) hu (subst W (neg_one-scale M y) (SW.scale-in (F.neg F.one) y (SW.scale-in k v hv))),
+              h.map-add u (neg y) ∙ ap (F.◌⊕◌ k) (l-neg l h y ∙ ap F.neg (h.map-scale k v ∙ ap (F.◌⊗◌ k) one ∙ F.mul-one k)) ∙ add-neg F.additive k,
+            ),
+            subst (Near s) sum (Near_add s x y first second),
+          )
+
+      regroup : (c m t s : ℕ) (X : ℕ → Type 0) → X (c + (m + t) + s) → X (c + (m + (t + s)))
+      regroup c m t s X h = let e : c + (m + t) + s ≡ c + (m + (t + s)) = omega arith in subst X e h
+
       -- a functional that is not 0 on W
       cut : Bounded W D → (v : V) → W v → l v ≡ F.one → Bounded W' D'
-      unfolding Bounded Near
+      unfolding Bounded
       cut B v hv one =
-          let c = B.0 in
           let b = bounded_on l h in
-          let m = b.0 in
-          let low = lowered F Z p q U A N os O whole v in
-          let t = low.0 in (
-            c + (m + t),
+          let low = lowered F Z p q U A N os O whole v in (
+            B.0 + (b.0 + low.0),
             λ s a d.
-                let e : c + (m + t) + s ≡ c + (m + (t + s)) = omega arith in
-                let r = B.1 (m + (t + s)) a (subst (λ k. D k a) e d.0) in
-                let u = r.0 in
-                let x = a ⊕ neg u in
-                let k = l u in
-                let near : Near (m + (t + s)) x = r.2 in
-                let la : Div (t + s) (l a) = Div_less m (t + s) (l a) (Div_less c (m + (t + s)) (l a) (subst (λ k. Div k (l a)) e d.1)) in
-                let lx : Div (t + s) (l x) = subst In (ap (F.◌⊗◌ (pw p m)) (h.map-scale (pw q (m + (t + s))) x) ∙ sym (F.mul_assoc (pw p m) (pw q (m + (t + s))) (l x))
-                ∙ ap (λ z. F.◌⊗◌ z (l x)) (lower m (t + s))) (b.1 (pw q (m + (t + s)) • x) near) in
-                let is : F.◌⊕◌ (l a) (F.neg (l x)) ≡ k =
-                ap (λ z. F.◌⊕◌ (l a) (F.neg z)) (h.map-add a (neg u) ∙ ap (F.◌⊕◌ (l a)) (l-neg l h u)) ∙ ap (F.◌⊕◌ (l a)) (neg_add F.additive (l a) (F.neg k) ∙ ap (F.◌⊕◌ (F.neg (l a))) (neg_neg F.additive k))
-                ∙ sym (F.add_assoc (l a) (F.neg (l a)) k) ∙ ap (λ z. F.◌⊕◌ z k) (add-neg F.additive (l a)) ∙ F.zero-add k in
-                let lk : Div (t + s) k = subst (Div (t + s)) is (subst In (sym (F.mul-add (pw q (t + s)) (l a) (F.neg (l x))))
-                (Z.add_in (F.◌⊗◌ (pw q (t + s)) (l a)) (F.◌⊗◌ (pw q (t + s)) (F.neg (l x))) la
-                (subst In (sym (mul-neg F.ring (pw q (t + s)) (l x))) (Z.neg_in (F.◌⊗◌ (pw q (t + s)) (l x)) lx)))) in
-                let w = u ⊕ neg (k • v) in
-                let second : Near s (k • v) = subst L
-                (ap (λ z. F.◌⊗◌ (pw q (t + s)) k • z) (up-power A p t v) ∙ sym (A.mul-scale (F.◌⊗◌ (pw q (t + s)) k) (pw p t) v)
-                ∙ ap (λ z. z • v) (F.mul_comm (F.◌⊗◌ (pw q (t + s)) k) (pw p t) ∙ sym (F.mul_assoc (pw p t) (pw q (t + s)) k) ∙ ap (λ z. F.◌⊗◌ z k) (lower t s)) ∙ A.mul-scale (pw q s) k v)
-                (Lam_scale F Z p q U A N os O (F.◌⊗◌ (pw q (t + s)) k) (up A p t v) lk low.1) in
-                let first : Near s x = Near_less t s x (Near_less m (t + s) x near) in (
-                  w,
-                  (
-                    SW.add-in u (neg (k • v)) r.1 (subst W (neg_one-scale M (k • v)) (SW.scale-in (F.neg F.one) (k • v) (SW.scale-in k v hv))),
-                    h.map-add u (neg (k • v)) ∙ ap (F.◌⊕◌ k) (l-neg l h (k • v) ∙ ap F.neg (h.map-scale k v ∙ ap (F.◌⊗◌ k) one ∙ F.mul-one k)) ∙ add-neg F.additive k,
-                  ),
-                  subst (Near s) (A.add_assoc a (neg u) (k • v) ∙ ap (λ z. a ⊕ z) (ap (λ z. neg u ⊕ z) (sym (neg_neg A.additive (k • v))) ∙ sym (neg_add A.additive u (neg (k • v)))))
-                      (Near_add s x (k • v) first second),
-                ),
+                let r = B.1 (b.0 + (low.0 + s)) a (regroup B.0 b.0 low.0 s (λ k. D k a) d.0) in
+                cut_at B.0 b.0 low.0 s b.1 v hv one low.1 a r.0 r.1 r.2 (regroup B.0 b.0 low.0 s (λ k. Div k (l a)) d.1),
           )
 
       pub cut_more : Bounded W D → (Bounded W' D' → ⊥) → ⊥
@@ -226,14 +244,25 @@ module _ {K V : Type 0} (F : FieldOn K) (Z : ValuationOn F) (p q : K) (U : Unifo
           (E.expand (bracket u (os i)) ∙ comb_zero M N (E.coord (bracket u (os i))) os (λ j k.
           ap₂ (λ a b. E.coord (bracket u (os a)) b) (sym (div-mul-add i N j k)) (sym (mod-mul-add i N j k)) ∙ h (i * N + j) (pair-lt N N i j g k)))) y (whole y)
 
+      -- the coordinates of what is p to the s times a member of the order
+      near_coord : (s : ℕ) (x : V) → Near s x → (j : ℕ) → j < N → Div s (E.coord x j)
+      unfolding Near
+      near_coord s x h j l =
+          let y = pw q s • x in
+          subst In (E.coord-scale (pw q s) x j) (integral_weights F Z M N os ind y h (E.coord y) (E.expand y) j l)
+
+      nearly_zero : (c : ℕ) (a : V) → ((i : ℕ) → i < N → Near (suc c) (bracket a (os i))) → Nearly ell ell_functional (N * N) (c + 1) a
+      nearly_zero c a h t g =
+          let b = bracket a (os (t / N)) in
+          let e : suc c ≡ c + 1 = omega arith in
+          subst (λ k. Div k (E.coord b (t % N))) e (near_coord (suc c) b (h (t / N) (row-lt N N t g)) (t % N) (column-lt N N t g))
+
+      scalar_near : (a u : V) → Zeros ell ell_functional (N * N) u → Near 1 (a ⊕ neg u) → (k : K) × Near 1 (a ⊕ neg (k • A.one))
+      scalar_near a u z near = let k = ct.multiple u (commutes u z) in (k.0, subst (λ z. Near 1 (a ⊕ neg z)) k.1 near)
+
       -- what commutes with the basis up to a fixed power of p is a scalar up to p
       pub near_scalar : ((c : ℕ) → ((a : V) → ((i : ℕ) → i < N → Near (suc c) (bracket a (os i))) → (k : K) × Near 1 (a ⊕ neg (k • A.one))) → ⊥) → ⊥
-      unfolding Bounded Near
+      unfolding Bounded
       near_scalar stop = all_bounded ell ell_functional (N * N) (λ B. stop B.0 (λ a h.
-          let e : suc B.0 ≡ B.0 + 1 = omega arith in
-          let r = B.1 1 a (λ t g.
-          let b = os (t / N) in
-          subst In (E.coord-scale (pw q (B.0 + 1)) (bracket a b) (t % N))
-          (integral_weights F Z M N os ind (pw q (B.0 + 1) • bracket a b) (subst (λ k. L (pw q k • bracket a b)) e (h (t / N) (row-lt N N t g))) (E.coord (pw q (B.0 + 1) • bracket a b)) (E.expand (pw q (B.0 + 1) • bracket a b)) (t % N) (column-lt N N t g))) in
-          let k = ct.multiple r.0 (commutes r.0 r.1) in
-          (k.0, subst (λ z. L (pw q 1 • (a ⊕ neg z))) k.1 r.2)))
+          let r = B.1 1 a (nearly_zero B.0 a h) in
+          scalar_near a r.0 r.1 r.2))

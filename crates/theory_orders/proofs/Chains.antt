@@ -4,7 +4,7 @@ use Rattle.std.proofs.Common.{refl, sym, ◌∙◌, ap, subst, arith}
 use Rattle.theory_rings.specs.Ring.{RingOn}
 use Rattle.theory_spaces.specs.Module.{AlgebraOn}
 use Rattle.theory_orders.specs.Orders.{IsOrder, IsIdeal, SumOf, Product, Power, Within, Same}
-use Rattle.theory_orders.proofs.SumsOf.{SumOf_in, SumOf_map, SumOf_zero, SumOf_one, SumOf_add, SumOf_left, SumOf_right, SumOf_ideal}
+use Rattle.theory_orders.proofs.SumsOf.{SumOf_in, SumOf_zero, SumOf_one, SumOf_add, SumOf_right, SumOf_ideal}
 
 module _ {K V : Type 0} {R : RingOn K} (A : AlgebraOn R V) where
   infixl 70 ◌⊗◌

@@ -1,5 +1,5 @@
 -- Columns of n entries: a space of n coordinates over any field.
-use Rattle.std.specs.Prelude.{◌≡◌, ℕ, ◌<◌, ◌≤◌, cond, ltb}
+use Rattle.std.specs.Prelude.{◌≡◌, ℕ, ◌≤◌, cond, ltb}
 use Rattle.std.proofs.Common.{refl, sym, ◌∙◌, ap, ap₂, ⊎_elim}
 use Rattle.std.proofs.Math.Path.{fun_ext}
 use Rattle.std.proofs.lemmas.Bool.{cases_lt, lt-ltb, le-ltb}

@@ -1,7 +1,7 @@
 -- A chain of right ideals between an order and p times it, each maximal in the one before: what carries one into the next
 -- is a maximal two-sided ideal, and the product of these lies in p times the order. All of it is said of absurdity, since
 -- nothing decides whether an ideal is maximal.
-use Rattle.std.specs.Prelude.{◌≡◌, ℕ, zero, suc, ◌+◌, ◌<◌, ◌≤◌, List, [], ◌∷◌, Bool, IsTrue, ◌⊎◌}
+use Rattle.std.specs.Prelude.{◌≡◌, ℕ, zero, suc, ◌+◌, ◌<◌, List, [], ◌∷◌, IsTrue, ◌⊎◌}
 use Rattle.std.proofs.Common.{refl, sym, ◌∙◌, ap, ap₂, subst, arith, inl, inr, ⊎_elim}
 use Rattle.theory_rings.specs.Ring.{FieldOn}
 use Rattle.theory_rings.proofs.Rings.RingLaws.{add-neg, add-zero, add_add_add_comm, mul-zero, zero-mul, mul-neg, neg-mul}

@@ -13,7 +13,7 @@ use Rattle.theory_spaces.specs.Linear.{InSpan, Basis}
 use Rattle.theory_spaces.specs.Matrix.{Matrix, delta, mat_mul}
 use Rattle.theory_spaces.specs.Algebra.{trace}
 use Rattle.theory_spaces.specs.Form.{gram, trace_form}
-use Rattle.theory_spaces.specs.Valuation.{ValuationOn, integers, restrict}
+use Rattle.theory_spaces.specs.Valuation.{ValuationOn, restrict}
 use Rattle.theory_spaces.proofs.Modules.{InSpan-member}
 use Rattle.theory_spaces.proofs.Spaces.{basis_of, Basis-coord}
 use Rattle.theory_spaces.proofs.IndependentVectors.{comb-delta}
@@ -23,11 +23,11 @@ use Rattle.theory_spaces.proofs.TraceForms.{trace_form_bilinear}
 use Rattle.theory_spaces.proofs.Forms.{form-comb_left}
 use Rattle.theory_spaces.proofs.BasisChange.{trace_basis}
 use Rattle.theory_orders.specs.Uniformizer.{IsIntegral, IsUnit, UniformizerOn}
-use Rattle.theory_orders.specs.Orders.{IsOrder, SumOf, Around, Generated, Multiple, SimpleByElements, Within, Same}
+use Rattle.theory_orders.specs.Orders.{IsOrder, Around, Generated, Multiple, SimpleByElements, Within}
 use Rattle.theory_orders.specs.Lattices.{Lattice, IsOrderAt}
 use Rattle.theory_orders.specs.Dual.{Dual, IsSelfDual, IsUnimodular}
 use Rattle.theory_orders.proofs.SumsOf.{SumOf_in}
-use Rattle.theory_orders.proofs.Multiples.{up, up-left, up-right, scale_cancel, cancel_scale, Multiple-of, of-Multiple}
+use Rattle.theory_orders.proofs.Multiples.{up, up-left, up-right, cancel_scale, Multiple-of, of-Multiple}
 use Rattle.theory_orders.proofs.LatticeTests.{over_integers, integral_weights}
 use Rattle.theory_orders.proofs.Scaling.{Lam_scale, Lam_up, lowered}
 use Rattle.theory_orders.proofs.Ramified.{spanning}

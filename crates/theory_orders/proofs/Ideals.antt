@@ -5,7 +5,7 @@ use Rattle.theory_rings.specs.Ring.{RingOn}
 use Rattle.theory_rings.proofs.Rings.RingLaws.{add_add_add_comm}
 use Rattle.theory_spaces.specs.Module.{AlgebraOn}
 use Rattle.theory_orders.specs.Orders.{IsOrder, IsIdeal, Around, Generated, SimpleQuotient, SimpleByElements, Within, Same, Test}
-use Rattle.theory_orders.proofs.SumsOf.{SumOf_in, SumOf_map, SumOf_one}
+use Rattle.theory_orders.proofs.SumsOf.{SumOf_in, SumOf_map}
 
 abbrev pub Both : {V : Type 0} → (V → Type 0) → (V → Type 0) → V → Type 0
 Both I J x = I x × J x
@@ -57,10 +57,6 @@ module _ {K V : Type 0} {R : RingOn K} (A : AlgebraOn R V) where
     pub generated_in : (T : V → Type 0) → IsIdeal A L T → Within J T → (a : V) → T a → Within (Generated A L J a) T
     generated_in T I j a h = SumOf_in A (λ x. Around A L a x ⊎ J x) T I.zero_in I.add_in (λ x. ⊎_elim
         (λ (w : Around A L a x). subst T (sym w.4) (I.right w.1 (w.0 ⊗ a) w.3 (I.left w.0 a w.2 h))) (j x))
-
-    -- a is in the ideal that it generates
-    pub generator : (a : V) → Generated A L J a a
-    generator a = SumOf_one A (λ x. Around A L a x ⊎ J x) a (inl (A.one, A.one, O.one_in, O.one_in, sym (A.mul-one (A.one ⊗ a) ∙ A.one-mul a)))
 
   module _ (L I J : V → Type 0) (e : Same I J) where
     pub simple_same : SimpleQuotient A L I → SimpleQuotient A L J

@@ -1,15 +1,14 @@
 -- Vectors independent modulo a sublattice of an order that holds p times it: there are no more than the dimension.
-use Rattle.std.specs.Prelude.{◌≡◌, ℕ, zero, suc, ◌<◌, ◌≤◌, ◌⊎◌}
-use Rattle.std.proofs.Common.{refl, sym, ◌∙◌, ap, subst, arith, ⊎_elim}
-use Rattle.std.proofs.lemmas.Bool.{cases_lt}
+use Rattle.std.specs.Prelude.{◌≡◌, ℕ, zero, suc, ◌<◌, ◌≤◌}
+use Rattle.std.proofs.Common.{sym, ◌∙◌, ap, subst, arith, ⊎_elim}
 use Rattle.theory_rings.specs.Ring.{FieldOn}
 use Rattle.theory_rings.proofs.Rings.RingLaws.{add-neg, add-zero}
-use Rattle.theory_rings.proofs.Rings.Fields.{mul-inv, inv_mul_cancel_left}
+use Rattle.theory_rings.proofs.Rings.Fields.{mul-inv}
 use Rattle.theory_spaces.specs.Module.{ModuleOn, AlgebraOn, module_of}
 use Rattle.theory_spaces.specs.Linear.{comb, Independent, Basis, IsSubmodule}
-use Rattle.theory_spaces.specs.Valuation.{ValuationOn, integers, restrict}
-use Rattle.theory_spaces.proofs.Families.{push, push-below, push-at, below_suc}
-use Rattle.theory_spaces.proofs.Modules.{scale-zero, neg_one-scale, comb_congr, comb-scale, comb_congr_right, comb-push}
+use Rattle.theory_spaces.specs.Valuation.{ValuationOn, restrict}
+use Rattle.theory_spaces.proofs.Families.{push, below_suc}
+use Rattle.theory_spaces.proofs.Modules.{scale-zero, neg_one-scale, comb_congr, comb-scale, comb-push}
 use Rattle.theory_spaces.proofs.IndependentVectors.{Independent-at_most}
 use Rattle.theory_spaces.proofs.Lattices.{Divides, least}
 use Rattle.theory_orders.specs.Uniformizer.{IsIntegral, IsUnit, UniformizerOn}

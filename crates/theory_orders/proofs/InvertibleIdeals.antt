@@ -10,7 +10,7 @@ use Rattle.theory_spaces.specs.Module.{AlgebraOn, module_of}
 use Rattle.theory_spaces.proofs.Modules.{scale-zero}
 use Rattle.theory_orders.specs.Orders.{IsOrder, IsIdeal, SumOf, Product, Products, Around, Generated, Multiple, WordProduct, LeftOrder, Inverse, SimpleByElements, Within}
 use Rattle.theory_orders.proofs.SumsOf.{SumOf_in, SumOf_map, SumOf_zero, SumOf_one, SumOf_add, SumOf_left, SumOf_right}
-use Rattle.theory_orders.proofs.Multiples.{up, up-left, up-right, up-plus, up-add, up-zero, Multiple-of, of-Multiple}
+use Rattle.theory_orders.proofs.Multiples.{up, up-left, up-right, up-add, up-zero, Multiple-of, of-Multiple}
 use Rattle.theory_orders.proofs.Chains.{Chain, Chain_first, Chain_last, Chain_unlast, Chain_left, Chain_right, Chain_left_of, Chain_right_of, Chain_inside}
 
 module _ {K V : Type 0} {R : RingOn K} (A : AlgebraOn R V) (p q : K) (pq : R.◌⊗◌ p q ≡ R.one) (qp : R.◌⊗◌ q p ≡ R.one)
@@ -115,42 +115,45 @@ module _ {K V : Type 0} {R : RingOn K} (A : AlgebraOn R V) (p q : K) (pq : R.◌
     power_level a h zero = O.one_in
     power_level a h (suc t) = power_chain J (Level t) a (power A.ring (power A.ring a e) t) h (power_level a h t) e
 
-    -- what e members of J carry into p·L, has powers that the levels carry into powers of p
+    up_one : (t : ℕ) (y : V) → p • up A p t y ≡ up A p t (p • y)
+    up_one zero y = refl
+    up_one (suc t) y = ap (λ z. p • z) (up_one t y)
+
+    step_left : (t : ℕ) (b c w v : V) (z : Deep 1 (b ⊗ w)) → Deep t (c ⊗ (z.0 ⊗ v)) → Deep (suc t) ((c ⊗ b) ⊗ (w ⊗ v))
+    step_left t b c w v z x = (
+      x.0,
+      x.1,
+      A.mul_assoc c b (w ⊗ v) ∙ ap (λ y. c ⊗ y) (sym (A.mul_assoc b w v) ∙ ap (λ y. y ⊗ v) z.2 ∙ A.scale-left p z.0 v)
+          ∙ A.scale-right p c (z.0 ⊗ v) ∙ ap (λ y. p • y) x.2,
+    )
+
+    step_right : (t : ℕ) (b c w v : V) (x : Deep t (v ⊗ c)) → Deep 1 ((w ⊗ x.0) ⊗ b) → Deep (suc t) ((w ⊗ v) ⊗ (c ⊗ b))
+    step_right t b c w v x z = (
+      z.0,
+      z.1,
+      sym (A.mul_assoc (w ⊗ v) c b) ∙ ap (λ y. y ⊗ b) (A.mul_assoc w v c ∙ ap (λ y. w ⊗ y) x.2 ∙ up-right A p t w x.0)
+          ∙ up-left A p t (w ⊗ x.0) b ∙ ap (up A p t) z.2 ∙ sym (up_one t z.0),
+    )
+
+    carried_step : (t : ℕ) (b c : V) → Carried (Chain A J L e) 1 b → Carried (Level t) t c → Carried (Level (suc t)) (suc t) (c ⊗ b)
+    unfolding Level
+    carried_step t b c h r = (
+      O.mul_in c b r.0 h.0,
+      λ u hu.
+          let d = Chain_first A L O J (Level t) e u hu in
+          let z = h.1 d.0 d.2 in
+          subst (λ u. Deep (suc t) ((c ⊗ b) ⊗ u)) (sym d.4) (step_left t b c d.0 d.1 z (r.1 (z.0 ⊗ d.1) (Level_left t z.0 d.1 z.1 d.3))),
+      λ u hu.
+          let d = Chain_first A L O J (Level t) e u hu in
+          let x = r.2 d.1 d.3 in
+          subst (λ u. Deep (suc t) (u ⊗ (c ⊗ b))) (sym d.4) (step_right t b c d.0 d.1 x (h.2 (d.0 ⊗ x.0) (Chain_right A L O J IJ e d.0 x.0 d.2 x.1))),
+    )
+
+    -- what e members of J carry into p·L has powers that the levels carry into powers of p
     pub carried_power : (b : V) → Carried (Chain A J L e) 1 b → (t : ℕ) → Carried (Level t) t (power A.ring b t)
     unfolding Level
     carried_power b h zero = (O.one_in, λ u hu. (u, hu, A.one-mul u), λ u hu. (u, hu, A.mul-one u))
-    carried_power b h (suc t) =
-        let c = power A.ring b t in
-        let r = carried_power b h t in
-        let last : power A.ring b (suc t) ≡ c ⊗ b = power_last A.ring b t in (
-          O.mul_in b c h.0 r.0,
-          λ u hu.
-              let d = Chain_first A L O J (Level t) e u hu in
-              let w = d.0 in
-              let v = d.1 in
-              let z = h.1 w d.2 in
-              let x = r.1 (z.0 ⊗ v) (Level_left t z.0 v z.1 d.3) in (
-                x.0,
-                x.1,
-                ap₂ A.◌⊗◌ last d.4 ∙ A.mul_assoc c b (w ⊗ v) ∙ ap (λ y. c ⊗ y) (sym (A.mul_assoc b w v) ∙ ap (λ y. y ⊗ v) z.2 ∙ A.scale-left p z.0 v)
-                    ∙ A.scale-right p c (z.0 ⊗ v) ∙ ap (λ y. p • y) x.2,
-              ),
-          λ u hu.
-              let d = Chain_first A L O J (Level t) e u hu in
-              let w = d.0 in
-              let v = d.1 in
-              let x = r.2 v d.3 in
-              let z = h.2 (w ⊗ x.0) (Chain_right A L O J IJ e w x.0 d.2 x.1) in (
-                z.0,
-                z.1,
-                ap₂ A.◌⊗◌ d.4 last ∙ sym (A.mul_assoc (w ⊗ v) c b) ∙ ap (λ y. y ⊗ b) (A.mul_assoc w v c ∙ ap (λ y. w ⊗ y) x.2 ∙ up-right A p t w x.0)
-                    ∙ up-left A p t (w ⊗ x.0) b ∙ ap (up A p t) z.2 ∙ sym (up_one t z.0),
-              ),
-        )
-      where
-        up_one : (t : ℕ) (y : V) → p • up A p t y ≡ up A p t (p • y)
-        up_one zero y = refl
-        up_one (suc t) y = ap (λ z. p • z) (up_one t y)
+    carried_power b h (suc t) = subst (Carried (Level (suc t)) (suc t)) (sym (power_last A.ring b t)) (carried_step t b (power A.ring b t) h (carried_power b h t))
 
   module _ (M : V → Type 0) (H : MaximalIdeal M) where
     abbrev I : IsIdeal A L M
@@ -289,14 +292,15 @@ module _ {K V : Type 0} {R : RingOn K} (A : AlgebraOn R V) (p q : K) (pq : R.◌
         let d = Chain_unlast A L O M I k v c in
         subst M (sym (ap (λ t. y ⊗ t) d.4 ∙ sym (A.mul_assoc y d.0 d.1))) (I.left (y ⊗ d.0) d.1 (w.2.0 d.0 d.2) d.3)) w.1 s))))) A.one (left_powers r k))
 
-    abbrev pub Co : ℕ → V → Type 0
-    Co e = Carried (Ch e) 1
+    -- what e members of M carry into p·L from both sides
+    abbrev pub Conductor : ℕ → V → Type 0
+    Conductor e = Carried (Ch e) 1
 
-    pub Co_ideal : (e : ℕ) → IsIdeal A L (Co e)
-    Co_ideal e = Carried_ideal (Ch e) (Chain_left A L O M I e) (Chain_right A L O M I e) 1
+    pub Conductor_ideal : (e : ℕ) → IsIdeal A L (Conductor e)
+    Conductor_ideal e = Carried_ideal (Ch e) (Chain_left A L O M I e) (Chain_right A L O M I e) 1
 
-    pub Co_over : (e : ℕ) → Within (Multiple A p L) (Co e)
-    Co_over e x m = (
+    pub Conductor_over : (e : ℕ) → Within (Multiple A p L) (Conductor e)
+    Conductor_over e x m = (
       subst L (sym m.2) (p_in m.0 m.1),
       λ u hu. (m.0 ⊗ u, O.mul_in m.0 u m.1 (inside u hu), ap (λ z. z ⊗ u) m.2 ∙ A.scale-left p m.0 u),
       λ u hu. (u ⊗ m.0, O.mul_in u m.0 (inside u hu) m.1, ap (λ z. u ⊗ z) m.2 ∙ A.scale-right p u m.0),
@@ -305,9 +309,9 @@ module _ {K V : Type 0} {R : RingOn K} (A : AlgebraOn R V) (p q : K) (pq : R.◌
         inside : (u : V) → Ch e u → L u
         inside u h = Chain_inside A L O M I e u h
 
-    -- where p is a sum of products of e members of M and not of one more, M does not hold all of Co e
-    pub Co_beyond : RightUnit → (e : ℕ) → S e (p • A.one) → (S (suc e) (p • A.one) → ⊥) → Within (Co e) M → ⊥
-    Co_beyond r e at not h = not (SumOf_in A (Product A (Ch e) (Y e)) (λ z. S (suc e) (p • z))
+    -- where p is a sum of products of e members of M and not of one more, M does not hold all of Conductor e
+    pub Conductor_beyond : RightUnit → (e : ℕ) → S e (p • A.one) → (S (suc e) (p • A.one) → ⊥) → Within (Conductor e) M → ⊥
+    Conductor_beyond r e at not h = not (SumOf_in A (Product A (Ch e) (Y e)) (λ z. S (suc e) (p • z))
         (subst (S (suc e)) (sym (scale-zero (module_of A) p)) (SumOf_zero A (Ch (suc e))))
         (λ a b ha hb. subst (S (suc e)) (sym (A.scale-add p a b)) (SumOf_add A (Ch (suc e)) (p • a) (p • b) ha hb))
         (λ z w.
@@ -316,7 +320,7 @@ module _ {K V : Type 0} {R : RingOn K} (A : AlgebraOn R V) (p q : K) (pq : R.◌
         let py : L (p • y) = subst L (A.scale-left p A.one y ∙ ap (λ t. p • t) (A.one-mul y))
         (SumOf_in A (Ch e) (λ v. L (v ⊗ y)) (subst L (sym (zero-mul A.ring y)) O.zero_in)
         (λ a b ha hb. subst L (sym (A.add-mul a b y)) (O.add_in (a ⊗ y) (b ⊗ y) ha hb)) w.3.1 (p • A.one) at) in
-        let co : Co e (p • y) = (
+        let co : Conductor e (p • y) = (
           py,
           λ v hv. (y ⊗ v, w.3.0 v hv, A.scale-left p y v),
           λ v hv. (v ⊗ y, w.3.1 v hv, A.scale-right p v y),

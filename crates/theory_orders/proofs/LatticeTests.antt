@@ -12,7 +12,6 @@ use Rattle.theory_spaces.proofs.Families.{push, push-below, push-at, below_suc}
 use Rattle.theory_spaces.proofs.Modules.{zero-scale, comb_congr, comb-push, comb_injective, InSpan_trans, InSpan-member}
 use Rattle.theory_spaces.proofs.Spaces.{extend_or_span}
 use Rattle.theory_spaces.proofs.Lattices.{lattice_basis}
-use Rattle.theory_spaces.proofs.PairIndex.{pair-lt}
 
 -- what each test below n tells is decided for all together
 pub all_or_not : (n : ℕ) (t : ℕ → Bool) → ((i : ℕ) → i < n → IsTrue (t i)) ⊎ ((i : ℕ) × (i < n) × (IsTrue (t i) → ⊥))

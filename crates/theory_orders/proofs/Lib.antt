@@ -2,7 +2,7 @@ pub mod SumsOf
 pub mod Ideals
 pub mod Multiples
 pub mod Chains
-pub mod Maximal
+pub mod HereditaryOrders
 pub mod LatticeTests
 pub mod SimpleQuotients
 pub mod Scaling
@@ -17,8 +17,8 @@ pub mod Independence
 pub mod InvertibleIdeals
 pub mod Approximation
 pub mod Composition
-pub mod PowerOfOne
-pub mod OnlyIdeal
+pub mod MaximalPowers
+pub mod OnlyMaximal
 pub mod Settled
 pub mod MaximalOrders
 pub mod LeftOrders

@@ -1,26 +1,26 @@
 -- An order with a simple quotient by its radical, whose left order it is and which is more than p times it, is in no
 -- algebra of all linear maps of a space.
-use Rattle.std.specs.Prelude.{◌≡◌, ℕ, zero, suc, ◌+◌, ◌<◌, ◌≤◌, IsTrue}
+use Rattle.std.specs.Prelude.{◌≡◌, ℕ, zero, suc, ◌<◌, ◌≤◌, IsTrue}
 use Rattle.std.proofs.Common.{refl, sym, ◌∙◌, ap, subst, arith, ⊎_elim}
 use Rattle.std.proofs.lemmas.Bool.{cases_lt}
-use Rattle.theory_rings.specs.Ring.{RingOn, FieldOn}
+use Rattle.theory_rings.specs.Ring.{FieldOn}
 use Rattle.theory_rings.specs.Sum.{sum}
 use Rattle.theory_rings.proofs.Rings.RingLaws.{zero-mul}
 use Rattle.theory_rings.proofs.Rings.Semirings.{semiring, mul_left_comm}
 use Rattle.theory_rings.proofs.Sums.Sums.{sum_congr, map-sum}
 use Rattle.theory_spaces.specs.Module.{ModuleOn, AlgebraOn, module_of}
-use Rattle.theory_spaces.specs.Linear.{comb, InSpan, Independent, Coords, Basis}
+use Rattle.theory_spaces.specs.Linear.{comb, InSpan, Independent, Coords}
 use Rattle.theory_spaces.specs.Valuation.{ValuationOn, integers, restrict, LatticeBasis}
 use Rattle.theory_spaces.proofs.Modules.{zero-scale, InSpan-add, InSpan-scale, InSpan_trans, InSpan-member}
 use Rattle.theory_spaces.proofs.Spaces.{coord_in, coord_in-above, coord_in-of, coord_in-expand, basis_of}
 use Rattle.theory_spaces.proofs.Lattices.{lattice_basis}
-use Rattle.theory_orders.specs.Uniformizer.{IsIntegral, IsUnit, UniformizerOn}
+use Rattle.theory_orders.specs.Uniformizer.{UniformizerOn}
 use Rattle.theory_orders.specs.Orders.{IsOrder, IsIdeal, Multiple, Within}
 use Rattle.theory_orders.proofs.SumsOf.{sum_in}
 use Rattle.theory_orders.specs.Lattices.{Lattice}
 use Rattle.theory_orders.proofs.Multiples.{uniform, up, up-right}
 use Rattle.theory_orders.proofs.Scaling.{Low_more, Low_sum, lowered}
-use Rattle.theory_orders.proofs.Maximal.{Hereditary, maximal}
+use Rattle.theory_orders.proofs.HereditaryOrders.{Hereditary, maximal}
 
 -- the elements of A are the linear maps of a space
 pub record ActionOn {K V W : Type 0} (F : FieldOn K) (A : AlgebraOn F.ring V) (M : ModuleOn F.ring W) : Type 0 where

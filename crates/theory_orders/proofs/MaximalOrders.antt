@@ -1,5 +1,5 @@
 -- The order of a ramified place is a maximal order.
-use Rattle.std.specs.Prelude.{◌≡◌, ℕ, ◌<◌}
+use Rattle.std.specs.Prelude.{◌≡◌, ℕ}
 use Rattle.std.proofs.Common.{sym, ◌∙◌, ap, subst, ⊎_elim}
 use Rattle.theory_rings.specs.Ring.{FieldOn}
 use Rattle.theory_spaces.specs.Module.{ModuleOn, AlgebraOn, module_of}
@@ -9,11 +9,11 @@ use Rattle.theory_spaces.proofs.Modules.{span_in}
 use Rattle.theory_spaces.proofs.Spaces.{coords_of}
 use Rattle.theory_orders.specs.Uniformizer.{UniformizerOn}
 use Rattle.theory_orders.specs.Orders.{IsOrder, Within}
-use Rattle.theory_orders.specs.Lattices.{Lattice, IsOrderAt}
+use Rattle.theory_orders.specs.Lattices.{Lattice}
 use Rattle.theory_orders.specs.Ramified.{IsRamified}
-use Rattle.theory_orders.proofs.Multiples.{uniform, up, up-zero, up-add, up-right}
+use Rattle.theory_orders.proofs.Multiples.{uniform, up, up-zero, up-right}
 use Rattle.theory_orders.proofs.LatticeTests.{lattice_within}
-use Rattle.theory_orders.proofs.Maximal.{maximal}
+use Rattle.theory_orders.proofs.HereditaryOrders.{maximal}
 use Rattle.theory_orders.proofs.Ramified.{spanning, hereditary}
 use Rattle.theory_orders.proofs.Scaling.{Lam_scale, Low, Low_more, Low_add, lowered}
 

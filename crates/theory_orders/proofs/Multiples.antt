@@ -6,7 +6,7 @@ use Rattle.theory_rings.specs.Ring.{RingOn}
 use Rattle.theory_rings.specs.Power.{power}
 use Rattle.theory_spaces.specs.Module.{AlgebraOn, module_of}
 use Rattle.theory_spaces.proofs.Modules.{scale-zero}
-use Rattle.theory_orders.specs.Orders.{IsOrder, IsIdeal, Multiple, Within}
+use Rattle.theory_orders.specs.Orders.{IsOrder, IsIdeal, Multiple}
 
 -- one bound for finitely many
 pub uniform : (P : ℕ → ℕ → Type 0) → ((s t i : ℕ) → P s i → P (t + s) i) → (n : ℕ) → ((i : ℕ) → i < n → (s : ℕ) × P s i) → (s : ℕ) × ((i : ℕ) → i < n → P s i)

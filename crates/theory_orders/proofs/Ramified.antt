@@ -17,9 +17,9 @@ use Rattle.theory_orders.specs.Uniformizer.{UniformizerOn}
 use Rattle.theory_orders.specs.Lattices.{Lattice}
 use Rattle.theory_orders.specs.Ramified.{IsRamified}
 use Rattle.theory_orders.proofs.Chains.{chain_in_power}
-use Rattle.theory_orders.proofs.Maximal.{Hereditary}
+use Rattle.theory_orders.proofs.HereditaryOrders.{Hereditary}
 use Rattle.theory_orders.proofs.SimpleQuotients.{simple_by_elements}
-use Rattle.theory_orders.proofs.LinearMaps.{ActionOn, not_split}
+use Rattle.theory_orders.proofs.LinearMaps.{not_split}
 use Rattle.theory_orders.proofs.Columns.{Column, columns, column_space}
 use Rattle.theory_orders.proofs.MatrixReps.{IsMatrixRep, matrix_action, rep_of_iso}
 

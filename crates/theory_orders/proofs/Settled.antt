@@ -1,5 +1,5 @@
 -- Where nothing grows, an order whose dimension is a unit is its dual by the trace form, or the place is ramified.
-use Rattle.std.specs.Prelude.{◌≡◌, ℕ, ◌%◌, ◌*◌, ◌<◌, ◌⊎◌}
+use Rattle.std.specs.Prelude.{◌≡◌, ℕ, ◌%◌, ◌*◌, ◌⊎◌}
 use Rattle.std.specs.Int.{◌∣◌}
 use Rattle.std.proofs.Common.{sym, ◌∙◌, ap, subst, arith, inl, inr, ⊎_elim}
 use Rattle.std.proofs.Math.Nat.{mod-lt, emod_pos_of_not-dvd}
@@ -15,7 +15,7 @@ use Rattle.theory_spaces.specs.Algebra.{Central}
 use Rattle.theory_spaces.specs.Valuation.{ValuationOn}
 use Rattle.theory_spaces.proofs.Spaces.{coords_of}
 use Rattle.theory_orders.specs.Uniformizer.{IsIntegral, IsUnit, UniformizerOn}
-use Rattle.theory_orders.specs.Orders.{IsIdeal, Multiple, Radical, SimpleQuotient, SimpleByElements, Within, Same}
+use Rattle.theory_orders.specs.Orders.{Multiple, Radical, SimpleQuotient, SimpleByElements, Within, Same}
 use Rattle.theory_orders.specs.Lattices.{Lattice, IsOrderAt, NothingGrows}
 use Rattle.theory_orders.specs.Dual.{IsSelfDual}
 use Rattle.theory_orders.specs.Ramified.{IsRamified}
@@ -24,7 +24,7 @@ use Rattle.theory_orders.proofs.LatticeTests.{lattice_within}
 use Rattle.theory_orders.proofs.SimpleQuotients.{simple_by_elements}
 use Rattle.theory_orders.proofs.Composition.{P_ideal, multiple_same}
 use Rattle.theory_orders.proofs.Dual.{integral_times, self_dual_of_simple}
-use Rattle.theory_orders.proofs.OnlyIdeal.{maximal_of_radical}
+use Rattle.theory_orders.proofs.OnlyMaximal.{maximal_of_radical}
 
 -- a number that the characteristic does not divide is a unit of the valuation ring
 pub unit_of_characteristic : {K : Type 0} (F : FieldOn K) (Z : ValuationOn F) (c : ℕ) → IsPrime c → times F.monoid c F.one ≡ F.zero

@@ -1,18 +1,18 @@
 -- Simple quotients of an order by tests and by elements, each way; an ideal over p·L with a power in p·L and a simple
 -- quotient is the radical.
 use Rattle.std.specs.Prelude.{◌≡◌, ℕ, zero, suc, ◌+◌, ◌*◌, ◌/◌, ◌%◌, ◌<◌, Bool, IsTrue, ◌⊎◌}
-use Rattle.std.proofs.Common.{refl, sym, ◌∙◌, ap, ap₂, subst, inl, inr, ⊎_elim}
+use Rattle.std.proofs.Common.{refl, sym, ◌∙◌, ap, subst, inl, inr, ⊎_elim}
 use Rattle.theory_rings.specs.Ring.{RingOn, FieldOn}
-use Rattle.theory_rings.proofs.Rings.RingLaws.{add-zero, add_add_add_comm}
+use Rattle.theory_rings.proofs.Rings.RingLaws.{add-zero}
 use Rattle.theory_spaces.specs.Module.{ModuleOn, AlgebraOn, module_of}
-use Rattle.theory_spaces.specs.Linear.{InSpan, Coords}
+use Rattle.theory_spaces.specs.Linear.{Coords}
 use Rattle.theory_spaces.specs.Valuation.{ValuationOn, Integer, integers, restrict}
 use Rattle.theory_spaces.proofs.Families.{join, each_join}
 use Rattle.theory_spaces.proofs.Modules.{left_linear, right_linear, map-comb, InSpan-add, InSpan-scale, InSpan-comb, InSpan_trans, InSpan-member, InSpan-join_left, InSpan-join_right}
 use Rattle.theory_spaces.proofs.PairIndex.{pair-lt, row-lt, column-lt}
-use Rattle.theory_orders.specs.Orders.{IsOrder, IsIdeal, SumOf, Product, Power, Around, Generated, Multiple, Within, Test, Radical, SimpleQuotient, SimpleByElements}
+use Rattle.theory_orders.specs.Orders.{IsOrder, IsIdeal, Product, Power, Around, Generated, Multiple, Within, Test, Radical, SimpleQuotient, SimpleByElements}
 use Rattle.theory_orders.specs.Lattices.{Lattice}
-use Rattle.theory_orders.proofs.SumsOf.{SumOf_in, SumOf_one}
+use Rattle.theory_orders.proofs.SumsOf.{SumOf_one}
 use Rattle.theory_orders.proofs.Ideals.{IdealSum, IdealSum_ideal, whole, generated_in}
 use Rattle.theory_orders.proofs.Chains.{Chain, Chain_inside, chain_in_power}
 use Rattle.theory_orders.proofs.LatticeTests.{decided, pairs_of, pairs_of-at, lattice_test, lattice_test-in, in-lattice_test}

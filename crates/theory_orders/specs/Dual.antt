@@ -1,4 +1,4 @@
--- The dual of a lattice by the trace form. (Reiner, Maximal Orders, sections 4 and 9 and chapter 6.)
+-- The dual of a lattice by the trace form. (Reiner, Maximal Orders, sections 10 and 25.)
 use Rattle.std.specs.Prelude.{◌≡◌, ℕ, ◌<◌}
 use Rattle.theory_rings.specs.Ring.{FieldOn}
 use Rattle.theory_spaces.specs.Module.{AlgebraOn, module_of}

@@ -4,7 +4,6 @@ use Rattle.theory_rings.specs.Ring.{FieldOn}
 use Rattle.theory_rings.specs.Power.{times}
 use Rattle.theory_spaces.specs.Module.{AlgebraOn, module_of}
 use Rattle.theory_spaces.specs.Linear.{Basis, Independent}
-use Rattle.theory_spaces.specs.Algebra.{Central}
 use Rattle.theory_spaces.specs.Valuation.{ValuationOn}
 use Rattle.theory_orders.specs.Uniformizer.{IsUnit}
 use Rattle.theory_orders.specs.Orders.{Multiple, Within, Radical, SimpleQuotient}

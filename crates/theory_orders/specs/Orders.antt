@@ -1,6 +1,6 @@
 -- Sets of elements of an algebra, as facts about an element: orders, two-sided ideals with their sums, products and
--- powers, the radical, left orders, simple quotients, maximal and invertible ideals. (Reiner, Maximal Orders, chapters 1,
--- 2 and 9.)
+-- powers, the radical, left orders, simple quotients, maximal and invertible ideals. (Reiner, Maximal Orders, sections 6,
+-- 8, 22 and 39.)
 use Rattle.std.specs.Prelude.{◌≡◌, ℕ, zero, suc, ◌<◌, ◌⊎◌, Bool, IsTrue, List, [], ◌∷◌}
 use Rattle.theory_rings.specs.Ring.{RingOn}
 use Rattle.theory_rings.specs.Sum.{sum}

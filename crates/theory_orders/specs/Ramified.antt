@@ -1,5 +1,5 @@
 -- Ramified places: an order with a simple quotient by its radical, whose left order it is, and which is not p times it.
--- (Reiner, Maximal Orders, chapters 5 and 9.)
+-- (Reiner, Maximal Orders, section 39.)
 use Rattle.std.specs.Prelude.{ℕ}
 use Rattle.theory_rings.specs.Ring.{FieldOn}
 use Rattle.theory_spaces.specs.Module.{AlgebraOn, module_of}

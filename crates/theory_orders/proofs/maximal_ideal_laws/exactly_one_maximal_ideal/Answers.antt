@@ -1,4 +1,4 @@
-use Rattle.theory_orders.proofs.OnlyIdeal.{exactly_one, radical_is_one, one_in_family}
+use Rattle.theory_orders.proofs.OnlyMaximal.{exactly_one, radical_is_one, one_in_family}
 use Rattle.theory_orders.proofs.maximal_ideal_laws.exactly_one_maximal_ideal.Goals as goal
 
 pub returns-clause-each : goal.returns-clause-each

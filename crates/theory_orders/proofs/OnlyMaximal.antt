@@ -12,7 +12,7 @@ use Rattle.theory_spaces.proofs.Modules.{scale-zero, InSpan-zero, InSpan-add, In
 use Rattle.theory_spaces.proofs.Spaces.{coords_of}
 use Rattle.theory_spaces.proofs.PairIndex.{pair-lt, row-lt, column-lt}
 use Rattle.theory_orders.specs.Uniformizer.{UniformizerOn}
-use Rattle.theory_orders.specs.Orders.{IsOrder, IsIdeal, SumOf, Product, Products, Power, Multiple, WordProduct, Generated, Radical, LeftOrder, Inverse, SimpleQuotient, SimpleByElements, IsMaximalIdeal, IsInvertible, OnlyMaximalIdeal, Within, Same, Test}
+use Rattle.theory_orders.specs.Orders.{IsOrder, IsIdeal, SumOf, Product, Products, Power, Multiple, WordProduct, Generated, Radical, LeftOrder, Inverse, SimpleByElements, IsMaximalIdeal, IsInvertible, OnlyMaximalIdeal, Within, Same, Test}
 use Rattle.theory_orders.specs.Lattices.{Lattice, IsOrderAt, NothingGrows}
 use Rattle.theory_orders.specs.Ramified.{IsRamified}
 use Rattle.theory_orders.proofs.SumsOf.{SumOf_in, SumOf_map, SumOf_zero, SumOf_one, SumOf_add, SumOf_left, SumOf_right}
@@ -20,12 +20,11 @@ use Rattle.theory_orders.proofs.Ideals.{ideal_same, whole, generated_in}
 use Rattle.theory_orders.proofs.Multiples.{Multiple-ideal, cancel_scale, of-Multiple}
 use Rattle.theory_orders.proofs.Chains.{Chain, Chain_last, Chain_unlast, chain_in_power, power_in_chains, power_chains, Chain_fewer}
 use Rattle.theory_orders.proofs.LatticeTests.{decided, pairs_of, pairs_of-at, lattice_test, lattice_test-in, in-lattice_test, lattice_within}
-use Rattle.theory_orders.proofs.SimpleQuotients.{simple_by_elements, radical_of_simple, one_or_within, nilpotent_within, mul_lattice, lattice_mul}
+use Rattle.theory_orders.proofs.SimpleQuotients.{simple_by_elements, radical_of_simple, one_or_within, mul_lattice, lattice_mul}
 use Rattle.theory_orders.proofs.Scaling.{Lam_scale}
-use Rattle.theory_orders.proofs.Independence.{ideal_sublattice}
 use Rattle.theory_orders.proofs.InvertibleIdeals.{MaximalIdeal, LeftUnit, RightUnit, M_X, X_left, some_invertible}
 use Rattle.theory_orders.proofs.Composition.{NotNot, decide_in, multiple_same, MaximalLattice, members, some_word}
-use Rattle.theory_orders.proofs.PowerOfOne.{S, S_over, bounded, power_of_nilpotent, power_of_central}
+use Rattle.theory_orders.proofs.MaximalPowers.{S, S_over, bounded, power_of_nilpotent, power_of_central}
 
 -- the first n numbers are searched for one that has a property
 find_below : (n : ℕ) (Q : ℕ → Type 0) → ((k : ℕ) → Q k ⊎ (Q k → ⊥)) → ((k : ℕ) × Q k) ⊎ ((k : ℕ) → k < n → Q k → ⊥)

@@ -5,18 +5,17 @@ use Rattle.std.proofs.Common.{refl, sym, ◌∙◌, ap, ap₂, subst, arith, inl
 use Rattle.std.proofs.lemmas.Bool.{cases_lt}
 use Rattle.theory_rings.specs.Ring.{FieldOn}
 use Rattle.theory_rings.specs.Power.{power}
-use Rattle.theory_rings.proofs.Rings.RingLaws.{add-neg, add-zero, zero-mul, mul-neg, neg-mul}
-use Rattle.theory_rings.proofs.Rings.Fields.{mul-inv}
+use Rattle.theory_rings.proofs.Rings.RingLaws.{add-neg, add-zero}
 use Rattle.theory_rings.proofs.Rings.ZeroTests.{eq_zero_or}
 use Rattle.theory_rings.proofs.Rings.Solver.{◌⊞◌, ◌⊠◌, minus, words3}
-use Rattle.theory_spaces.specs.Module.{ModuleOn, AlgebraOn, module_of}
-use Rattle.theory_spaces.specs.Linear.{Basis, InSpan}
+use Rattle.theory_spaces.specs.Module.{AlgebraOn, module_of}
+use Rattle.theory_spaces.specs.Linear.{Basis}
 use Rattle.theory_spaces.specs.Algebra.{Central}
 use Rattle.theory_spaces.specs.Valuation.{ValuationOn, restrict}
 use Rattle.theory_spaces.proofs.Families.{push, push-below, push-at, below_suc}
-use Rattle.theory_spaces.proofs.Modules.{zero-scale, InSpan-neg, InSpan-member}
+use Rattle.theory_spaces.proofs.Modules.{InSpan-neg, InSpan-member}
 use Rattle.theory_orders.specs.Uniformizer.{IsIntegral, IsUnit, UniformizerOn}
-use Rattle.theory_orders.specs.Orders.{IsOrder, IsIdeal, SumOf, Around, Generated, Multiple, Within}
+use Rattle.theory_orders.specs.Orders.{IsOrder, IsIdeal, SumOf, Generated, Multiple, Within}
 use Rattle.theory_orders.specs.Lattices.{Lattice, IsOrderAt}
 use Rattle.theory_orders.proofs.SumsOf.{SumOf_map, SumOf_one}
 use Rattle.theory_orders.proofs.Ideals.{Both, Both_ideal, IdealSum, IdealSum_ideal, generated_in}
@@ -25,7 +24,7 @@ use Rattle.theory_orders.proofs.Chains.{Chain, Chain_inside, Chain_ideal, Chain_
 use Rattle.theory_orders.proofs.Scaling.{Lam_scale, Lam_up}
 use Rattle.theory_orders.proofs.Ramified.{spanning}
 use Rattle.theory_orders.proofs.Independence.{IsSublattice, IndependentMod, ideal_sublattice, sub_neg, grow_down, at_most}
-use Rattle.theory_orders.proofs.InvertibleIdeals.{MaximalIdeal, LeftUnit, RightUnit, Carried, Carried_ideal, Level, Level_left, Level_right, power_level, carried_power, power_chain, mixed_power, power_in, ideal_power, falls_strictly, Co, Co_ideal, Co_over, Co_beyond}
+use Rattle.theory_orders.proofs.InvertibleIdeals.{MaximalIdeal, LeftUnit, RightUnit, Carried, Carried_ideal, Level, Level_left, Level_right, power_level, carried_power, power_chain, mixed_power, power_in, ideal_power, falls_strictly, Conductor, Conductor_ideal, Conductor_over, Conductor_beyond}
 use Rattle.theory_orders.proofs.Approximation.{Near, Near_add, near_up, near_one, near_scalar}
 
 module _ {K V : Type 0} (F : FieldOn K) (Z : ValuationOn F) (p q : K) (U : UniformizerOn F Z p q)
@@ -122,7 +121,7 @@ module _ {K V : Type 0} (F : FieldOn K) (Z : ValuationOn F) (p q : K) (U : Unifo
     RU = RightUnit A p q U.pq qp L O M H
 
     abbrev C : ℕ → V → Type 0
-    C = Co A p q U.pq qp L O M H
+    C = Conductor A p q U.pq qp L O M H
 
     S_ideal : (k : ℕ) → IsIdeal A L (S k)
     S_ideal = Chain_ideal A L O M I
@@ -165,11 +164,11 @@ module _ {K V : Type 0} (F : FieldOn K) (Z : ValuationOn F) (p q : K) (U : Unifo
 
     -- M and what its greatest power over p carries into p are comaximal
     comaximal : RU → (e : ℕ) → S e p1 → (S (suc e) p1 → ⊥) → ((a b : V) → M a → C e b → A.one ≡ a ⊕ b → ⊥) → ⊥
-    comaximal r e at not stop = Co_beyond A p q U.pq qp L O M H r e at not (λ c hc. stable c (λ out. ⊎_elim out
+    comaximal r e at not stop = Conductor_beyond A p q U.pq qp L O M H r e at not (λ c hc. stable c (λ out. ⊎_elim out
         (λ (g : Generated A L M c A.one).
-        let I2 = IdealSum_ideal A L O M (C e) I (Co_ideal A p q U.pq qp L O M H e) in
+        let I2 = IdealSum_ideal A L O M (C e) I (Conductor_ideal A p q U.pq qp L O M H e) in
         let w : IdealSum A M (C e) A.one = generated_in A L M O (IdealSum A M (C e)) I2
-        (λ y hy. (y, A.zero, hy, (Co_ideal A p q U.pq qp L O M H e).zero_in, sym (add-zero A.monoid y))) c (A.zero, c, I.zero_in, hc, sym (A.zero-add c)) A.one g in
+        (λ y hy. (y, A.zero, hy, (Conductor_ideal A p q U.pq qp L O M H e).zero_in, sym (add-zero A.monoid y))) c (A.zero, c, I.zero_in, hc, sym (A.zero-add c)) A.one g in
         stop w.0 w.1 w.2 w.3 w.4)
         (H.simple.generates c hc.0)))
 
@@ -179,10 +178,10 @@ module _ {K V : Type 0} (F : FieldOn K) (Z : ValuationOn F) (p q : K) (U : Unifo
     -- where some power of M lies in p times the order
     pub power_of_nilpotent : (n : ℕ) → Within (Ch n) P → LU → RU → ((e : ℕ) → S e p1 → Within (Ch e) P → ⊥) → ⊥
     power_of_nilpotent n falls l r stop = greatest l (λ e at not. comaximal r e at not (λ a b ha hb eq.
-        let Ce = Co_ideal A p q U.pq qp L O M H e in
+        let Ce = Conductor_ideal A p q U.pq qp L O M H e in
         let w = mixed_power A p q U.pq qp L O (C e) Ce b a hb (I.inside a ha) (eq ∙ A.add_comm a b) n in
         let an = power A.ring a n in
-        let low : C e an = Co_over A p q U.pq qp L O M H e an (falls an (subst (Ch n) (A.mul-one an) (power_chain A p q U.pq qp L O M L a A.one ha O.one_in n))) in
+        let low : C e an = Conductor_over A p q U.pq qp L O M H e an (falls an (subst (Ch n) (A.mul-one an) (power_chain A p q U.pq qp L O M L a A.one ha O.one_in n))) in
         stop e at (fall_of e (subst (C e) (sym w.2) (Ce.add_in w.0 an w.1 low)))))
 
     -- where the centre of the algebra is the scalars
@@ -194,7 +193,7 @@ module _ {K V : Type 0} (F : FieldOn K) (Z : ValuationOn F) (p q : K) (U : Unifo
         split (suc e0) at not = near_scalar F Z p q U A N os O (spanning F A N B os D.independent) D.independent ct (λ c near. comaximal r (suc e0) at not (λ a b ha hb eq.
             let e : ℕ = suc e0 in
             let s : ℕ = suc c in
-            let Ce = Co_ideal A p q U.pq qp L O M H e in
+            let Ce = Conductor_ideal A p q U.pq qp L O M H e in
             let T : V → Type 0 = Level A p q U.pq qp L O M I e s in
             let R : V → Type 0 = Carried A p q U.pq qp L O T s in
             let IR : IsIdeal A L R = Carried_ideal A p q U.pq qp L O T (Level_left A p q U.pq qp L O M I e s) (Level_right A p q U.pq qp L O M I e s) s in
@@ -236,5 +235,5 @@ module _ {K V : Type 0} (F : FieldOn K) (Z : ValuationOn F) (p q : K) (U : Unifo
                 let ly : L y = I.inside y my in
                 ⊎_elim
                 (λ (h : P x). H.simple.proper (subst M (sym eq) (I.add_in x y (subst M (sym h.2) (H.over h.0 h.1)) my)))
-                (λ (h : P y). stop e at (fall_of e (subst (C e) (sym eq) ((Co_ideal A p q U.pq qp L O M H e).add_in x y cx (Co_over A p q U.pq qp L O M H e y h)))))
+                (λ (h : P y). stop e at (fall_of e (subst (C e) (sym eq) ((Conductor_ideal A p q U.pq qp L O M H e).add_in x y cx (Conductor_over A p q U.pq qp L O M H e y h)))))
                 (scalar_split proper x y hx.0 ly xy_P k.0 (P_of (x ⊕ neg (k.0 • A.one)) (near_one F Z p q U A N os O (x ⊕ neg (k.0 • A.one)) k.1)))
