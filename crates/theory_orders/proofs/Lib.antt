@@ -22,3 +22,4 @@ pub mod OnlyMaximal
 pub mod Settled
 pub mod MaximalOrders
 pub mod LeftOrders
+pub mod DualLattices

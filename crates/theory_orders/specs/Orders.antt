@@ -14,6 +14,10 @@ Within I J = (x : _) → I x → J x
 abbrev pub Same : {V : Type 0} → (V → Type 0) → (V → Type 0) → Type 0
 Same I J = Within I J × Within J I
 
+-- in it, and not the same
+abbrev pub ProperlyWithin : {V : Type 0} → (V → Type 0) → (V → Type 0) → Type 0
+ProperlyWithin I J = Within I J × (Within J I → ⊥)
+
 -- the set that a test tells
 abbrev pub Test : {V : Type 0} → (V → Bool) → V → Type 0
 Test t x = IsTrue (t x)
