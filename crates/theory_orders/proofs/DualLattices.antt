@@ -44,7 +44,7 @@ module _ {K V : Type 0} (F : FieldOn K) (Z : ValuationOn F) (A : AlgebraOn F.rin
   abbrev bilinear : IsBilinear M f
   bilinear = trace_form_bilinear F.cring A n B
 
-  swap : (x y : V) → f x y ≡ f y x
+  pub swap : (x y : V) → f x y ≡ f y x
   swap x y = trace_comm F.cring A n B x y
 
   abbrev Star : (V → Type 0) → V → Type 0
@@ -53,7 +53,7 @@ module _ {K V : Type 0} (F : FieldOn K) (Z : ValuationOn F) (A : AlgebraOn F.rin
   abbrev Lat : (ℕ → V) → V → Type 0
   Lat v = Lattice F Z A n v
 
-  Star_sub : (S : V → Type 0) → IsSubmodule RA (Star S)
+  pub Star_sub : (S : V → Type 0) → IsSubmodule RA (Star S)
   Star_sub S = record {
     zero-in = λ y s. subst In (sym (form-zero_left F.cring M f bilinear y)) Z.zero_in;
     add-in = λ a b h g y s. subst In (sym (bilinear.add-left a b y)) (Z.add_in (f a y) (f b y) (h y s) (g y s));
@@ -73,12 +73,16 @@ module _ {K V : Type 0} (F : FieldOn K) (Z : ValuationOn F) (A : AlgebraOn F.rin
     pub dual_vec : ℕ → V
     dual_vec = D.basis.vec
 
-    dual_vec-in : (j : ℕ) → j < n → Star L (dual_vec j)
+    pub dual_vec-independent : Independent M n dual_vec
+    unfolding dual_vec
+    dual_vec-independent = D.basis.independent
+
+    pub dual_vec-in : (j : ℕ) → j < n → Star L (dual_vec j)
     unfolding dual_vec
     dual_vec-in j l y h = subst In (sym (swap (D.basis.vec j) y ∙ coord-dual F M f bilinear n E D y j l)) (integral_weights F Z M n v ind y h (E.coord y) (E.expand y) j l)
 
     -- integral values at the dual basis
-    in_lattice_of : (x : V) → ((i : ℕ) → i < n → In (f x (dual_vec i))) → L x
+    pub in_lattice_of : (x : V) → ((i : ℕ) → i < n → In (f x (dual_vec i))) → L x
     unfolding dual_vec
     in_lattice_of x h = over_integers F Z M n v x (λ i. f x (D.basis.vec i)) (expand-dual F M f bilinear n E D x) h
 

@@ -23,3 +23,4 @@ pub mod Settled
 pub mod MaximalOrders
 pub mod LeftOrders
 pub mod DualLattices
+pub mod LeftOrderLattice

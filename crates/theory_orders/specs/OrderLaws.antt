@@ -1,10 +1,11 @@
 -- Statements on the quotient of an order by an ideal.
 use Rattle.std.specs.Prelude.{ℕ}
 use Rattle.theory_rings.specs.Ring.{FieldOn}
-use Rattle.theory_spaces.specs.Module.{AlgebraOn}
+use Rattle.theory_spaces.specs.Module.{AlgebraOn, module_of}
+use Rattle.theory_spaces.specs.Linear.{Independent}
 use Rattle.theory_spaces.specs.Valuation.{ValuationOn}
-use Rattle.theory_orders.specs.Orders.{IsOrder, IsIdeal, Power, Multiple, Within, Radical, SimpleQuotient, SimpleByElements}
-use Rattle.theory_orders.specs.Lattices.{Lattice}
+use Rattle.theory_orders.specs.Orders.{IsOrder, IsIdeal, Power, Multiple, LeftOrder, Within, Same, Radical, SimpleQuotient, SimpleByElements}
+use Rattle.theory_orders.specs.Lattices.{Lattice, IsOrderAt}
 
 module _ {K V : Type 0} (F : FieldOn K) (Z : ValuationOn F) (A : AlgebraOn F.ring V) where
   -- of an order and an ideal that are lattices, a quotient that is simple by tests is simple by elements
@@ -25,3 +26,8 @@ module _ {K V : Type 0} (F : FieldOn K) (Z : ValuationOn F) (A : AlgebraOn F.rin
       → Within (Multiple A p (Lattice F Z A n v)) (Lattice F Z A m w)
       → (e : ℕ) → Within (Power A (Lattice F Z A m w) e) (Multiple A p (Lattice F Z A n v))
       → SimpleByElements A (Lattice F Z A n v) (Lattice F Z A m w) → Radical A p (Lattice F Z A n v) (Lattice F Z A m w)
+
+  -- the left order of an ideal that n independent vectors span is an order at the place
+  abbrev pub LeftOrderAt : ℕ → Type 0
+  LeftOrderAt n = (v w : ℕ → V) → IsOrderAt F Z A n v → Independent (module_of A) n w → IsIdeal A (Lattice F Z A n v) (Lattice F Z A n w)
+      → (u : ℕ → V) × IsOrderAt F Z A n u × Same (LeftOrder A (Lattice F Z A n w)) (Lattice F Z A n u)

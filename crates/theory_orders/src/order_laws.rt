@@ -3,10 +3,11 @@ ghost use Rattle.std.specs.Prelude.{ℕ};
 ghost use Rattle.theory_rings.specs.Ring.{RingOn, FieldOn};
 ghost use Rattle.theory_spaces.specs.Module.{AlgebraOn, module_of};
 ghost use Rattle.theory_spaces.specs.Linear.{Basis};
+ghost use Rattle.theory_spaces.specs.Algebra.{Nondegenerate};
 ghost use Rattle.theory_spaces.specs.Valuation.{ValuationOn};
 ghost use Rattle.theory_orders.specs.Uniformizer.{UniformizerOn};
 ghost use Rattle.theory_orders.specs.Orders.{IsOrder, IsIdeal, Products, Power, Multiple, LeftOrder, Within};
-ghost use Rattle.theory_orders.specs.OrderLaws.{SimpleToElements, SimpleToTests, RadicalOfSimple};
+ghost use Rattle.theory_orders.specs.OrderLaws.{SimpleToElements, SimpleToTests, RadicalOfSimple, LeftOrderAt};
 
 /// Two ideals of an order.
 pub trait TwoIdeals {
@@ -74,4 +75,10 @@ pub fn radical_tests_and_elements<A: PlacedAlgebra>()
     ensures to_elements { SimpleToElements A.field A.valuation A.algebra }
     ensures to_tests { SimpleToTests A.field A.valuation A.algebra }
     ensures radical { RadicalOfSimple A.field A.valuation A.algebra A.p }
+{}
+
+/// Where the trace form is nondegenerate, the left order of an ideal that is a lattice of full rank is an order at the
+/// place: independent vectors, as many as the dimension, span it.
+pub fn left_order_is_an_order_at_the_place<A: PlacedAlgebra>()
+    ensures { Nondegenerate A.algebra A.dimension A.basis → LeftOrderAt A.field A.valuation A.algebra A.dimension }
 {}
