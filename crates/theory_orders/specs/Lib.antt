@@ -1,0 +1,11 @@
+pub mod Uniformizer
+pub mod Orders
+pub mod Lattices
+pub mod Dual
+pub mod Ramified
+pub mod Split
+pub mod Tables
+pub mod OrderLaws
+pub mod DualLaws
+pub mod MaximalIdealLaws
+pub mod RamifiedLaws
