@@ -8,10 +8,11 @@ use Rattle.std.proofs.lemmas.Bool.{le-leb, ne_eqb, false_from_ne_true}
 use Rattle.std.proofs.lemmas.List.{get_or_default}
 use Rattle.std.proofs.lemmas.List.Splits.{slice_split_at}
 use Rattle.std.proofs.lemmas.Option.{same_Some, option_and_then_some}
-use Rattle.spl_table.specs.TableText.{Entry, line, entry_line, IsInOrder}
-use Rattle.spl_table.specs.Words.{◌>>=◌, split_once, number_before}
-use Rattle.spl_table.specs.Reading.{entry_of, entry_from, entry_fits, place_of, entries_of, is_over, lines_of}
-use Rattle.spl_table.proofs.Words.{then_some_some, Lacks}
+use Rattle.spl_table.specs.TableText.{Entry, entry_line, IsInOrder}
+use Rattle.spl_text.specs.Text.{line}
+use Rattle.spl_text.specs.Words.{is_over, lines_of, ◌>>=◌, split_once, number_before}
+use Rattle.spl_table.specs.Reading.{entry_of, entry_from, entry_fits, place_of, entries_of}
+use Rattle.spl_text.proofs.Words.{then_some_some, Lacks}
 use Rattle.spl_table.proofs.Places.{Fits, Fits-from_test, test_from_Fits, place_of-lt-place_of, ComesBefore-from_place_of}
 use Rattle.spl_table.proofs.Filling.{entry_from_fits}
 use Rattle.spl_table.proofs.Fields.{entry_text, entry_takes, entry_again, IsShort, Lacks-entry_text}

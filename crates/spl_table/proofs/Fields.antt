@@ -6,10 +6,11 @@ use Rattle.std.specs.Cmp.Lexicographic.{pointwise, same_text}
 use Rattle.std.proofs.lemmas.Cmp.{nat_list_eq_equiv}
 use Rattle.std.proofs.lemmas.Option.{same_Some, option_and_then_some}
 use Rattle.spl_table.specs.declared.reader.head.Head.{Head}
-use Rattle.spl_table.specs.TableText.{Entry, line}
-use Rattle.spl_table.specs.Words.{split_once, strip_prefix, number_of, number_before}
+use Rattle.spl_table.specs.TableText.{Entry}
+use Rattle.spl_text.specs.Text.{line}
+use Rattle.spl_text.specs.Words.{split_once, strip_prefix, number_of, number_before}
 use Rattle.spl_table.specs.Reading.{field_of, degree_of, head_at, entry_of}
-use Rattle.spl_table.proofs.Words.{then_some_some, Lacks, Lacks-append, Lacks-from_test, Lacks-decimal, split_once_takes, split_once_again, strip_prefix_takes, strip_prefix_again, number_takes, number_again, number_before_takes, number_before_again}
+use Rattle.spl_text.proofs.Words.{then_some_some, Lacks, Lacks-append, Lacks-from_test, Lacks-decimal, split_once_takes, split_once_again, strip_prefix_takes, strip_prefix_again, number_takes, number_again, number_before_takes, number_before_again}
 
 -- ---- the line `I J K V`
 

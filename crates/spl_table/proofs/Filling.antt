@@ -8,10 +8,10 @@ use Rattle.std.proofs.lemmas.Bool.{eqb-true, eq-eqb, and_parts, leb-true, cases_
 use Rattle.std.proofs.lemmas.List.{length-set, get_or-set_same, get_or-set_other, get_or-replicate, length-replicate, append-nil}
 use Rattle.std.proofs.lemmas.Option.{option_and_then_some}
 use Rattle.spl_table.specs.TableText.{Entry, constant_at}
-use Rattle.spl_table.specs.Words.{◌>>=◌, split_once}
-use Rattle.spl_table.specs.Reading.{entry_of, entry_from, entry_fits, place_of, entries_of, lines_of, Holds}
-use Rattle.spl_table.proofs.Lines.{lines_of-split, lines_of_last, is_over-lines_of}
-use Rattle.spl_table.proofs.Words.{then_some_some}
+use Rattle.spl_text.specs.Words.{lines_of, ◌>>=◌, split_once}
+use Rattle.spl_table.specs.Reading.{entry_of, entry_from, entry_fits, place_of, entries_of, Holds}
+use Rattle.spl_text.proofs.Lines.{lines_of-split, lines_of_last, is_over-lines_of}
+use Rattle.spl_text.proofs.Words.{then_some_some}
 use Rattle.spl_table.proofs.Places.{Fits-from_test, place, place-lt, place_of-lt, place_injective}
 
 -- an entry that was read fits, and stands where none stood before

@@ -1,6 +1,4 @@
-pub mod Words
 mod Places
-pub mod Lines
 mod Filling
 mod Fields
 mod Entries

@@ -13,7 +13,8 @@ use Rattle.spl_table.specs.declared.table.Table.{Table}
 use Rattle.spl_table.specs.TableText.{Entry, TableText, IsTableText, constant_at}
 use Rattle.spl_table.specs.Table.{field_of, degree_of, algebra_of, IsTableOf}
 use Rattle.spl_table.specs.Refusal.{table_limit, IsRefusal}
-use Rattle.spl_table.specs.Reading.{head_at, entries_of, lines_of, degree_fits, text_of, Holds, IsNotBuilt}
+use Rattle.spl_text.specs.Words.{lines_of}
+use Rattle.spl_table.specs.Reading.{head_at, entries_of, degree_fits, text_of, Holds, IsNotBuilt}
 use Rattle.spl_table.proofs.Text.{text_with, text_takes, text_again}
 
 text_read : (bytes rest : List ℕ) (h : Head) (es : List Entry) → head_at bytes ≡ Some (h, rest) → entries_of (h.degree * h.degree) h.characteristic 0 (lines_of rest) ≡ Some es

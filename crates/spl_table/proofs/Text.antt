@@ -9,9 +9,11 @@ use Rattle.std.proofs.lemmas.List.Splits.{join_with_byte-slice_split}
 use Rattle.std.proofs.lemmas.Option.{option_and_then_some}
 use Rattle.spl_field.specs.FieldByDigits.{IsAdmitted}
 use Rattle.spl_table.specs.declared.reader.head.Head.{Head}
-use Rattle.spl_table.specs.TableText.{Entry, TableText, line, entry_line, spelling, EntryFits, IsTableText}
-use Rattle.spl_table.specs.Reading.{head_at, entries_of, lines_of, degree_fits, text_of}
-use Rattle.spl_table.proofs.Words.{then_some_some}
+use Rattle.spl_table.specs.TableText.{Entry, TableText, entry_line, spelling, EntryFits, IsTableText}
+use Rattle.spl_text.specs.Text.{line}
+use Rattle.spl_text.specs.Words.{lines_of}
+use Rattle.spl_table.specs.Reading.{head_at, entries_of, degree_fits, text_of}
+use Rattle.spl_text.proofs.Words.{then_some_some}
 use Rattle.spl_table.proofs.Admitted.{characteristic_most, modulus_below}
 use Rattle.spl_table.proofs.Places.{Fits}
 use Rattle.spl_table.proofs.Fields.{head_text, head_takes, head_again, IsShortHead}

@@ -1,10 +1,9 @@
 -- The first failed triple, from the searches over its places.
 use Rattle.std.specs.Prelude.{◌≡◌, ◌⊎◌, ℕ, ◌+◌, ◌-◌, ◌<◌}
-use Rattle.std.proofs.Common.{sym, subst, arith, ⊎_elim}
+use Rattle.std.proofs.Common.{subst, arith, ⊎_elim}
 use Rattle.theory_rings.specs.Ops.{Ops}
 use Rattle.spl_algebra.specs.Algebra.{Structure, AssociatesAt}
-use Rattle.spl_table.specs.TableText.{ComesBefore}
-use Rattle.spl_table.specs.Triple.{FailsFirstAt, AssociatesAtPair, FailsFirstAtPair, IsFirstFailed}
+use Rattle.spl_table.specs.Triple.{AssociatesAtPair, FailsFirstAtPair, IsFirstFailed}
 
 module _ {E : Type 0} (o : Ops E) (A : Structure E) where
   -- a triple counted from 1 is what its places counted from 0 are

@@ -1,6 +1,5 @@
 pub mod TableText
 pub mod Table
-pub mod Words
 pub mod Reading
 pub mod Refusal
 pub mod Triple

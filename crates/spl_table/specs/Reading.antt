@@ -1,8 +1,7 @@
 -- The text of a table, read on lists: the lines before the entries, an entry, the entries one after the other, and all.
 -- Contracts of private functions alone cite it; what a text says to a caller is in TableText.
-use Rattle.std.specs.Prelude.{◌≡◌, ℕ, ◌+◌, ◌-◌, ◌*◌, ◌%◌, ◌<◌, Bool, true, false, not, ◌==◌, ◌&&◌, nat_eq, nat_lt, nat_le, slice_index, length, if◌then◌else◌, List, [], ◌∷◌, codes, Option, Some, None}
+use Rattle.std.specs.Prelude.{◌≡◌, ℕ, ◌+◌, ◌-◌, ◌*◌, ◌%◌, ◌<◌, Bool, not, ◌==◌, ◌&&◌, nat_eq, nat_lt, nat_le, slice_index, length, if◌then◌else◌, List, [], ◌∷◌, codes, Option, Some, None}
 use Rattle.std.specs.Bool.{then_some}
-use Rattle.std.specs.List.{slice_split}
 use Rattle.std.specs.Cmp.Lexicographic.{pointwise}
 use Rattle.spl_table.specs.declared.reader.head.Head.{Head}
 use Rattle.spl_table.specs.declared.reader.entries.EntryLine.{EntryLine}
@@ -10,7 +9,7 @@ use Rattle.spl_table.specs.declared.refusal.Kind.TheVariants.{NotBuilt}
 use Rattle.spl_table.specs.declared.refusal.TableFault.{TableFault}
 use Rattle.spl_table.specs.declared.refusal.TableFault.TheVariants.{Refused, Memory}
 use Rattle.spl_table.specs.TableText.{Entry, TableText, constant_at}
-use Rattle.spl_table.specs.Words.{◌>>=◌, split_once, strip_prefix, number_of, number_before}
+use Rattle.spl_text.specs.Words.{◌>>=◌, lines_of, is_over, split_once, strip_prefix, number_of, number_before}
 
 -- the numbers of the line `field P M`
 unfoldable pub field_of : List ℕ → Option (ℕ × ℕ)
@@ -69,21 +68,12 @@ pub record Holds (m p : ℕ) (entries : List Entry) (constants : List ℕ) : Typ
   pub below : (s : ℕ) → s < m * m * m → slice_index constants s < p
   pub at : (i j k : ℕ) → i < m → j < m → k < m → slice_index constants ((i * m + j) * m + k) ≡ constant_at entries (i + 1) (j + 1) (k + 1)
 
--- nothing stands after the last newline, and no line is left
-abbrev pub is_over : List (List ℕ) → Bool
-is_over ([] ∷ []) = true
-is_over _ = false
-
 -- the entries of the lines up to the line `end`, which is the last
 abbrev pub entries_of : ℕ → ℕ → ℕ → List (List ℕ) → Option (List Entry)
 entries_of m p next [] = None
 entries_of m p next (line ∷ lines) =
     if pointwise nat_eq line (codes "end") then then_some (is_over lines) []
     else (entry_from m p next line >>= λ e. entries_of m p (place_of m e + 1) lines >>= λ es. Some (e ∷ es))
-
--- the lines of a text, and what stands after the last newline
-abbrev pub lines_of : List ℕ → List (List ℕ)
-lines_of bytes = slice_split (λ b. b == 10) bytes
 
 -- the degree is 2 to 5, and the characteristic doesn't divide it
 abbrev pub degree_fits : Head → Bool

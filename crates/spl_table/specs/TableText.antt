@@ -3,6 +3,7 @@
 use Rattle.std.specs.Prelude.{◌≡◌, ◌≢◌, ◌⊎◌, ℕ, ◌*◌, ◌%◌, ◌<◌, ◌≤◌, ◌==◌, ◌&&◌, if◌then◌else◌, List, [], ◌∷◌, ◌++◌, codes, decimal}
 use Rattle.std.specs.List.{flat_map, AllByRecursion}
 use Rattle.spl_field.specs.FieldByDigits.{IsAdmitted}
+use Rattle.spl_text.specs.Text.{line}
 
 -- the line `I J K V`: the constant at (I, J, K), counted from 1, is V
 pub record Entry : Type 0 where
@@ -17,10 +18,6 @@ pub record TableText : Type 0 where
   pub modulus : ℕ
   pub degree : ℕ
   pub entries : List Entry
-
--- a text, and a newline
-abbrev pub line : List ℕ → List ℕ
-line text = text ++ 10 ∷ []
 
 abbrev pub entry_line : Entry → List ℕ
 entry_line e = line (decimal e.i ++ codes " " ++ decimal e.j ++ codes " " ++ decimal e.k ++ codes " " ++ decimal e.value)

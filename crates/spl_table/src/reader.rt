@@ -12,7 +12,6 @@ mod entries;
 mod head;
 #[cfg(test)]
 mod tests;
-mod words;
 
 use crate::reader::constants::constants_of;
 use crate::reader::head::Head;

@@ -1,11 +1,12 @@
 // The structure constants that the entries of a table text give.
 ghost use Rattle.std.specs.Prelude.{◌≡◌, ◌*◌, ◌<◌, ◌≤◌, List, replicate, MatchBool, MatchResult, None, Some};
 ghost use Rattle.spl_table.specs.TableText.{Entry};
-ghost use Rattle.spl_table.specs.Reading.{entries_of, lines_of, Holds, IsNotBuilt};
+ghost use Rattle.spl_text.specs.Words.{lines_of};
+ghost use Rattle.spl_table.specs.Reading.{entries_of, Holds, IsNotBuilt};
 
 use crate::reader::entries::EntryLine;
-use crate::reader::words::split_once;
 use crate::refusal::{Kind, TableFault};
+use spl_text::word::split_once;
 use std::alloc::Global;
 
 /// Whether the bytes are entries of m basis elements with values below p, in order, and the line `end`. Puts their

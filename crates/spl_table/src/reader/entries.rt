@@ -1,8 +1,8 @@
 // The entries of a table text.
 ghost use Rattle.std.specs.Prelude.{◌≡◌, ◌*◌, ◌<◌, ◌≤◌, List, replicate, IfSome, IsTrue, MatchBool, None, Some};
-ghost use Rattle.spl_table.specs.Words.{Gives};
+ghost use Rattle.spl_text.specs.Words.{Gives};
 
-use crate::reader::words::{number_before, number_of, split_once};
+use spl_text::word::{number_before, number_of, split_once};
 
 /// The line `I J K V`: the constant at (I, J, K), counted from 1, is V.
 #[derive(Clone, Copy)]

@@ -1,12 +1,12 @@
 // The lines of a table text before its entries.
 ghost use Rattle.std.specs.Prelude.{◌≡◌, ◌<◌, [], ◌∷◌, IfOk, IfErr, OnOk};
 ghost use Rattle.spl_field.specs.FieldByDigits.{IsAdmitted};
-ghost use Rattle.spl_table.specs.Words.{Gives};
+ghost use Rattle.spl_text.specs.Words.{Gives};
 
-use crate::reader::words::{number_before, number_of, split_once, strip_prefix};
 use crate::refusal::{Kind, TableFault};
 use spl_field::admission::FieldFault;
 use spl_field::small::SmallField;
+use spl_text::word::{number_before, number_of, split_once, strip_prefix};
 use std::alloc::Global;
 
 /// The numbers of the lines `field P M` and `degree N`.

@@ -1,4 +1,4 @@
-use Rattle.std.proofs.Common.{◌<◌, slice_index, length, subst, sym, ◌∙◌}
+use Rattle.std.proofs.Common.{◌<◌, slice_index, subst, sym, ◌∙◌}
 use Rattle.spl_table.proofs.Admitted.{characteristic_most, size_of_one}
 use Rattle.spl_table.proofs.TableOf.{table_made}
 use Rattle.spl_table.proofs.reader.table_from_text.Goals as goal

@@ -1,6 +1,5 @@
 use Rattle.std.proofs.Common.{ℕ, ◌<◌, arith, below_more}
 use Rattle.spl_table.specs.Triple.{AssociatesAtPair}
-use Rattle.spl_table.proofs.Triples.{first_failed}
 use Rattle.spl_table.proofs.triple.first_triple.Goals as goal
 
 pub loop-i-preserved : goal.loop-i-preserved

@@ -2,7 +2,7 @@ use Rattle.std.proofs.Common.{◌∙◌, sym, ap}
 use Rattle.std.proofs.Common.{nat_eq}
 use Rattle.std.specs.Cmp.Lexicographic.{pointwise}
 use Rattle.spl_table.specs.Reading.{entry}
-use Rattle.spl_table.proofs.Words.{split_once-shorter}
+use Rattle.spl_text.proofs.Words.{split_once-shorter}
 use Rattle.spl_table.proofs.Filling.{begins, goes_on, ends, stops, stops_short}
 use Rattle.spl_table.proofs.reader.constants.put_entries.Goals as goal
 

@@ -1,7 +1,8 @@
 -- The words of a text, read on lists: each reader gives what is spelled at the front, or as a whole, where something is.
 -- Contracts of private functions alone cite it.
-use Rattle.std.specs.Prelude.{◌≡◌, ℕ, ◌+◌, Bool, not, ◌==◌, ◌&&◌, ◌||◌, nat_eq, nat_lt, nat_le, List, length, take, drop, slice_index, Option, Some, None, option_and_then, position}
+use Rattle.std.specs.Prelude.{◌≡◌, ℕ, ◌+◌, Bool, true, false, not, ◌==◌, ◌&&◌, ◌||◌, nat_eq, nat_lt, nat_le, List, [], ◌∷◌, length, take, drop, slice_index, Option, Some, None, option_and_then, position}
 use Rattle.std.specs.Bool.{then_some}
+use Rattle.std.specs.List.{slice_split}
 use Rattle.std.specs.Str.{all_ascii_digits}
 use Rattle.std.specs.Str.Parse.{digits_value}
 use Rattle.std.specs.Cmp.Lexicographic.{pointwise}
@@ -39,3 +40,12 @@ number_before separator bytes = do
   word ← split_once separator bytes
   n ← number_of word.0
   Some (n, word.1)
+
+-- the lines of a text, and what stands after the last newline
+abbrev pub lines_of : List ℕ → List (List ℕ)
+lines_of bytes = slice_split (λ b. b == 10) bytes
+
+-- nothing stands after the last newline, and no line is left
+abbrev pub is_over : List (List ℕ) → Bool
+is_over ([] ∷ []) = true
+is_over _ = false

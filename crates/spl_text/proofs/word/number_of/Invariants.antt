@@ -1,7 +1,7 @@
 use Rattle.std.proofs.Common.{◌≡◌, ◌^◌, ◌<◌, drop}
 use Rattle.std.specs.Str.{all_ascii_digits}
 use Rattle.std.specs.Str.Parse.{digits_value, digits_value_after}
-use Rattle.spl_table.proofs.reader.words.number_of.Given as goal
+use Rattle.spl_text.proofs.word.number_of.Given as goal
 
 -- the digits so far, and what the others still give
 abbrev pub invariant-loop-byte : goal.invariant-loop-byte

@@ -2,8 +2,8 @@ use Rattle.std.proofs.Common.{◌==◌, sym, ◌∙◌, rules, tests}
 use Rattle.std.proofs.lemmas.Iterator.{YieldsList-from_slice}
 use Rattle.std.proofs.lemmas.Iterator.Search.{position_from_yields_List}
 use Rattle.std.proofs.lemmas.List.{take_rest}
-use Rattle.spl_table.proofs.Words.{split_once_at, split_once_none}
-use Rattle.spl_table.proofs.reader.words.split_once.Goals as goal
+use Rattle.spl_text.proofs.Words.{split_once_at, split_once_none}
+use Rattle.spl_text.proofs.word.split_once.Goals as goal
 
 pub returns-in_err-place : goal.returns-in_err-place
 returns-in_err-place c =

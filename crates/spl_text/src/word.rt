@@ -1,10 +1,10 @@
 // The words of a text: its lines, numbers and literal words.
 ghost use Rattle.std.specs.Prelude.{◌≡◌};
-ghost use Rattle.spl_table.specs.Words.{Gives, split_once, strip_prefix, number_of, number_before};
+ghost use Rattle.spl_text.specs.Words.{Gives, split_once, strip_prefix, number_of, number_before};
 
 /// What stands before the first separator, and what stands after it.
 #[tactic(auto, unfolding(crate::specs::Words::split_once))]
-pub(crate) fn split_once(bytes: &[u8], separator: u8) -> Option<(&[u8], &[u8])>
+pub fn split_once(bytes: &[u8], separator: u8) -> Option<(&[u8], &[u8])>
     ensures { Gives (λ x. (x.0.now, x.1.now)) result (split_once separator bytes.now) }
 {
     let place = bytes.iter().position(|byte| *byte == separator)?;
@@ -13,7 +13,7 @@ pub(crate) fn split_once(bytes: &[u8], separator: u8) -> Option<(&[u8], &[u8])>
 
 /// What stands after the prefix.
 #[tactic(auto, unfolding(crate::specs::Words::strip_prefix))]
-pub(crate) fn strip_prefix<'a>(bytes: &'a [u8], prefix: &[u8]) -> Option<&'a [u8]>
+pub fn strip_prefix<'a>(bytes: &'a [u8], prefix: &[u8]) -> Option<&'a [u8]>
     ensures { Gives (λ x. x.now) result (strip_prefix prefix.now bytes.now) }
 {
     bytes.strip_prefix(prefix)
@@ -21,7 +21,7 @@ pub(crate) fn strip_prefix<'a>(bytes: &'a [u8], prefix: &[u8]) -> Option<&'a [u8
 
 /// The number that the word spells: 0, or a digit from 1 to 9 and at most eight digits.
 #[tactic(auto, unfolding(crate::specs::Words::number_of))]
-pub(crate) fn number_of(word: &[u8]) -> Option<u32>
+pub fn number_of(word: &[u8]) -> Option<u32>
     ensures { result ≡ number_of word.now }
 {
     if word.is_empty() || word.len() > 9 || (word[0] == b'0' && word.len() != 1) {
@@ -39,7 +39,7 @@ pub(crate) fn number_of(word: &[u8]) -> Option<u32>
 
 /// The number before the first separator, and what stands after it.
 #[tactic(auto, unfolding(crate::specs::Words::number_before))]
-pub(crate) fn number_before(bytes: &[u8], separator: u8) -> Option<(u32, &[u8])>
+pub fn number_before(bytes: &[u8], separator: u8) -> Option<(u32, &[u8])>
     ensures { Gives (λ x. (x.0, x.1.now)) result (number_before separator bytes.now) }
 {
     let (word, rest) = split_once(bytes, separator)?;

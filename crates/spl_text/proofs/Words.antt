@@ -14,7 +14,7 @@ use Rattle.std.proofs.lemmas.List.{take_at, drop_at, drop-drop, take-append-drop
 use Rattle.std.proofs.lemmas.List.Sums.{split_at_first, passes_at_first, position_or_len_is}
 use Rattle.std.proofs.lemmas.Option.{cond_some, same_Some, some_pair_parts, option_and_then_some}
 use Rattle.std.proofs.lemmas.Str.Parse.{IsNumeralModel, numerals_by_value, tells_all_ascii_digits, digits_value_short, not_in_digits}
-use Rattle.spl_table.specs.Words.{split_once, strip_prefix, is_number, number_of, number_before}
+use Rattle.spl_text.specs.Words.{split_once, strip_prefix, is_number, number_of, number_before}
 
 -- a test that passed
 pub then_some_some : {A : Type 0} (test : Bool) (x y : A) → then_some test x ≡ Some y → (test ≡ true) × (x ≡ y)
@@ -44,6 +44,16 @@ Lacks-from_test separator (b ∷ bytes) test zero below e =
 Lacks-from_test separator (b ∷ bytes) test (suc i) below e =
     let parts = and_parts (not (eqb b separator)) (list_all (λ x. not (eqb x separator)) bytes) test in
     Lacks-from_test separator bytes parts.1 i (omega arith) e
+
+pub Lacks-cons : (separator b : ℕ) (bytes : List ℕ) → b ≢ separator → Lacks separator bytes → Lacks separator (b ∷ bytes)
+Lacks-cons separator b bytes other lacks zero below = other
+Lacks-cons separator b bytes other lacks (suc i) below = lacks i (omega arith)
+
+-- a byte that stands in the list
+pub not_within : (separator : ℕ) (bytes front rest : List ℕ) → bytes ≡ front ++ separator ∷ rest → Lacks separator bytes → ⊥
+not_within separator bytes front rest e lacks =
+    let within : length front < length bytes = rw e (omega (arith, length-append front (separator ∷ rest))) in
+    lacks (length front) within (rw e (get_or_at front separator rest 0 (length front) refl))
 
 pub Lacks-append : (separator : ℕ) (xs ys : List ℕ) → Lacks separator xs → Lacks separator ys → Lacks separator (xs ++ ys)
 Lacks-append separator xs ys left right i below =
@@ -152,6 +162,11 @@ number_before_takes separator bytes x e =
     let spelled = number_takes word.0 n number in
     let whole : bytes ≡ decimal n ++ separator ∷ word.1 = rw (← spelled.0) (split_once_takes separator bytes word.0 word.1 at) in
     subst (λ (y : ℕ × List ℕ). (bytes ≡ decimal y.0 ++ separator ∷ y.1) × (y.0 < 10 ^ 9)) (same_Some (n, word.1) x made) (whole, spelled.1)))
+
+-- what stands after the number is shorter than all
+pub number_before-shorter : (separator : ℕ) (bytes rest : List ℕ) (n : ℕ) → number_before separator bytes ≡ Some (n, rest) → length rest < length bytes
+number_before-shorter separator bytes rest n read =
+    rw (number_before_takes separator bytes (n, rest) read).0 (omega (arith, length-append (decimal n) (separator ∷ rest)))
 
 pub number_before_again : (separator n : ℕ) (rest : List ℕ) → separator < 48 → n < 10 ^ 9 → number_before separator (decimal n ++ separator ∷ rest) ≡ Some (n, rest)
 unfolding number_before

@@ -6,8 +6,7 @@ use Rattle.std.proofs.lemmas.Bool.{ltb-true, lt-ltb, ne_eqb, cases_lt}
 use Rattle.std.proofs.lemmas.List.Splits.{slice_split_first, slice_split_none}
 use Rattle.std.proofs.lemmas.List.Sums.{fails_before_first}
 use Rattle.std.proofs.lemmas.Option.{cond_some, some_pair_parts, option_and_then_some}
-use Rattle.spl_table.specs.Words.{split_once}
-use Rattle.spl_table.specs.Reading.{lines_of, is_over}
+use Rattle.spl_text.specs.Words.{split_once, lines_of, is_over}
 
 abbrev is_newline : ℕ → Bool
 is_newline b = eqb b 10

@@ -1,0 +1,18 @@
+// The laws of the words.
+ghost use Rattle.std.specs.Prelude.{◌≡◌, ℕ, List, decimal};
+ghost use Rattle.spl_text.specs.Text.{IsNumber, AreNumbers, IsNumberList, FractionText, IsFractionText, numbers_text, fraction_text};
+
+/// A word spells at most one number.
+pub fn one_number_a_word()
+    ensures { (n m : ℕ) → IsNumber n → IsNumber m → decimal n ≡ decimal m → n ≡ m }
+{}
+
+/// A word spells at most one list of numbers.
+pub fn one_list_a_word()
+    ensures { (ns ms : List ℕ) → AreNumbers ns → AreNumbers ms → numbers_text ns ≡ numbers_text ms → ns ≡ ms }
+{}
+
+/// A word spells at most one fraction.
+pub fn one_fraction_a_word()
+    ensures { (t u : FractionText) → IsFractionText t → IsFractionText u → fraction_text t ≡ fraction_text u → t ≡ u }
+{}
