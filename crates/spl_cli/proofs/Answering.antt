@@ -1,11 +1,11 @@
 -- What `decide` answers to the text of a table.
-use Rattle.std.specs.Prelude.{◌≡◌, ◌≤◌, ℕ, List, length}
+use Rattle.std.specs.Prelude.{◌≡◌, ℕ, List, []}
 use Rattle.std.proofs.Common.{inr}
 use Rattle.spl_algebra.specs.Algebra.{IsAssociative}
-use Rattle.spl_table.specs.TableText.{TableText, IsTableText}
+use Rattle.spl_table.specs.TableText.{TableText}
 use Rattle.spl_table.specs.Table.{algebra_of, ops_of, IsTableOf}
 use Rattle.spl_table.specs.Triple.{IsFirstFailed}
-use Rattle.spl_table.specs.Refusal.{table_limit}
+use Rattle.spl_table.specs.Refusal.{whole, IsTableText}
 use Rattle.spl_table.specs.declared.table.Table.{Table}
 use Rattle.spl_table.specs.declared.triple.Triple.{Triple}
 use Rattle.spl_table.specs.declared.refusal.Refusal.{Refusal}
@@ -18,7 +18,7 @@ use Rattle.spl_cli.specs.Run.{SinkState}
 use Rattle.spl_cli.specs.Finish.{Finishes, Answers}
 
 module _ (words : List (List ℕ)) (input : List ℕ) (sink sink' : SinkState) (status : Status) (form : IsDecide words)
-    (table : Table) (read : (t : TableText) × IsTableText input t × IsTableOf t table) (short : length input ≤ table_limit) (bytes : List ℕ) where
+    (table : Table) (read : (t : TableText) × IsTableText whole input t [] × IsTableOf t table) (bytes : List ℕ) where
   -- an associative table is refused at its last line
   pub Answers-undecided : (refusal : Refusal) → IsAssociative (ops_of table) (algebra_of table)
       → refusal.line ≡ line_of_end input → refusal.kind ≡ NotBuilt → bytes ≡ refusal_text refusal
@@ -33,7 +33,7 @@ module _ (words : List (List ℕ)) (input : List ℕ) (sink sink' : SinkState) (
           refusal = refusal;
           cause = inr (record {
             table = table;
-            stands = record { short = short; text = read.0; is_text = read.1; is_table = read.2 };
+            stands = record { text = read.0; is_text = read.1; is_table = read.2 };
             associative = associative;
             line = line;
             kind = kind;
@@ -57,7 +57,7 @@ module _ (words : List (List ℕ)) (input : List ℕ) (sink sink' : SinkState) (
         form,
         record {
           table = table;
-          stands = record { short = short; text = read.0; is_text = read.1; is_table = read.2 };
+          stands = record { text = read.0; is_text = read.1; is_table = read.2 };
           triple = triple;
           first = first;
           report = report;

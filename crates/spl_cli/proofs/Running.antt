@@ -8,10 +8,10 @@ use Rattle.std.specs.Option.{option_map}
 use Rattle.std.specs.Io.KnownBytes.{Keeps, Appends, Consumes, IsAtEnd}
 use Rattle.spl_outside.specs.Faults.{Rose}
 use Rattle.spl_outside.specs.Prefix.{AppendsPart}
-use Rattle.spl_table.specs.Refusal.{table_limit, IsRefusal, IsKind}
+use Rattle.spl_table.specs.Refusal.{table_limit, whole, IsFirstFault, IsRefusal}
 use Rattle.spl_table.specs.declared.refusal.Refusal.{Refusal}
 use Rattle.spl_table.specs.declared.refusal.Kind.{Kind}
-use Rattle.spl_table.specs.declared.refusal.Kind.TheVariants.{TooLong, NotBuilt}
+use Rattle.spl_table.specs.declared.refusal.Kind.TheVariants.{TooLong, NotText, Header, FieldSize, FieldLaw, Degree, Characteristic, EntryForm, EntryRange, EntryOrder, ZeroDenominator, PolyDegree, NoEnd, AfterEnd, NotBuilt}
 use Rattle.spl_cli.specs.declared.status.Status.{Status}
 use Rattle.spl_cli.specs.declared.status.Status.TheVariants.{Done, No, Usage, Refused, ReadFault, WriteFault, Memory}
 use Rattle.spl_cli.specs.Forms.{IsForm, usage_text}
@@ -30,23 +30,37 @@ SinkStands-refl sink = record { faults = omega arith; told = refl; steady = refl
 pub SourceStands-refl : (source : SourceState) → SourceStands source source
 SourceStands-refl source = record { faults = omega arith; told = refl; steady = refl }
 
--- a kind of refusal of a text that is too long stays one of each longer text
-IsKind-append : (kind : Kind) (read rest : List ℕ) → table_limit < length read → IsKind read kind → IsKind (read ++ rest) kind
-IsKind-append TooLong read rest long h = omega (arith, length-append read rest)
-IsKind-append NotBuilt read rest long h = let s = h.0 in absurd (omega arith)
+-- a fault of a text that is too long is one of each longer text
+IsFirstFault-append : (read rest : List ℕ) (line : ℕ) (kind : Kind) → table_limit < length read
+    → IsFirstFault whole read line kind → IsFirstFault whole (read ++ rest) line kind
+IsFirstFault-append read rest line TooLong long h = (h.0, omega (arith, length-append read rest, h.1))
+IsFirstFault-append read rest line NotText long h = absurd (omega (arith, h.0))
+IsFirstFault-append read rest line Header long h = absurd (omega (arith, h.0))
+IsFirstFault-append read rest line FieldSize long h = absurd (omega (arith, h.0))
+IsFirstFault-append read rest line (FieldLaw element) long h = absurd (omega (arith, h.0))
+IsFirstFault-append read rest line Degree long h = absurd (omega (arith, h.0))
+IsFirstFault-append read rest line Characteristic long h = absurd (omega (arith, h.0))
+IsFirstFault-append read rest line EntryForm long h = absurd (omega (arith, h.0))
+IsFirstFault-append read rest line EntryRange long h = absurd (omega (arith, h.0))
+IsFirstFault-append read rest line EntryOrder long h = absurd (omega (arith, h.0))
+IsFirstFault-append read rest line ZeroDenominator long h = absurd (omega (arith, h.0))
+IsFirstFault-append read rest line PolyDegree long h = absurd (omega (arith, h.0))
+IsFirstFault-append read rest line NoEnd long h = absurd (omega (arith, h.0))
+IsFirstFault-append read rest line AfterEnd long h = absurd (omega (arith, h.0))
+IsFirstFault-append read rest line NotBuilt long h = absurd (omega (arith, h.0))
 
 cause-append : (read rest : List ℕ) (refusal : Refusal) → table_limit < length read
-    → IsRefusal read refusal ⊎ IsUndecided read refusal → IsRefusal (read ++ rest) refusal
+    → IsRefusal whole read refusal ⊎ IsUndecided read refusal → IsRefusal whole (read ++ rest) refusal
 cause-append read rest refusal long h = ⊎_elim
-    (λ (r : IsRefusal read refusal). record { line = r.line; kind = IsKind-append refusal.kind read rest long r.kind })
-    (λ (u : IsUndecided read refusal). let t = u.stands in let s = t.short in absurd (omega arith))
+    (λ (r : IsRefusal whole read refusal). IsFirstFault-append read rest refusal.line refusal.kind long r)
+    (λ (u : IsUndecided read refusal). let t = u.stands in absurd (omega (arith, long, t.is_text.within)))
     h
 
 -- what a text that is too long comes to, each longer text comes to
 pub Report-append : (words : List (List ℕ)) (read rest : List ℕ) (answer : Status) (bytes : List ℕ) → table_limit < length read
     → Report words read answer bytes → Report words (read ++ rest) answer bytes
 Report-append words read rest Usage bytes long h = h
-Report-append words read rest Done bytes long h = let e = h.1 in let t = e.stands in let s = t.short in absurd (omega arith)
+Report-append words read rest Done bytes long h = let e = h.1 in let t = e.stands in absurd (omega (arith, long, t.is_text.within))
 Report-append words read rest Refused bytes long h = let r = h.1 in
     (h.0, record { refusal = r.refusal; cause = inl (cause-append read rest r.refusal long r.cause); report = r.report })
 Report-append words read rest No bytes long h = absurd h
@@ -194,7 +208,7 @@ not_reported words input Memory bytes r e = r
 -- a Done report is on a text that is not too long
 Done-short : (words : List (List ℕ)) (input : List ℕ) (answer : Status) (bytes : List ℕ) → Report words input answer bytes
     → (answer ≡ Done) ⊎ (answer ≡ No) → length input ≤ table_limit
-Done-short words input Done bytes r e = let t = (r.1).stands in t.short
+Done-short words input Done bytes r e = let t = (r.1).stands in t.is_text.within
 Done-short words input No bytes r e = absurd r
 Done-short words input Usage bytes r e = absurd (⊎_elim (λ (x : Usage ≡ Done). cc) (λ (x : Usage ≡ No). cc) e)
 Done-short words input Refused bytes r e = absurd (⊎_elim (λ (x : Refused ≡ Done). cc) (λ (x : Refused ≡ No). cc) e)

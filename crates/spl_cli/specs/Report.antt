@@ -1,27 +1,45 @@
 -- What a run reports: the status, and all the bytes that are written.
-use Rattle.std.specs.Prelude.{◌≡◌, ◌⊎◌, ℕ, ◌≤◌, ◌==◌, List, ◌++◌, length, codes, decimal, count_by}
+use Rattle.std.specs.Prelude.{◌≡◌, ◌⊎◌, ℕ, ◌==◌, List, [], ◌++◌, codes, decimal, count_by}
 use Rattle.spl_algebra.specs.Algebra.{IsAssociative}
-use Rattle.spl_table.specs.TableText.{TableText, IsTableText}
+use Rattle.spl_table.specs.TableText.{TableText}
 use Rattle.spl_table.specs.Table.{algebra_of, ops_of, IsTableOf}
 use Rattle.spl_table.specs.Triple.{IsFirstFailed}
-use Rattle.spl_table.specs.Refusal.{table_limit, IsRefusal}
+use Rattle.spl_table.specs.Refusal.{whole, IsTableText, IsRefusal}
 use Rattle.spl_table.specs.declared.table.Table.{Table}
 use Rattle.spl_table.specs.declared.triple.Triple.{Triple}
 use Rattle.spl_table.specs.declared.refusal.Refusal.{Refusal}
 use Rattle.spl_table.specs.declared.refusal.Kind.{Kind}
-use Rattle.spl_table.specs.declared.refusal.Kind.TheVariants.{TooLong, NotBuilt}
+use Rattle.spl_table.specs.declared.refusal.Kind.TheVariants.{TooLong, NotText, Header, FieldSize, FieldLaw, Degree, Characteristic, EntryForm, EntryRange, EntryOrder, ZeroDenominator, PolyDegree, NoEnd, AfterEnd, NotBuilt}
 use Rattle.spl_cli.specs.declared.status.Status.{Status}
 use Rattle.spl_cli.specs.declared.status.Status.TheVariants.{Done, No, Usage, Refused, ReadFault, WriteFault, Memory}
 use Rattle.spl_cli.specs.Forms.{IsDecide, IsForm, usage_text}
 
--- the word for a kind of refusal
-abbrev pub kind_word : Kind → List ℕ
-kind_word TooLong = codes "TooLong"
-kind_word NotBuilt = codes "NotBuilt"
+-- the name of a kind of refusal
+abbrev pub kind_name : Kind → List ℕ
+kind_name TooLong = codes "TooLong"
+kind_name NotText = codes "NotText"
+kind_name Header = codes "Header"
+kind_name FieldSize = codes "FieldSize"
+kind_name (FieldLaw element) = codes "FieldLaw"
+kind_name Degree = codes "Degree"
+kind_name Characteristic = codes "Characteristic"
+kind_name EntryForm = codes "EntryForm"
+kind_name EntryRange = codes "EntryRange"
+kind_name EntryOrder = codes "EntryOrder"
+kind_name ZeroDenominator = codes "ZeroDenominator"
+kind_name PolyDegree = codes "PolyDegree"
+kind_name NoEnd = codes "NoEnd"
+kind_name AfterEnd = codes "AfterEnd"
+kind_name NotBuilt = codes "NotBuilt"
+
+-- after the name of a failed law of fields, the first element without inverse
+abbrev pub element_text : Kind → List ℕ
+element_text (FieldLaw element) = codes " " ++ decimal element
+element_text _ = []
 
 -- `refused LINE KIND`
 abbrev pub refusal_text : Refusal → List ℕ
-refusal_text r = codes "refused " ++ decimal r.line ++ codes " " ++ kind_word r.kind ++ codes "\n"
+refusal_text r = codes "refused " ++ decimal r.line ++ codes " " ++ kind_name r.kind ++ element_text r.kind ++ codes "\n"
 
 -- the evidence text of a failed triple
 abbrev pub triple_text : Triple → List ℕ
@@ -31,11 +49,10 @@ triple_text t = codes "spl-evidence 1\ntriple " ++ decimal t.i ++ codes " " ++ d
 abbrev pub line_of_end : List ℕ → ℕ
 line_of_end input = count_by (λ byte. byte == 10) input
 
--- the input is not too long and the text of a table, and this is the table
+-- the input is the text of a table, and this is the table
 pub record Stands (input : List ℕ) (table : Table) : Type 0 where
-  pub short : length input ≤ table_limit
   pub text : TableText
-  pub is_text : IsTableText input text
+  pub is_text : IsTableText whole input text []
   pub is_table : IsTableOf text table
 
 -- the input is the text of an associative table, which no part that is built decides
@@ -57,7 +74,7 @@ pub record IsEvidence (input bytes : List ℕ) : Type 0 where
 -- the input is refused, and the bytes say as what
 pub record IsRefused (input bytes : List ℕ) : Type 0 where
   pub refusal : Refusal
-  pub cause : IsRefusal input refusal ⊎ IsUndecided input refusal
+  pub cause : IsRefusal whole input refusal ⊎ IsUndecided input refusal
   pub report : bytes ≡ refusal_text refusal
 
 -- what words and an input may come to

@@ -1,6 +1,6 @@
 // The texts of reports.
 ghost use Rattle.std.specs.Prelude.{◌≡◌, ℕ, ◌+◌, ◌<◌, ◌≤◌, ◌^◌, ◌==◌, ◌++◌, length, count_by, codes, decimal, IfOk};
-ghost use Rattle.spl_cli.specs.Report.{kind_word, refusal_text, triple_text, line_of_end};
+ghost use Rattle.spl_cli.specs.Report.{kind_name, element_text, refusal_text, triple_text, line_of_end};
 
 use arrayvec::ArrayString;
 use itoa::Buffer;
@@ -19,13 +19,39 @@ pub(crate) fn end_line(input: &[u8]) -> usize
     input.iter().filter(|byte| **byte == b'\n').count()
 }
 
-/// The word for a kind of refusal.
-fn word_of(kind: Kind) -> &'static str
-    ensures { result.now ≡ kind_word kind }
+/// The name of a kind of refusal.
+fn name_of(kind: Kind) -> &'static str
+    ensures name { result.now ≡ kind_name kind }
+    ensures short { length result.now ≤ 15 }
 {
     match kind {
         Kind::TooLong => "TooLong",
+        Kind::NotText => "NotText",
+        Kind::Header => "Header",
+        Kind::FieldSize => "FieldSize",
+        Kind::FieldLaw { .. } => "FieldLaw",
+        Kind::Degree => "Degree",
+        Kind::Characteristic => "Characteristic",
+        Kind::EntryForm => "EntryForm",
+        Kind::EntryRange => "EntryRange",
+        Kind::EntryOrder => "EntryOrder",
+        Kind::ZeroDenominator => "ZeroDenominator",
+        Kind::PolyDegree => "PolyDegree",
+        Kind::NoEnd => "NoEnd",
+        Kind::AfterEnd => "AfterEnd",
         Kind::NotBuilt => "NotBuilt",
+    }
+}
+
+/// Appends the element without inverse, where the field's laws are at fault.
+fn push_element(line: &mut ArrayString<64>, kind: Kind)
+    requires room { length line.old.bytes ≤ 60 }
+    ensures { line.new.bytes ≡ line.old.bytes ++ element_text kind }
+{
+    if let Kind::FieldLaw { element } = kind {
+        let mut buffer = Buffer::new();
+        line.push_str(" ");
+        line.push_str(buffer.format(element));
     }
 }
 
@@ -38,7 +64,8 @@ pub(crate) fn refusal_line(refusal: Refusal) -> ArrayString<64>
     line.push_str("refused ");
     line.push_str(buffer.format(refusal.line));
     line.push_str(" ");
-    line.push_str(word_of(refusal.kind));
+    line.push_str(name_of(refusal.kind));
+    push_element(&mut line, refusal.kind);
     line.push_str("\n");
     line
 }

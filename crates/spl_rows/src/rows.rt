@@ -1,6 +1,7 @@
 // Whole runs of the program over memory and over std's streams.
 use crate::texts::{
-    FAILED_TRIPLE, FAILED_TRIPLE_EVIDENCE, MATRIX_UNITS, NO_DEGREE, NO_FIELD, ZERO_PRODUCT,
+    FAILED_TRIPLE, FAILED_TRIPLE_EVIDENCE, INVERSE_QUATERNIONS, MATRIX_UNITS, NO_DEGREE, NO_FIELD,
+    QUATERNIONS, ZERO_PRODUCT,
 };
 use spl_cli::run::run;
 use spl_cli::words::Words;
@@ -39,6 +40,12 @@ fn ran_well(alloc: Global, list: &[&str], input: &[u8]) -> Result<(u8, Vec<u8>),
     ran(alloc, list, source, sink)
 }
 
+/// What is written on this input of `decide`.
+pub fn report_on(alloc: Global, input: &[u8]) -> Result<Vec<u8>, Fail> {
+    let (_, written) = ran_well(alloc, &["decide"], input)?;
+    Ok(written)
+}
+
 #[test]
 fn decides(rt: HostRuntime) -> Result<(), Fail> {
     let alloc = rt.alloc();
@@ -46,9 +53,11 @@ fn decides(rt: HostRuntime) -> Result<(), Fail> {
         (FAILED_TRIPLE, 0, FAILED_TRIPLE_EVIDENCE),
         (MATRIX_UNITS, 3, "refused 12 NotBuilt\n"),
         (ZERO_PRODUCT, 3, "refused 4 NotBuilt\n"),
-        (NO_FIELD, 3, "refused 0 NotBuilt\n"),
-        (NO_DEGREE, 3, "refused 0 NotBuilt\n"),
-        ("", 3, "refused 0 NotBuilt\n"),
+        (NO_FIELD, 3, "refused 2 FieldLaw 2\n"),
+        (NO_DEGREE, 3, "refused 3 Header\n"),
+        ("", 3, "refused 1 Header\n"),
+        (QUATERNIONS, 3, "refused 20 NotBuilt\n"),
+        (INVERSE_QUATERNIONS, 3, "refused 20 NotBuilt\n"),
     ];
     for (input, status, report) in cases {
         let (code, written) = ran_well(alloc, &["decide"], input.as_bytes())?;
@@ -63,7 +72,7 @@ fn refuses_too_long_an_input(rt: HostRuntime) -> Result<(), Fail> {
     let alloc = rt.alloc();
     for (count, report) in [
         (8388609, "refused 0 TooLong\n"),
-        (8388608, "refused 0 NotBuilt\n"),
+        (8388608, "refused 1 Header\n"),
     ] {
         let source = MemSource::new(vec![in alloc; b'a'; count]?, 1000000, Vec::new(alloc));
         let sink = MemSink::new(alloc, 1000, 1000, Vec::new(alloc))?;

@@ -21,3 +21,11 @@ pub const NO_FIELD: &str =
 /// The matrix units with a word in place of the degree.
 pub const NO_DEGREE: &str =
     "spl-table 1\nfield 5 0\ndegree two\n1 1 1 1\n1 2 2 1\n2 3 1 1\n2 4 2 1\n3 1 3 1\n3 2 4 1\n4 3 3 1\n4 4 4 1\nend\n";
+
+/// The quaternions i² = x, j² = 2 over F_3(x), on 1, i, j, ij.
+pub const QUATERNIONS: &str =
+    "spl-table 1\nfield 3 0\ndegree 2\n1 1 1 1\n1 2 2 1\n1 3 3 1\n1 4 4 1\n2 1 2 1\n2 2 1 0,1\n2 3 4 1\n2 4 3 0,1\n3 1 3 1\n3 2 4 2\n3 3 1 2\n3 4 2 1\n4 1 4 1\n4 2 3 0,2\n4 3 2 2\n4 4 1 0,1\nend\n";
+
+/// The same with 1/x put for x.
+pub const INVERSE_QUATERNIONS: &str =
+    "spl-table 1\nfield 3 0\ndegree 2\n1 1 1 1\n1 2 2 1\n1 3 3 1\n1 4 4 1\n2 1 2 1\n2 2 1 1/0,1\n2 3 4 1\n2 4 3 1/0,1\n3 1 3 1\n3 2 4 2\n3 3 1 2\n3 4 2 1\n4 1 4 1\n4 2 3 2/0,1\n4 3 2 2\n4 4 1 1/0,1\nend\n";
