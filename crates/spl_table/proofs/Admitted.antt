@@ -1,19 +1,16 @@
--- Numbers that give a field are small.
-use Rattle.std.proofs.Common.{◌≡◌, ℕ, ◌*◌, ◌^◌, ◌<◌, ◌≤◌, List, [], ◌∷◌, length, ap, ◌∙◌, arith}
-use Rattle.std.proofs.Math.Nat.{pow-suc, pow-zero, one-mul}
-use Rattle.spl_field.specs.SmallField.{characteristic, size_of, modulus_of}
-use Rattle.spl_field.specs.declared.small.SmallField.{SmallField}
-use Rattle.spl_field.specs.FieldByDigits.{IsAdmitted, IsFirstWithoutInverse}
+-- Numbers that fit a field are small.
+use Rattle.std.proofs.Common.{◌≡◌, ℕ, ◌<◌, ◌≤◌, List, length, get_or, subst, arith}
+use Rattle.theory_rings.proofs.Numbers.Digits.{le_pow_self}
+use Rattle.spl_field.specs.FieldByDigits.{FitsField}
 
-pub characteristic_most : (p m : ℕ) → IsAdmitted p (m ∷ []) → p ≤ 256
-characteristic_most p m admitted = rw (pow-suc p 0, pow-zero p, one-mul p) at admitted.fits.most
+pub characteristic_most : (p : ℕ) (m : List ℕ) → FitsField p m → p ≤ 256
+characteristic_most p m fits = omega (arith, le_pow_self p (length m) fits.some_number, fits.most)
 
--- where the modulus has one number there are as many elements as the characteristic says
-pub size_of_one : (f : SmallField) (m : ℕ) → modulus_of f ≡ m ∷ [] → size_of f ≡ characteristic f
-size_of_one f m e = f.power ∙ ap (λ l. f.p ^ length l) e ∙ pow-suc f.p 0 ∙ ap (λ n. n * f.p) (pow-zero f.p) ∙ one-mul f.p
+pub modulus_most : (p : ℕ) (m : List ℕ) (k : ℕ) → FitsField p m → k < length m → get_or m k 0 < 256
+modulus_most p m k fits within = omega (arith, characteristic_most p m fits, fits.below k 0 within)
 
-pub modulus_below : (p m : ℕ) → IsAdmitted p (m ∷ []) → m < p
-modulus_below p m admitted = admitted.fits.below 0 0 (omega arith)
-
-pub without_inverse : (p : ℕ) (modulus : List ℕ) (element : ℕ) → IsFirstWithoutInverse p modulus element → IsAdmitted p modulus → ⊥
-without_inverse p modulus element first admitted = first.without (admitted.invertible element first.nonzero first.below)
+-- some number is above 255
+pub high_number : (p : ℕ) (m numbers : List ℕ) → numbers ≡ m → (k : ℕ) × (k < length numbers) × (256 ≤ get_or numbers k 0) → FitsField p m → ⊥
+high_number p m numbers same high fits =
+    let here : (k : ℕ) × (k < length m) × (256 ≤ get_or m k 0) = subst (λ l. (k : ℕ) × (k < length l) × (256 ≤ get_or l k 0)) same high in
+    omega (arith, modulus_most p m here.0 fits here.1, here.2)

@@ -1,27 +1,40 @@
--- Putting the values of entries into a list, one after the other.
-use Rattle.std.proofs.Common.{◌≡◌, ℕ, ◌+◌, ◌-◌, ◌*◌, ◌<◌, ◌≤◌, ◌==◌, ◌&&◌, Bool, true, false, cond, eqb, leb, nat_eq, List, [], ◌∷◌, ◌++◌, length, set, replicate, Option, Some, None, MatchBool, refl, sym, ap, subst, ◌∙◌, inl, inr, append_assoc, arith}
-use Rattle.std.specs.Prelude.{option_map, codes}
-use Rattle.std.specs.Bool.{then_some}
-use Rattle.std.specs.List.{AllByRecursion}
-use Rattle.std.specs.Cmp.Lexicographic.{pointwise}
-use Rattle.std.proofs.lemmas.Bool.{eqb-true, eq-eqb, and_parts, leb-true, cases_eq, false_from_ne_true}
-use Rattle.std.proofs.lemmas.List.{length-set, get_or-set_same, get_or-set_other, get_or-replicate, length-replicate, append-nil}
-use Rattle.std.proofs.lemmas.Option.{option_and_then_some}
-use Rattle.spl_table.specs.TableText.{Entry, constant_at}
-use Rattle.spl_text.specs.Words.{lines_of, ◌>>=◌, split_once}
-use Rattle.spl_table.specs.Reading.{entry_of, entry_from, entry_fits, place_of, entries_of, Holds}
-use Rattle.spl_text.proofs.Lines.{lines_of-split, lines_of_last, is_over-lines_of}
-use Rattle.spl_text.proofs.Words.{then_some_some}
-use Rattle.spl_table.proofs.Places.{Fits-from_test, place, place-lt, place_of-lt, place_injective}
+-- Filling the places of the constants, one entry after the other.
+use Rattle.std.proofs.Common.{◌≡◌, ◌≢◌, ℕ, zero, suc, ◌+◌, ◌-◌, ◌*◌, ◌<◌, ◌≤◌, ◌==◌, ◌&&◌, Bool, true, false, cond, eqb, List, [], ◌∷◌, ◌++◌, length, get_or, replicate, Option, Some, None, refl, sym, ap, subst, ◌∙◌, inl, inr, append_assoc, append-nil, arith}
+use Rattle.std.specs.Prelude.{codes}
+use Rattle.std.specs.List.{flat_map}
+use Rattle.std.proofs.Math.Nat.{mul-le-mul}
+use Rattle.std.proofs.lemmas.Bool.{eqb-true, eq-eqb, and_parts, cases_lt, false_from_ne_true}
+use Rattle.std.proofs.lemmas.List.{length-append, get_or_append_left, get_or-append_right, get_or-replicate, length-replicate, get_or_at}
+use Rattle.std.proofs.lemmas.List.Concat.{flat_map-append}
+use Rattle.theory_rings.specs.Ops.{Ops}
+use Rattle.spl_text.specs.Text.{line}
+use Rattle.spl_fraction.specs.Fraction.{Pair}
+use Rattle.spl_table.specs.TableText.{Entry, Head, entry_line, dimension_of, constant_at, IsInRange, IsRightEntry, AreRightEntries}
+use Rattle.spl_table.specs.Refusal.{last_of, LineFault}
+use Rattle.spl_table.specs.Table.{IsConstant}
+use Rattle.spl_table.specs.Reading.{IfRefused, entry_text, place_of, IsPrevious, AreEntries, IsFaultAfter}
+use Rattle.spl_table.specs.declared.refusal.Kind.{Kind}
+use Rattle.spl_table.specs.declared.refusal.TableFault.{TableFault}
+use Rattle.spl_table.specs.declared.refusal.TableFault.TheVariants.{Refused, Memory}
+use Rattle.spl_table.proofs.Places.{place, place-lt, place_of-lt, place_injective, after_next}
 
--- an entry that was read fits, and stands where none stood before
-pub entry_from_fits : (m p next : ℕ) (line : List ℕ) (e : Entry) → entry_from m p next line ≡ Some e → (entry_fits m p e ≡ true) × (next ≤ place_of m e)
-unfolding entry_from
-entry_from_fits m p next line e read =
-    option_and_then_some _ (entry_of line) e read (λ f spelled then.
-    let passed = then_some_some (entry_fits m p f && leb next (place_of m f)) f e then in
-    let parts = and_parts (entry_fits m p f) (leb next (place_of m f)) passed.0 in
-    subst (λ (g : Entry). (entry_fits m p g ≡ true) × (next ≤ place_of m g)) passed.1 (parts.0, leb-true _ _ parts.1))
+pub length_push : {X : Type 0} (xs : List X) (x : X) (new : List X) → new ≡ xs ++ x ∷ [] → length new ≡ length xs + 1
+length_push xs x new e = ap length e ∙ omega (arith, length-append xs (x ∷ []))
+
+replicate-push : {X : Type 0} (n : ℕ) (z : X) → replicate n z ++ z ∷ [] ≡ replicate (suc n) z
+replicate-push zero z = refl
+replicate-push (suc n) z = ap (λ t. z ∷ t) (replicate-push n z)
+
+-- one zero more
+pub zeros_more : {X : Type 0} (old items new : List X) (z x : X) → items ≡ old ++ replicate (length items - length old) z → length old ≤ length items → x ≡ z → new ≡ items ++ x ∷ []
+    → new ≡ old ++ replicate (length new - length old) z
+zeros_more old items new z x is more same push =
+    let longer = length_push items x new push in
+    let count : suc (length items - length old) ≡ length new - length old = omega arith in
+    push ∙ ap (λ y. items ++ y ∷ []) same ∙ ap (λ t. t ++ z ∷ []) is ∙ append_assoc old (replicate (length items - length old) z) (z ∷ [])
+    ∙ ap (λ t. old ++ t) (replicate-push (length items - length old) z ∙ ap (λ n. replicate n z) count)
+
+-- ---- the constants of entries
 
 -- the entry has this triple
 abbrev names : Entry → ℕ → ℕ → ℕ → Bool
@@ -33,137 +46,200 @@ names_parts e i j k h =
     let b = and_parts (eqb e.i i) (eqb e.j j) a.0 in
     (eqb-true _ _ b.0, eqb-true _ _ b.1, eqb-true _ _ a.1)
 
-names_own : (e : Entry) → names e e.i e.j e.k ≡ true
-names_own e = rw (eq-eqb e.i e.i refl, eq-eqb e.j e.j refl, eq-eqb e.k e.k refl) refl
+names_own : (e : Entry) (i j k : ℕ) → e.i ≡ i → e.j ≡ j → e.k ≡ k → names e i j k ≡ true
+names_own e i j k a b c = rw (eq-eqb e.i i a, eq-eqb e.j j b, eq-eqb e.k k c) refl
 
 -- another entry at the end gives its triple its value, where no entry before had the triple
-constant_at_push_same : (es : List Entry) (e : Entry) → AllByRecursion (λ f. names f e.i e.j e.k ≡ false) es → constant_at (es ++ e ∷ []) e.i e.j e.k ≡ e.value
-constant_at_push_same [] e h = rw (names_own e) refl
-constant_at_push_same (f ∷ es) e h = rw (h.0) (constant_at_push_same es e h.1)
+constant_at-push : (es : List Entry) (e : Entry) (i j k : ℕ) → names e i j k ≡ true → constant_at es i j k ≡ None → constant_at (es ++ e ∷ []) i j k ≡ Some e.value
+constant_at-push [] e i j k here none = rw here refl
+constant_at-push (f ∷ es) e i j k here none = go (names f i j k) none (constant_at-push es e i j k here)
+  where
+    go : (b : Bool) → cond b (Some f.value) (constant_at es i j k) ≡ None → (constant_at es i j k ≡ None → constant_at (es ++ e ∷ []) i j k ≡ Some e.value)
+        → cond b (Some f.value) (constant_at (es ++ e ∷ []) i j k) ≡ Some e.value
+    go true h more = absurd cc
+    go false h more = more h
 
 -- and leaves each other triple its value
-constant_at_push_other : (es : List Entry) (e : Entry) (i j k : ℕ) → names e i j k ≡ false → constant_at (es ++ e ∷ []) i j k ≡ constant_at es i j k
-constant_at_push_other [] e i j k h = rw h refl
-constant_at_push_other (f ∷ es) e i j k h = ap (cond (names f i j k) f.value) (constant_at_push_other es e i j k h)
+constant_at-push_other : (es : List Entry) (e : Entry) (i j k : ℕ) → names e i j k ≡ false → constant_at (es ++ e ∷ []) i j k ≡ constant_at es i j k
+constant_at-push_other [] e i j k other = rw other refl
+constant_at-push_other (f ∷ es) e i j k other = ap (cond (names f i j k) (Some f.value)) (constant_at-push_other es e i j k other)
 
--- the entries stand before this place
-abbrev pub AllBefore : ℕ → ℕ → List Entry → Type 0
-AllBefore m next es = AllByRecursion (λ f. place_of m f < next) es
+module _ (o : Ops ℕ) (h : Head) where
+  -- the first places have the constants of the entries, and no entry has a later place
+  pub record Fills (entries : List Entry) (constants : List (Pair ℕ)) : Type 0 where
+    pub at : (i j k : ℕ) → i < dimension_of h → j < dimension_of h → k < dimension_of h → place (dimension_of h) i j k < length constants
+        → IsConstant o (constant_at entries (i + 1) (j + 1) (k + 1)) (get_or constants (place (dimension_of h) i j k) ([], []))
+    pub later : (i j k : ℕ) → i < dimension_of h → j < dimension_of h → k < dimension_of h → length constants ≤ place (dimension_of h) i j k
+        → constant_at entries (i + 1) (j + 1) (k + 1) ≡ None
 
-others : (m next : ℕ) (es : List Entry) (e : Entry) → AllBefore m next es → next ≤ place_of m e → AllByRecursion (λ f. names f e.i e.j e.k ≡ false) es
-others m next [] e before later = tt
-others m next (f ∷ es) e before later = (
-  false_from_ne_true _ (λ same.
-      let parts = names_parts f e.i e.j e.k same in
-      let here : place_of m f ≡ place_of m e = cc in
-      omega (arith, before.0)),
-  others m next es e before.1 later,
-)
+  Fills-none : Fills [] []
+  Fills-none = record { at = λ i j k il jl kl below. absurd (omega arith); later = λ i j k il jl kl past. refl }
 
-AllBefore_push : (m next : ℕ) (es : List Entry) (e : Entry) → AllBefore m next es → next ≤ place_of m e → AllBefore m (place_of m e + 1) (es ++ e ∷ [])
-AllBefore_push m next [] e before later = (omega arith, tt)
-AllBefore_push m next (f ∷ es) e before later = (omega (arith, before.0), AllBefore_push m next es e before.1 later)
+  zeros : ℕ → List (Pair ℕ)
+  zeros n = replicate n ([], 1 ∷ [])
 
-pub Holds_none : (m p : ℕ) → 0 < p → Holds m p [] (replicate (m * m * m) 0)
-Holds_none m p some = record {
-  full = length-replicate (m * m * m) 0;
-  below = λ s below. rw (get_or-replicate {A = ℕ} (m * m * m) s 0 0 below) some;
-  at = λ i j k i_below j_below k_below. get_or-replicate (m * m * m) (place m i j k) 0 0 (place-lt m i j k i_below j_below k_below);
-}
+  Fills-zeros : (entries : List Entry) (constants : List (Pair ℕ)) (n : ℕ) → Fills entries constants → Fills entries (constants ++ zeros n)
+  unfolding zeros
+  Fills-zeros entries constants n fills = record {
+    at = λ i j k il jl kl below. elim (cases_lt (place (dimension_of h) i j k) (length constants)) [
+      | inl before ↦ rw (get_or_append_left constants (zeros n) ([], []) (place (dimension_of h) i j k) before) (fills.at i j k il jl kl before)
+      | inr past ↦
+          let inside : place (dimension_of h) i j k - length constants < n = omega (arith, below, past, length-append constants (zeros n), length-replicate {A = Pair ℕ} n ([], 1 ∷ [])) in
+          rw (fills.later i j k il jl kl past, get_or-append_right constants (zeros n) (length constants) (place (dimension_of h) i j k) ([], []) refl past)
+          (get_or-replicate n (place (dimension_of h) i j k - length constants) ([], 1 ∷ []) ([], []) inside)
+    ];
+    later = λ i j k il jl kl past. fills.later i j k il jl kl (omega (arith, past, length-append constants (zeros n)));
+  }
 
-Holds_more : (m p next : ℕ) (es : List Entry) (constants : List ℕ) (e : Entry) → entry_fits m p e ≡ true → AllBefore m next es → next ≤ place_of m e
-    → Holds m p es constants → Holds m p (es ++ e ∷ []) (set constants (place_of m e) e.value)
-Holds_more m p next es constants e test before later holds =
-    let fits = Fits-from_test m p e test in
-    let within : place_of m e < length constants = rw holds.full (place_of-lt m p e test) in
-    record {
-      full = length-set constants (place_of m e) e.value ∙ holds.full;
-      below = λ s below. elim (cases_eq s (place_of m e)) [
-        | inl here ↦ rw (here, get_or-set_same constants (place_of m e) e.value 0 within) fits.element
-        | inr other ↦ rw (get_or-set_other constants (place_of m e) s e.value 0 other) (holds.below s below)
-      ];
-      at = λ i j k i_below j_below k_below. elim (cases_eq (place m i j k) (place_of m e)) [
-        | inl here ↦
-            let parts = place_injective m i j k (e.i - 1) (e.j - 1) (e.k - 1) j_below k_below (omega arith) (omega arith) here in
-            let first : i + 1 ≡ e.i = omega arith in
-            let middle : j + 1 ≡ e.j = omega arith in
-            let last : k + 1 ≡ e.k = omega arith in
-            rw (here, get_or-set_same constants (place_of m e) e.value 0 within, first, middle, last)
-            (sym (constant_at_push_same es e (others m next es e before later)))
-        | inr other ↦
-            let apart : names e (i + 1) (j + 1) (k + 1) ≡ false = false_from_ne_true _ (λ same.
-            let parts = names_parts e (i + 1) (j + 1) (k + 1) same in
-            let first : e.i - 1 ≡ i = omega arith in
-            let middle : e.j - 1 ≡ j = omega arith in
-            let last : e.k - 1 ≡ k = omega arith in
-            other (rw (first, middle, last) refl)) in
-            get_or-set_other constants (place_of m e) (place m i j k) e.value 0 other ∙ holds.at i j k i_below j_below k_below
-            ∙ sym (constant_at_push_other es e (i + 1) (j + 1) (k + 1) apart)
-      ];
+  -- the triple of the entry, counted from 0, and no other
+  named : (e : Entry) (i j k : ℕ) → IsInRange h e → j < dimension_of h → k < dimension_of h → place (dimension_of h) i j k ≡ place_of (dimension_of h) e → names e (i + 1) (j + 1) (k + 1) ≡ true
+  named e i j k range jl kl same =
+      let i_low : 1 ≤ e.i = range.i_low in
+      let j_low : 1 ≤ e.j = range.j_low in
+      let k_low : 1 ≤ e.k = range.k_low in
+      let j_high : e.j ≤ dimension_of h = range.j_high in
+      let k_high : e.k ≤ dimension_of h = range.k_high in
+      let parts = place_injective (dimension_of h) i j k (e.i - 1) (e.j - 1) (e.k - 1) jl kl (omega arith) (omega arith) same in
+      let first : i ≡ e.i - 1 = parts.0 in
+      let middle : j ≡ e.j - 1 = parts.1 in
+      let last : k ≡ e.k - 1 = parts.2 in
+      names_own e (i + 1) (j + 1) (k + 1) (omega arith) (omega arith) (omega arith)
+
+  unnamed : (e : Entry) (i j k : ℕ) → place (dimension_of h) i j k ≢ place_of (dimension_of h) e → names e (i + 1) (j + 1) (k + 1) ≡ false
+  unnamed e i j k other = false_from_ne_true _ (λ same.
+      let parts = names_parts e (i + 1) (j + 1) (k + 1) same in
+      let a : e.i ≡ i + 1 = parts.0 in
+      let b : e.j ≡ j + 1 = parts.1 in
+      let c : e.k ≡ k + 1 = parts.2 in
+      let first : e.i - 1 ≡ i = omega arith in
+      let middle : e.j - 1 ≡ j = omega arith in
+      let last : e.k - 1 ≡ k = omega arith in
+      other (rw (first, middle, last) refl))
+
+  Fills-push : (entries : List Entry) (constants : List (Pair ℕ)) (e : Entry) (w : Pair ℕ) → IsInRange h e → place_of (dimension_of h) e ≡ length constants → IsConstant o (Some e.value) w
+      → Fills entries constants → Fills (entries ++ e ∷ []) (constants ++ w ∷ [])
+  Fills-push entries constants e w range at_end is fills = record {
+    at = λ i j k il jl kl below. elim (cases_lt (place (dimension_of h) i j k) (length constants)) [
+      | inl before ↦
+          let other : place (dimension_of h) i j k ≢ place_of (dimension_of h) e = λ same. omega (arith, same, before, at_end) in
+          rw (get_or_append_left constants (w ∷ []) ([], []) (place (dimension_of h) i j k) before, constant_at-push_other entries e (i + 1) (j + 1) (k + 1) (unnamed e i j k other))
+          (fills.at i j k il jl kl before)
+      | inr past ↦
+          let here : length constants ≡ place (dimension_of h) i j k = omega (arith, below, past, length-append constants (w ∷ [])) in
+          rw (
+            get_or_at constants w [] ([], []) (place (dimension_of h) i j k) here,
+            constant_at-push entries e (i + 1) (j + 1) (k + 1) (named e i j k range jl kl (sym here ∙ sym at_end)) (fills.later i j k il jl kl past),
+          ) is
+    ];
+    later = λ i j k il jl kl past.
+        let past' : length constants + 1 ≤ place (dimension_of h) i j k = omega (arith, past, length-append constants (w ∷ [])) in
+        let other : place (dimension_of h) i j k ≢ place_of (dimension_of h) e = λ same. omega (arith, same, past', at_end) in
+        constant_at-push_other entries e (i + 1) (j + 1) (k + 1) (unnamed e i j k other) ∙ fills.later i j k il jl kl (omega (arith, past'));
+  }
+
+  -- ---- the entries that were read
+
+  right-push : (previous : Option Entry) (es : List Entry) (e : Entry) → AreRightEntries h previous es → IsRightEntry h (last_of previous es) e → AreRightEntries h previous (es ++ e ∷ [])
+  right-push previous [] e right is = (is, tt)
+  right-push previous (f ∷ es) e right is = (right.0, right-push (Some f) es e right.1 is)
+
+  last-push : (previous : Option Entry) (es : List Entry) (e : Entry) → last_of previous (es ++ e ∷ []) ≡ Some e
+  last-push previous [] e = refl
+  last-push previous (f ∷ es) e = last-push (Some f) es e
+
+  pub record SoFar (bytes rest : List ℕ) (number : ℕ) (constants : List (Pair ℕ)) : Type 0 where
+    pub entries : List Entry
+    pub right : AreRightEntries h None entries
+    pub spelled : bytes ≡ flat_map entry_line entries ++ rest
+    pub line_number : number ≡ 4 + length entries
+    pub previous : IsPrevious h (length constants) (last_of None entries)
+    pub few : length entries ≤ length constants
+    pub within : length constants ≤ dimension_of h * dimension_of h * dimension_of h
+    pub fills : Fills entries constants
+
+  pub SoFar-none : (bytes : List ℕ) → SoFar bytes bytes 4 []
+  SoFar-none bytes = record {
+    entries = [];
+    right = tt;
+    spelled = refl;
+    line_number = refl;
+    previous = record { range = tt; place = refl };
+    few = omega arith;
+    within = omega arith;
+    fills = Fills-none;
+  }
+
+  module _ (bytes rest : List ℕ) (number : ℕ) (constants : List (Pair ℕ)) (so_far : SoFar bytes rest number constants) where
+    -- an entry stands at a place that is free
+    pub is_free : (e : Entry) → IsRightEntry h (last_of None so_far.entries) e → length constants ≤ place_of (dimension_of h) e
+    is_free e right = after_next h (length constants) (last_of None so_far.entries) e so_far.previous right.range right.order
+
+    pub SoFar-push : (text after : List ℕ) (e : Entry) (w : Pair ℕ) → rest ≡ text ++ 10 ∷ after → text ≡ entry_text e → IsRightEntry h (last_of None so_far.entries) e → IsConstant o (Some e.value) w
+        → SoFar bytes after (number + 1) (constants ++ replicate (place_of (dimension_of h) e - length constants) ([], 1 ∷ []) ++ w ∷ [])
+    unfolding zeros
+    SoFar-push text after e w cut spelled right is =
+        let free = is_free e right in
+        let gap : ℕ = place_of (dimension_of h) e - length constants in
+        let full : length (constants ++ zeros gap) ≡ place_of (dimension_of h) e = omega (arith, free, length-append constants (zeros gap), length-replicate {A = Pair ℕ} gap ([], 1 ∷ [])) in
+        let full' : length (constants ++ zeros gap ++ w ∷ []) ≡ place_of (dimension_of h) e + 1 = omega (arith, full, length-append (constants ++ zeros gap) (w ∷ [])) in
+        let more : length (so_far.entries ++ e ∷ []) ≡ length so_far.entries + 1 = omega (arith, length-append so_far.entries (e ∷ [])) in
+        record {
+          entries = so_far.entries ++ e ∷ [];
+          right = right-push None so_far.entries e so_far.right right;
+          spelled = so_far.spelled ∙ ap (λ t. flat_map entry_line so_far.entries ++ t) (cut ∙ ap (λ t. t ++ 10 ∷ after) spelled ∙ sym (append_assoc (entry_text e) (10 ∷ []) after))
+              ∙ sym (append_assoc (flat_map entry_line so_far.entries) (entry_line e) after)
+              ∙ ap (λ t. t ++ after) (sym (flat_map-append entry_line so_far.entries (e ∷ []) ∙ ap (λ t. flat_map entry_line so_far.entries ++ t) (append-nil (entry_line e))));
+          line_number = omega (arith, so_far.line_number, more);
+          previous = subst (IsPrevious h (length (constants ++ zeros gap ++ w ∷ []))) (sym (last-push None so_far.entries e)) (record { range = right.range; place = full' });
+          few = omega (arith, so_far.few, more, full', free);
+          within = omega (arith, full', place_of-lt h e right.range);
+          fills = Fills-push so_far.entries (constants ++ zeros gap) e w right.range (sym full) is (Fills-zeros so_far.entries constants gap so_far.fills);
+        }
+
+    pub SoFar-end : (after : List ℕ) → rest ≡ codes "end" ++ 10 ∷ after
+        → AreEntries o h bytes after number (constants ++ replicate (dimension_of h * dimension_of h * dimension_of h - length constants) ([], 1 ∷ []))
+    unfolding zeros
+    SoFar-end after cut =
+        let gap : ℕ = dimension_of h * dimension_of h * dimension_of h - length constants in
+        let full : length (constants ++ zeros gap) ≡ dimension_of h * dimension_of h * dimension_of h = omega (arith, so_far.within, length-append constants (zeros gap), length-replicate {A = Pair ℕ} gap ([], 1 ∷ [])) in
+        let fills = Fills-zeros so_far.entries constants gap so_far.fills in
+        record {
+          entries = so_far.entries;
+          right = so_far.right;
+          spelled = so_far.spelled ∙ ap (λ t. flat_map entry_line so_far.entries ++ t) cut;
+          line_number = so_far.line_number;
+          values = record {
+            count = full;
+            at = λ i j k il jl kl. fills.at i j k il jl kl (subst (λ n. place (dimension_of h) i j k < n) (sym full) (place-lt (dimension_of h) i j k il jl kl));
+          };
+        }
+
+    pub SoFar-fault : (kind : Kind) → LineFault h (last_of None so_far.entries) rest kind → IsFaultAfter h bytes number kind
+    SoFar-fault kind fault = record {
+      entries = so_far.entries;
+      rest = rest;
+      right = so_far.right;
+      spelled = so_far.spelled;
+      at_line = so_far.line_number;
+      fault = fault;
     }
 
--- what was read before, and what is still read
-abbrev pub with_front : List Entry → Option (List Entry) → Option (List Entry)
-with_front front read = option_map (λ es. front ++ es) read
+    -- the line is no entry that may stand here
+    pub SoFar-refused : (text after : List ℕ) (e : TableFault) → rest ≡ text ++ 10 ∷ after → IfRefused e (λ at kind. (at ≡ number) × LineFault h (last_of None so_far.entries) (line text ++ after) kind)
+        → IfRefused e (IsFaultAfter h bytes)
+    SoFar-refused text after (Refused refusal) cut fault =
+        let whole : line text ++ after ≡ rest = append_assoc text (10 ∷ []) after ∙ sym cut in
+        subst (λ at. IsFaultAfter h bytes at refusal.kind) (sym fault.0)
+        (SoFar-fault refusal.kind (subst (λ r. LineFault h (last_of None so_far.entries) r refusal.kind) whole fault.1))
+    SoFar-refused text after Memory cut fault = tt
 
-with_front_none : (read : Option (List Entry)) → with_front [] read ≡ read
-with_front_none (Some es) = refl
-with_front_none None = refl
-
-with_front_more : (front : List Entry) (e : Entry) (read : Option (List Entry)) → with_front front (read >>= λ es. Some (e ∷ es)) ≡ with_front (front ++ e ∷ []) read
-with_front_more front e (Some es) = ap Some (simp append_assoc)
-with_front_more front e None = refl
-
--- the bytes up to the rest are these entries, whose values the list has
-pub record SoFar (m p : ℕ) (bytes rest : List ℕ) (next : ℕ) (constants : List ℕ) : Type 0 where
-  pub entries : List Entry
-  pub told : with_front entries (entries_of m p next (lines_of rest)) ≡ entries_of m p 0 (lines_of bytes)
-  pub before : AllBefore m next entries
-  pub holds : Holds m p entries constants
-
-pub begins : (m p : ℕ) (bytes : List ℕ) → 0 < p → SoFar m p bytes bytes 0 (replicate (m * m * m) 0)
-begins m p bytes some = record {
-  entries = [];
-  told = with_front_none (entries_of m p 0 (lines_of bytes));
-  before = tt;
-  holds = Holds_none m p some;
-}
-
-module _ (m p : ℕ) (bytes rest : List ℕ) (next : ℕ) (constants : List ℕ) (so_far : SoFar m p bytes rest next constants) where
-  pub goes_on : (line after : List ℕ) (e : Entry) → split_once 10 rest ≡ Some (line, after) → pointwise nat_eq line (codes "end") ≡ false → entry_from m p next line ≡ Some e
-      → SoFar m p bytes after (place_of m e + 1) (set constants (place_of m e) e.value)
-  goes_on line after e split other read =
-      let fits = entry_from_fits m p next line e read in
-      record {
-        entries = so_far.entries ++ e ∷ [];
-        told = sym (with_front_more so_far.entries e (entries_of m p (place_of m e + 1) (lines_of after)))
-            ∙ ap (with_front so_far.entries) (rw (lines_of-split rest line after split, other, read) refl) ∙ so_far.told;
-        before = AllBefore_push m next so_far.entries e so_far.before fits.1;
-        holds = Holds_more m p next so_far.entries constants e fits.0 so_far.before fits.1 so_far.holds;
-      }
-
-  pub ends : (line after : List ℕ) (over : Bool) → split_once 10 rest ≡ Some (line, after) → pointwise nat_eq line (codes "end") ≡ true → over ≡ eqb (length after) 0
-      → MatchBool over ((es : List Entry) × (entries_of m p 0 (lines_of bytes) ≡ Some es) × Holds m p es constants) (entries_of m p 0 (lines_of bytes) ≡ None)
-  ends line after over split last is =
-      let left : entries_of m p next (lines_of rest) ≡ then_some over [] = rw (lines_of-split rest line after split, last, is_over-lines_of after, ← is) refl in
-      either over (sym so_far.told ∙ ap (with_front so_far.entries) left)
-    where
-      either : (b : Bool) → entries_of m p 0 (lines_of bytes) ≡ with_front so_far.entries (then_some b [])
-          → MatchBool b ((es : List Entry) × (entries_of m p 0 (lines_of bytes) ≡ Some es) × Holds m p es constants) (entries_of m p 0 (lines_of bytes) ≡ None)
-      either true e = (so_far.entries, e ∙ ap Some (append-nil so_far.entries), so_far.holds)
-      either false e = e
-
-  pub stops : (line after : List ℕ) → split_once 10 rest ≡ Some (line, after) → pointwise nat_eq line (codes "end") ≡ false → entry_from m p next line ≡ None → entries_of m p 0 (lines_of bytes) ≡ None
-  stops line after split other unread =
-      let left : entries_of m p next (lines_of rest) ≡ None = rw (lines_of-split rest line after split, other, unread) refl in
-      sym so_far.told ∙ ap (with_front so_far.entries) left
-
-  pub stops_short : split_once 10 rest ≡ None → entries_of m p 0 (lines_of bytes) ≡ None
-  stops_short unsplit =
-      let left : entries_of m p next (lines_of rest) ≡ None = rw (lines_of_last rest unsplit) (nothing (pointwise nat_eq rest (codes "end")) (entry_from m p next rest)) in
-      sym so_far.told ∙ ap (with_front so_far.entries) left
-    where
-      nothing : (b : Bool) (read : Option Entry) → cond b (then_some false []) (read >>= λ e. entries_of m p (place_of m e + 1) [] >>= λ es. Some (e ∷ es)) ≡ None
-      nothing true read = refl
-      nothing false (Some e) = refl
-      nothing false None = refl
+    pub few_lines : (n : ℕ) → n ≤ 5 → dimension_of h ≡ n * n → number ≤ 15629
+    few_lines n small dim =
+        let square : n * n ≤ 5 * 5 = mul-le-mul small small in
+        let m : dimension_of h ≤ 25 = omega arith in
+        let mm : dimension_of h * dimension_of h ≤ 25 * 25 = mul-le-mul m m in
+        let mmm : dimension_of h * dimension_of h * dimension_of h ≤ 25 * 25 * 25 = mul-le-mul mm m in
+        let a = so_far.few in
+        let b = so_far.within in
+        let c = so_far.line_number in
+        omega arith

@@ -1,8 +1,9 @@
+pub mod Spellings
+pub mod TextLaws
 mod Places
+mod Faults
 mod Filling
-mod Fields
-mod Entries
+mod Constants
+mod EntryFaults
 mod Admitted
-mod Text
 pub mod Triples
-mod TableOf

@@ -1,42 +1,11 @@
 -- Where the constants of triples stand: each below the number of constants, apart, and in the order of the triples.
-use Rattle.std.proofs.Common.{◌≡◌, ℕ, ◌+◌, ◌-◌, ◌*◌, ◌/◌, ◌%◌, ◌<◌, ◌≤◌, true, refl, sym, ap, ◌∙◌, inl, inr, arith}
-use Rattle.std.proofs.lemmas.Bool.{and_parts, leb-true, ltb-true, le-leb, lt-ltb, cases_order}
+use Rattle.std.proofs.Common.{◌≡◌, ℕ, ◌+◌, ◌-◌, ◌*◌, ◌/◌, ◌%◌, ◌<◌, ◌≤◌, Option, Some, None, refl, sym, ap, ◌∙◌, inl, inr, arith}
+use Rattle.std.specs.Prelude.{IfSome}
+use Rattle.std.proofs.lemmas.Bool.{cases_lt, cases_order}
 use Rattle.std.proofs.lemmas.Nat.{mul-add-lt, div-mul-add, mod-mul-add}
 use Rattle.std.proofs.Math.Nat.{mul_comm}
-use Rattle.spl_table.specs.TableText.{Entry, ComesBefore}
-use Rattle.spl_table.specs.Reading.{entry_fits, place_of}
-
--- the triple is within the m basis elements, and the value is below p
-pub record Fits (m p : ℕ) (e : Entry) : Type 0 where
-  pub i_low : 1 ≤ e.i
-  pub i_high : e.i ≤ m
-  pub j_low : 1 ≤ e.j
-  pub j_high : e.j ≤ m
-  pub k_low : 1 ≤ e.k
-  pub k_high : e.k ≤ m
-  pub element : e.value < p
-
-pub Fits-from_test : (m p : ℕ) (e : Entry) → entry_fits m p e ≡ true → Fits m p e
-Fits-from_test m p e test =
-    let a = and_parts _ _ test in
-    let b = and_parts _ _ a.0 in
-    let c = and_parts _ _ b.0 in
-    let d = and_parts _ _ c.0 in
-    let f = and_parts _ _ d.0 in
-    let g = and_parts _ _ f.0 in
-    record {
-      i_low = leb-true _ _ g.0;
-      i_high = leb-true _ _ g.1;
-      j_low = leb-true _ _ f.1;
-      j_high = leb-true _ _ d.1;
-      k_low = leb-true _ _ c.1;
-      k_high = leb-true _ _ b.1;
-      element = ltb-true _ _ a.1;
-    }
-
-pub test_from_Fits : (m p : ℕ) (e : Entry) → Fits m p e → entry_fits m p e ≡ true
-test_from_Fits m p e fits =
-    rw (le-leb 1 e.i fits.i_low, le-leb e.i m fits.i_high, le-leb 1 e.j fits.j_low, le-leb e.j m fits.j_high, le-leb 1 e.k fits.k_low, le-leb e.k m fits.k_high, lt-ltb e.value p fits.element) refl
+use Rattle.spl_table.specs.TableText.{Entry, Head, IsInRange, IsAfter, dimension_of, ComesBefore}
+use Rattle.spl_table.specs.Reading.{place_of, next_of, IsPrevious}
 
 -- the place of the triple (i, j, k), counted from 0
 abbrev pub place : ℕ → ℕ → ℕ → ℕ → ℕ
@@ -46,11 +15,6 @@ pub place-lt : (m i j k : ℕ) → i < m → j < m → k < m → place m i j k <
 place-lt m i j k i_below j_below k_below =
     let row : i * m + j < m * m = mul-add-lt i m j m i_below j_below in
     rw (mul_comm (m * m) m) (mul-add-lt (i * m + j) m k (m * m) row k_below)
-
-pub place_of-lt : (m p : ℕ) (e : Entry) → entry_fits m p e ≡ true → place_of m e < m * m * m
-place_of-lt m p e test =
-    let fits = Fits-from_test m p e test in
-    place-lt m (e.i - 1) (e.j - 1) (e.k - 1) (omega (arith, fits)) (omega arith) (omega arith)
 
 -- triples at one place are one
 pub place_injective : (m i j k i' j' k' : ℕ) → j < m → k < m → j' < m → k' < m → place m i j k ≡ place m i' j' k' → (i ≡ i') × (j ≡ j') × (k ≡ k')
@@ -96,20 +60,78 @@ ComesBefore-from_place m i j k i' j' k' j'_below k'_below below =
     apart : place m i j k ≡ place m i' j' k' → ⊥
     apart e = omega arith
 
-pub place_of-lt-place_of : (m p : ℕ) (e f : Entry) → Fits m p e → Fits m p f → ComesBefore e.i e.j e.k f.i f.j f.k → place_of m e < place_of m f
-place_of-lt-place_of m p e f e_fits f_fits before =
-    place-lt-place m (e.i - 1) (e.j - 1) (e.k - 1) (f.i - 1) (f.j - 1) (f.k - 1) (omega arith) (omega arith) (counted_from_0 before)
-  where
-    counted_from_0 : ComesBefore e.i e.j e.k f.i f.j f.k → ComesBefore (e.i - 1) (e.j - 1) (e.k - 1) (f.i - 1) (f.j - 1) (f.k - 1)
-    counted_from_0 (inl lower) = inl (omega arith)
-    counted_from_0 (inr (same, inl lower)) = inr (omega arith, inl (omega arith))
-    counted_from_0 (inr (same, inr (same_too, lower))) = inr (omega arith, inr (omega arith, omega arith))
+from_0 : (i m : ℕ) → 1 ≤ i → i ≤ m → i - 1 < m
+from_0 i m low high = omega arith
 
-pub ComesBefore-from_place_of : (m p : ℕ) (e f : Entry) → Fits m p e → Fits m p f → place_of m e < place_of m f → ComesBefore e.i e.j e.k f.i f.j f.k
-ComesBefore-from_place_of m p e f e_fits f_fits below =
-    counted_from_1 (ComesBefore-from_place m (e.i - 1) (e.j - 1) (e.k - 1) (f.i - 1) (f.j - 1) (f.k - 1) (omega arith) (omega arith) below)
+pub place_of-lt : (h : Head) (e : Entry) → IsInRange h e → place_of (dimension_of h) e < dimension_of h * dimension_of h * dimension_of h
+place_of-lt h e range =
+    place-lt (dimension_of h) (e.i - 1) (e.j - 1) (e.k - 1) (from_0 e.i (dimension_of h) range.i_low range.i_high) (from_0 e.j (dimension_of h) range.j_low range.j_high) (from_0 e.k (dimension_of h) range.k_low range.k_high)
+
+pub place_of-lt-place_of : (h : Head) (e f : Entry) → IsInRange h e → IsInRange h f → ComesBefore e.i e.j e.k f.i f.j f.k → place_of (dimension_of h) e < place_of (dimension_of h) f
+place_of-lt-place_of h e f e_range f_range before =
+    place-lt-place (dimension_of h) (e.i - 1) (e.j - 1) (e.k - 1) (f.i - 1) (f.j - 1) (f.k - 1) (from_0 e.j (dimension_of h) e_range.j_low e_range.j_high) (from_0 e.k (dimension_of h) e_range.k_low e_range.k_high) (counted_from_0 before)
   where
+    il : 1 ≤ e.i
+    il = e_range.i_low
+
+    jl : 1 ≤ e.j
+    jl = e_range.j_low
+
+    kl : 1 ≤ e.k
+    kl = e_range.k_low
+
+    counted_from_0 : ComesBefore e.i e.j e.k f.i f.j f.k → ComesBefore (e.i - 1) (e.j - 1) (e.k - 1) (f.i - 1) (f.j - 1) (f.k - 1)
+    counted_from_0 (inl lower) = inl (omega (arith, il))
+    counted_from_0 (inr (same, inl lower)) = inr (ap (λ x. x - 1) same, inl (omega (arith, jl)))
+    counted_from_0 (inr (same, inr (same_too, lower))) = inr (ap (λ x. x - 1) same, inr (ap (λ x. x - 1) same_too, omega (arith, kl)))
+
+pub ComesBefore-from_place_of : (h : Head) (e f : Entry) → IsInRange h e → IsInRange h f → place_of (dimension_of h) e < place_of (dimension_of h) f → ComesBefore e.i e.j e.k f.i f.j f.k
+ComesBefore-from_place_of h e f e_range f_range below =
+    counted_from_1 (ComesBefore-from_place (dimension_of h) (e.i - 1) (e.j - 1) (e.k - 1) (f.i - 1) (f.j - 1) (f.k - 1)
+    (from_0 f.j (dimension_of h) f_range.j_low f_range.j_high) (from_0 f.k (dimension_of h) f_range.k_low f_range.k_high) below)
+  where
+    ei : 1 ≤ e.i
+    ei = e_range.i_low
+
+    fi : 1 ≤ f.i
+    fi = f_range.i_low
+
+    ej : 1 ≤ e.j
+    ej = e_range.j_low
+
+    fj : 1 ≤ f.j
+    fj = f_range.j_low
+
+    ek : 1 ≤ e.k
+    ek = e_range.k_low
+
+    fk : 1 ≤ f.k
+    fk = f_range.k_low
+
     counted_from_1 : ComesBefore (e.i - 1) (e.j - 1) (e.k - 1) (f.i - 1) (f.j - 1) (f.k - 1) → ComesBefore e.i e.j e.k f.i f.j f.k
-    counted_from_1 (inl lower) = inl (omega arith)
-    counted_from_1 (inr (same, inl lower)) = inr (omega arith, inl (omega arith))
-    counted_from_1 (inr (same, inr (same_too, lower))) = inr (omega arith, inr (omega arith, omega arith))
+    counted_from_1 (inl lower) = inl (omega (arith, ei, fi))
+    counted_from_1 (inr (same, inl lower)) = inr (omega (arith, ei, fi, same), inl (omega (arith, ej, fj)))
+    counted_from_1 (inr (same, inr (same_too, lower))) = inr (omega (arith, ei, fi, same), inr (omega (arith, ej, fj, same_too), omega (arith, ek, fk)))
+
+-- ---- the entry before
+
+pub after_previous : (h : Head) (next : ℕ) (previous : Option Entry) (e : Entry) → IsPrevious h next previous → IsInRange h e → next ≤ place_of (dimension_of h) e → IsAfter previous e
+after_previous h next previous e is range later = go previous is.range is.place
+  where
+    go : (d : Option Entry) → IfSome d (IsInRange h) → next ≡ next_of (dimension_of h) d → IsAfter d e
+    go None d_range at = tt
+    go (Some d) d_range at = ComesBefore-from_place_of h d e d_range range (omega (arith, at, later))
+
+pub not_after_previous : (h : Head) (next : ℕ) (previous : Option Entry) (e : Entry) → IsPrevious h next previous → IsInRange h e → place_of (dimension_of h) e < next → IsAfter previous e → ⊥
+not_after_previous h next previous e is range earlier after = go previous is.range is.place after
+  where
+    go : (d : Option Entry) → IfSome d (IsInRange h) → next ≡ next_of (dimension_of h) d → IsAfter d e → ⊥
+    go None d_range at d_after = omega (arith, at, earlier)
+    go (Some d) d_range at d_after = omega (arith, at, earlier, place_of-lt-place_of h d e d_range range d_after)
+
+pub after_next : (h : Head) (next : ℕ) (previous : Option Entry) (e : Entry) → IsPrevious h next previous → IsInRange h e → IsAfter previous e → next ≤ place_of (dimension_of h) e
+after_next h next previous e is range after =
+    elim (cases_lt (place_of (dimension_of h) e) next) [
+      | inl earlier ↦ absurd (not_after_previous h next previous e is range earlier after)
+      | inr later ↦ later
+    ]

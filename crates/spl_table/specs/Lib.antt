@@ -1,5 +1,5 @@
 pub mod TableText
-pub mod Table
-pub mod Reading
 pub mod Refusal
+pub mod Table
 pub mod Triple
+pub mod Reading

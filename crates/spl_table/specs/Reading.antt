@@ -1,92 +1,126 @@
--- The text of a table, read on lists: the lines before the entries, an entry, the entries one after the other, and all.
--- Contracts of private functions alone cite it; what a text says to a caller is in TableText.
-use Rattle.std.specs.Prelude.{◌≡◌, ℕ, ◌+◌, ◌-◌, ◌*◌, ◌%◌, ◌<◌, Bool, not, ◌==◌, ◌&&◌, nat_eq, nat_lt, nat_le, slice_index, length, if◌then◌else◌, List, [], ◌∷◌, codes, Option, Some, None}
-use Rattle.std.specs.Bool.{then_some}
-use Rattle.std.specs.Cmp.Lexicographic.{pointwise}
-use Rattle.spl_table.specs.declared.reader.head.Head.{Head}
-use Rattle.spl_table.specs.declared.reader.entries.EntryLine.{EntryLine}
-use Rattle.spl_table.specs.declared.refusal.Kind.TheVariants.{NotBuilt}
+-- What the parts of the reader answer. Contracts of private functions alone cite it; what a text says to a caller is in
+-- TableText and Refusal.
+use Rattle.std.specs.Prelude.{◌≡◌, ◌≢◌, ℕ, ◌+◌, ◌-◌, ◌*◌, ◌%◌, ◌≤◌, List, ◌++◌, length, codes, decimal, Option, Some, None, IfSome}
+use Rattle.std.specs.List.{flat_map}
+use Rattle.theory_rings.specs.Ops.{Ops}
+use Rattle.spl_fraction.specs.Fraction.{Pair}
+use Rattle.spl_field.specs.FieldByDigits.{FitsField, IsFirstWithoutInverse}
+use Rattle.spl_field.specs.SmallField.{characteristic, modulus_of}
+use Rattle.spl_field.specs.declared.small.SmallField.{SmallField}
+use Rattle.spl_text.specs.FractionWords.{text_of}
+use Rattle.spl_text.specs.Text.{IsNumber, AreNumbers, numbers_text, fraction_text}
+use Rattle.spl_table.specs.TableText.{Entry, Head, entry_line, end_line, dimension_of, AreRightEntries, IsInRange, IsAfter, IsOverZero, HasSmallDegrees}
+use Rattle.spl_table.specs.Refusal.{LineFault, last_of}
+use Rattle.spl_table.specs.Table.{AreConstants}
+use Rattle.spl_table.specs.declared.reader.entry.EntryWords.{EntryWords}
+use Rattle.spl_table.specs.declared.refusal.Kind.{Kind}
+use Rattle.spl_table.specs.declared.refusal.Kind.TheVariants.{Header, FieldSize, FieldLaw, Degree, Characteristic, EntryRange, EntryOrder, ZeroDenominator, PolyDegree}
 use Rattle.spl_table.specs.declared.refusal.TableFault.{TableFault}
 use Rattle.spl_table.specs.declared.refusal.TableFault.TheVariants.{Refused, Memory}
-use Rattle.spl_table.specs.TableText.{Entry, TableText, constant_at}
-use Rattle.spl_text.specs.Words.{◌>>=◌, lines_of, is_over, split_once, strip_prefix, number_of, number_before}
 
--- the numbers of the line `field P M`
-unfoldable pub field_of : List ℕ → Option (ℕ × ℕ)
-field_of line = do
-  rest ← strip_prefix (codes "field ") line
-  p ← number_before 32 rest
-  m ← number_of p.1
-  Some (p.0, m)
+-- what holds of the line and the kind, unless memory ran out
+abbrev pub IfRefused : TableFault → (ℕ → Kind → Type 0) → Type 0
+IfRefused (Refused refusal) P = P refusal.line refusal.kind
+IfRefused Memory P = Unit {0}
 
--- the number of the line `degree N`
-unfoldable pub degree_of : List ℕ → Option ℕ
-degree_of line = do
-  rest ← strip_prefix (codes "degree ") line
-  number_of rest
+-- ---- what stands on a line
 
--- the three lines before the entries, and what stands after them
-unfoldable pub head_at : List ℕ → Option (Head × List ℕ)
-head_at bytes = do
-  first ← split_once 10 bytes
-  second ← split_once 10 first.1
-  third ← split_once 10 second.1
-  field ← field_of second.0
-  degree ← degree_of third.0
-  then_some (pointwise nat_eq first.0 (codes "spl-table 1")) (record { characteristic = field.0; modulus = field.1; degree = degree }, third.1)
+abbrev pub field_text : ℕ → List ℕ → List ℕ
+field_text p m = codes "field " ++ decimal p ++ codes " " ++ numbers_text m
 
--- the line `I J K V`, as the program has it
-abbrev pub entry : EntryLine → Entry
-entry e = record { i = e.i; j = e.j; k = e.k; value = e.value }
+abbrev pub degree_text : ℕ → List ℕ
+degree_text n = codes "degree " ++ decimal n
 
--- the line `I J K V`
-unfoldable pub entry_of : List ℕ → Option Entry
-entry_of line = do
-  i ← number_before 32 line
-  j ← number_before 32 i.1
-  k ← number_before 32 j.1
-  value ← number_of k.1
-  Some (record { i = i.0; j = j.0; k = k.0; value = value })
+abbrev pub entry_text : Entry → List ℕ
+entry_text e = decimal e.i ++ codes " " ++ decimal e.j ++ codes " " ++ decimal e.k ++ codes " " ++ fraction_text e.value
 
--- the triple is within the m basis elements, and the value is below p
-abbrev pub entry_fits : ℕ → ℕ → Entry → Bool
-entry_fits m p e = nat_le 1 e.i && nat_le e.i m && nat_le 1 e.j && nat_le e.j m && nat_le 1 e.k && nat_le e.k m && nat_lt e.value p
+-- ---- faults of a line
 
--- where the constant of the triple stands among the m³
+-- these numbers give no field
+abbrev pub IsNoField : ℕ → List ℕ → Kind → Type 0
+IsNoField p m FieldSize = FitsField p m → ⊥
+IsNoField p m (FieldLaw element) = IsFirstWithoutInverse p m element
+IsNoField p m _ = ⊥
+
+-- the line says P and M, which give no field
+pub record SaysNoField (text : List ℕ) (kind : Kind) : Type 0 where
+  pub p : ℕ
+  pub m : List ℕ
+  pub characteristic : IsNumber p
+  pub modulus : AreNumbers m
+  pub spelled : text ≡ field_text p m
+  pub fault : IsNoField p m kind
+
+-- the fault of the line of the field
+abbrev pub IsFieldFault : List ℕ → Kind → Type 0
+IsFieldFault text Header = (p : ℕ) (m : List ℕ) → IsNumber p → AreNumbers m → text ≢ field_text p m
+IsFieldFault text kind = SaysNoField text kind
+
+-- a degree that no table of characteristic p has
+abbrev pub IsNoDegree : ℕ → ℕ → Kind → Type 0
+IsNoDegree p n Degree = (2 ≤ n) × (n ≤ 5) → ⊥
+IsNoDegree p n Characteristic = (2 ≤ n) × (n ≤ 5) × (n % p ≡ 0)
+IsNoDegree p n _ = ⊥
+
+-- the line says such a degree
+pub record SaysNoDegree (p : ℕ) (text : List ℕ) (kind : Kind) : Type 0 where
+  pub n : ℕ
+  pub number : IsNumber n
+  pub spelled : text ≡ degree_text n
+  pub fault : IsNoDegree p n kind
+
+-- the fault of the line of the degree
+abbrev pub IsDegreeFault : ℕ → List ℕ → Kind → Type 0
+IsDegreeFault p text Header = (n : ℕ) → IsNumber n → text ≢ degree_text n
+IsDegreeFault p text kind = SaysNoDegree p text kind
+
+-- ---- an entry
+
+-- the entry, as the program has it
+abbrev pub entry_of : EntryWords → Entry
+entry_of w = record { i = w.i; j = w.j; k = w.k; value = text_of w.value }
+
+-- what the first three lines say, as the program has it
+abbrev pub head_of : SmallField → ℕ → Head
+head_of f n = record { characteristic = characteristic f; modulus = modulus_of f; degree = n }
+
+-- where the constant of an entry stands among the m³
 abbrev pub place_of : ℕ → Entry → ℕ
 place_of m e = ((e.i - 1) * m + (e.j - 1)) * m + (e.k - 1)
 
--- the entry of the line, where it fits and stands at this place or a later one
-unfoldable pub entry_from : ℕ → ℕ → ℕ → List ℕ → Option Entry
-entry_from m p next line = do
-  e ← entry_of line
-  then_some (entry_fits m p e && nat_le next (place_of m e)) e
+-- the place after that of the entry before, where there is one
+abbrev pub next_of : ℕ → Option Entry → ℕ
+next_of m None = 0
+next_of m (Some e) = place_of m e + 1
 
--- at each triple below m, counted from 0, the list has the value that the entries give it
-pub record Holds (m p : ℕ) (entries : List Entry) (constants : List ℕ) : Type 0 where
-  pub full : length constants ≡ m * m * m
-  pub below : (s : ℕ) → s < m * m * m → slice_index constants s < p
-  pub at : (i j k : ℕ) → i < m → j < m → k < m → slice_index constants ((i * m + j) * m + k) ≡ constant_at entries (i + 1) (j + 1) (k + 1)
+-- the constants of the entry before, where there is one, and of those before it fill the places below next
+pub record IsPrevious (h : Head) (next : ℕ) (previous : Option Entry) : Type 0 where
+  pub range : IfSome previous (IsInRange h)
+  pub place : next ≡ next_of (dimension_of h) previous
 
--- the entries of the lines up to the line `end`, which is the last
-abbrev pub entries_of : ℕ → ℕ → ℕ → List (List ℕ) → Option (List Entry)
-entries_of m p next [] = None
-entries_of m p next (line ∷ lines) =
-    if pointwise nat_eq line (codes "end") then then_some (is_over lines) []
-    else (entry_from m p next line >>= λ e. entries_of m p (place_of m e + 1) lines >>= λ es. Some (e ∷ es))
+-- why the entry may not follow the one before
+abbrev pub IsEntryFaultOf : Head → Option Entry → Entry → Kind → Type 0
+IsEntryFaultOf h previous e EntryRange = IsInRange h e → ⊥
+IsEntryFaultOf h previous e EntryOrder = IsInRange h e × (IsAfter previous e → ⊥)
+IsEntryFaultOf h previous e ZeroDenominator = IsInRange h e × IsAfter previous e × IsOverZero e.value
+IsEntryFaultOf h previous e PolyDegree = IsInRange h e × IsAfter previous e × (IsOverZero e.value → ⊥) × (HasSmallDegrees e.value → ⊥)
+IsEntryFaultOf h previous e _ = ⊥
 
--- the degree is 2 to 5, and the characteristic doesn't divide it
-abbrev pub degree_fits : Head → Bool
-degree_fits h = nat_le 2 h.degree && nat_le h.degree 5 && not (h.degree % h.characteristic == 0)
+-- ---- the entries
 
--- what a text says, apart from whether its numbers give a field
-unfoldable pub text_of : List ℕ → Option TableText
-text_of bytes = do
-  head ← head_at bytes
-  entries ← entries_of (head.0.degree * head.0.degree) head.0.characteristic 0 (lines_of head.1)
-  then_some (degree_fits head.0) (record { characteristic = head.0.characteristic; modulus = head.0.modulus; degree = head.0.degree; entries = entries })
+-- the bytes are right entries and the line `end`, and the rest follows; the constants are those of the entries
+pub record AreEntries (o : Ops ℕ) (h : Head) (bytes rest : List ℕ) (number : ℕ) (constants : List (Pair ℕ)) : Type 0 where
+  pub entries : List Entry
+  pub right : AreRightEntries h None entries
+  pub spelled : bytes ≡ flat_map entry_line entries ++ (end_line ++ rest)
+  pub line_number : number ≡ 4 + length entries
+  pub values : AreConstants o (dimension_of h) entries constants
 
--- the text is refused as a whole, as not built, and for this reason, unless memory ran out
-abbrev pub IsNotBuilt : TableFault → Type 0 → Type 0
-IsNotBuilt (Refused refusal) reason = (refusal ≡ record { line = 0; kind = NotBuilt }) × reason
-IsNotBuilt Memory reason = Unit {0}
+-- after right entries, which begin at line 4, the next line is at fault
+pub record IsFaultAfter (h : Head) (bytes : List ℕ) (at : ℕ) (kind : Kind) : Type 0 where
+  pub entries : List Entry
+  pub rest : List ℕ
+  pub right : AreRightEntries h None entries
+  pub spelled : bytes ≡ flat_map entry_line entries ++ rest
+  pub at_line : at ≡ 4 + length entries
+  pub fault : LineFault h (last_of None entries) rest kind

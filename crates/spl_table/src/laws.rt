@@ -1,8 +1,17 @@
 // What holds of table texts whoever reads them.
 ghost use Rattle.std.specs.Prelude.{◌≡◌, ℕ, List};
-ghost use Rattle.spl_table.specs.TableText.{TableText, IsTableText};
+ghost use Rattle.spl_table.specs.TableText.{TableText};
+ghost use Rattle.spl_table.specs.Refusal.{Extent, IsTableText, IsRefusal};
+ghost use Rattle.spl_table.specs.declared.refusal.Refusal.{Refusal};
 
-/// A text is the text of at most one table.
+/// A text is the text of at most one table, and the table text ends at one place.
 pub fn one_table_a_text()
-    ensures { (bytes : List ℕ) (t u : TableText) → IsTableText bytes t → IsTableText bytes u → t ≡ u }
+    ensures { (extent : Extent) (bytes : List ℕ) (t u : TableText) (r s : List ℕ)
+        → IsTableText extent bytes t r → IsTableText extent bytes u s → (t ≡ u) × (r ≡ s) }
+{}
+
+/// No text has both a table and a refusal.
+pub fn no_text_has_both()
+    ensures { (extent : Extent) (bytes : List ℕ) (t : TableText) (r : List ℕ) (refusal : Refusal)
+        → IsTableText extent bytes t r → IsRefusal extent bytes refusal → ⊥ }
 {}

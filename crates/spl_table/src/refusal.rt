@@ -10,7 +10,34 @@ use thiserror::Error;
 pub enum Kind {
     /// It has more bytes than a table text may have.
     TooLong,
-    /// It can't be read yet, or no part that is built decides it.
+    /// It has a byte that no text may hold.
+    NotText,
+    /// One of the first three lines is missing, unfinished or not of its form.
+    Header,
+    /// The numbers of the field don't fit: there are not 2 to 256 elements, or a number of the modulus is not below the
+    /// characteristic.
+    FieldSize,
+    /// The element is the first but 0 that has no inverse.
+    FieldLaw { element: u8 },
+    /// The degree is not 2 to 5.
+    Degree,
+    /// The characteristic divides the degree.
+    Characteristic,
+    /// A finished line is neither `end` nor an entry.
+    EntryForm,
+    /// A basis element or an element of the field is not in range.
+    EntryRange,
+    /// The triple is not greater than the one before.
+    EntryOrder,
+    /// The denominator is `0`.
+    ZeroDenominator,
+    /// A polynomial has a degree above 32.
+    PolyDegree,
+    /// The input ends before a line `end`.
+    NoEnd,
+    /// A byte follows the line `end`.
+    AfterEnd,
+    /// The text is right, but no part that is built decides it.
     NotBuilt,
 }
 
@@ -31,12 +58,12 @@ pub enum TableFault {
 }
 
 impl TableFault {
-    /// The refusal of a text as a whole.
-    pub(crate) fn whole(kind: Kind) -> TableFault
-        ensures { result ≡ TableFault.Refused (record { line = 0; kind = kind }) }
+    /// The refusal at a line.
+    pub(crate) fn at(line: u32, kind: Kind) -> TableFault
+        ensures { result ≡ TableFault.Refused (record { line = line; kind = kind }) }
     {
         TableFault::Refused {
-            refusal: Refusal { line: 0, kind },
+            refusal: Refusal { line, kind },
         }
     }
 }

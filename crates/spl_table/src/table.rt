@@ -1,62 +1,72 @@
 // Tables.
-ghost use Rattle.std.specs.Prelude.{◌≡◌, ◌≢◌, ℕ, ◌*◌, ◌%◌, ◌<◌, ◌≤◌, length, slice_index, IfOk};
+ghost use Rattle.std.specs.Prelude.{◌≡◌, ◌≢◌, ℕ, ◌*◌, ◌%◌, ◌<◌, ◌≤◌, length, All, IfOk};
+ghost use Rattle.theory_rings.specs.Ops.{IsElem};
+ghost use Rattle.spl_field.specs.SmallField.{characteristic};
+ghost use Rattle.spl_fraction.specs.Fractions.{field_of as base_of};
+ghost use Rattle.spl_fraction.specs.FractionsOver.{fractions_over};
 
-use spl_algebra::algebra::Algebra;
+use spl_algebra::algebra::{Algebra, Constants};
 use spl_field::field::NoMemory;
 use spl_field::small::SmallField;
-use spl_field::vector::Vector;
+use spl_fraction::field::Fractions;
 use std::alloc::Global;
 
-/// A table: a field of 2 to 256 elements, a degree n from 2 to 5 that its characteristic doesn't divide, and an algebra
-/// of dimension n² over the field.
+/// A table: the rational functions over a field of 2 to 256 elements, a degree n from 2 to 5 that its characteristic
+/// doesn't divide, and an algebra of dimension n² over the rational functions.
 #[derive(Drop)]
 pub struct Table {
-    field: SmallField,
+    fractions: Fractions,
     degree: usize,
-    algebra: Algebra<SmallField>,
+    algebra: Algebra<Fractions>,
     ghost degree_low: { 2 ≤ degree },
     ghost degree_high: { degree ≤ 5 },
-    ghost characteristic_apart: { degree % field.p ≢ 0 },
+    ghost apart: { degree % characteristic (base_of fractions) ≢ 0 },
     ghost dim: { algebra.dim ≡ degree * degree },
     ghost count: { length algebra.constants ≡ algebra.dim * algebra.dim * algebra.dim },
-    ghost over: { (s : ℕ) → s < length algebra.constants → (slice_index algebra.constants s < field.size) },
+    ghost over: { All (IsElem (fractions_over (base_of fractions))) algebra.constants },
 }
 
 impl Table {
     ghost use Rattle.spl_algebra.specs.Algebra.{IsOver};
-    ghost use Rattle.spl_field.specs.SmallField.{characteristic, size_of};
-    ghost use Rattle.spl_table.specs.Table.{field_of, degree_of, algebra_of, ops_of};
+    ghost use Rattle.spl_table.specs.Table.{fractions_of, field_of, degree_of, algebra_of, ops_of};
 
-    /// The table of a field, a degree and constants, which are taken as elements of the field.
-    pub(crate) fn new(
+    /// The table of a field of fractions, a degree n and n⁶ constants: that at the basis elements i, j and k, counted from
+    /// 0, stands at (i·m + j)·m + k, where m is n².
+    pub(crate) fn of(
         alloc: Global,
-        field: SmallField,
-        degree: usize,
-        constants: Vec<u8>,
+        fractions: Fractions,
+        n: usize,
+        constants: Constants<Fractions>,
     ) -> Result<Table, NoMemory>
-        requires low { 2 ≤ degree }
-        requires high { degree ≤ 5 }
-        requires apart { degree % characteristic field ≢ 0 }
-        requires full { length constants.items ≡ degree * degree * (degree * degree) * (degree * degree) }
-        requires below { (s : ℕ) → s < length constants.items → slice_index constants.items s < size_of field }
-        ensures field { IfOk result (λ t. field_of t ≡ field) }
-        ensures degree { IfOk result (λ t. degree_of t ≡ degree) }
-        ensures algebra { IfOk result (λ t. algebra_of t ≡ record { dim = degree * degree; constants = constants.items }) }
+        requires low { 2 ≤ n }
+        requires high { n ≤ 5 }
+        requires apart { n % characteristic (base_of fractions) ≢ 0 }
+        requires full { length constants ≡ n * n * (n * n) * (n * n) }
+        requires over { All (IsElem (fractions_over (base_of fractions))) constants }
+        ensures fractions { IfOk result (λ t. fractions_of t ≡ fractions) }
+        ensures degree { IfOk result (λ t. degree_of t ≡ n) }
+        ensures algebra { IfOk result (λ t. algebra_of t ≡ record { dim = n * n; constants = constants }) }
     {
-        let constants = Vector::from_vec(constants);
-        let algebra = Algebra::new(alloc, &field, degree * degree, constants)?;
+        let algebra = Algebra::new(alloc, &fractions, n * n, constants)?;
         Ok(Table {
-            field,
-            degree,
+            fractions,
+            degree: n,
             algebra,
         })
     }
 
-    /// The field.
+    /// The field that the coefficients of the fractions are elements of.
     pub fn field(&self) -> &SmallField
         ensures { result.now ≡ field_of self.now }
     {
-        &self.field
+        self.fractions.field()
+    }
+
+    /// The field of fractions.
+    pub fn fractions(&self) -> &Fractions
+        ensures { result.now ≡ fractions_of self.now }
+    {
+        &self.fractions
     }
 
     /// The degree n.
@@ -69,7 +79,7 @@ impl Table {
     }
 
     /// The algebra, of dimension n².
-    pub fn algebra(&self) -> &Algebra<SmallField>
+    pub fn algebra(&self) -> &Algebra<Fractions>
         ensures algebra { result.now ≡ algebra_of self.now }
         ensures dim { result.now.dim ≡ degree_of self.now * degree_of self.now }
         ensures over { IsOver (ops_of self.now) result.now }

@@ -94,5 +94,5 @@ pub fn first_failed_triple(alloc: Global, table: &Table) -> Result<Option<Triple
     ensures { IfOk result (λ r. MatchOption r (IsAssociative (ops_of table.now) (algebra_of table.now))
         (IsFirstFailed (ops_of table.now) (algebra_of table.now))) }
 {
-    first_triple(alloc, table.field(), table.algebra())
+    first_triple(alloc, table.fractions(), table.algebra())
 }

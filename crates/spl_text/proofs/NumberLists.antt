@@ -1,16 +1,14 @@
 -- The numbers that a word spells, joined by commas: read from the front, and at most once.
-use Rattle.std.proofs.Common.{◌≡◌, ◌≢◌, ◌⊎◌, ℕ, zero, suc, ◌+◌, ◌-◌, ◌<◌, List, [], ◌∷◌, ◌++◌, length, get_or, take, drop, Some, None, refl, sym, ap, subst, ◌∙◌, inl, inr, arith, lit<, append_assoc, append-nil}
+use Rattle.std.proofs.Common.{◌≡◌, ◌≢◌, ◌⊎◌, ℕ, zero, suc, ◌+◌, ◌-◌, ◌<◌, List, [], ◌∷◌, ◌++◌, length, get_or, take, drop, refl, sym, ap, subst, ◌∙◌, inl, inr, arith, lit<, append_assoc, append-nil}
 use Rattle.std.specs.Prelude.{decimal}
 use Rattle.std.specs.List.{AllByRecursion, flat_map}
 use Rattle.std.proofs.Math.Seq.{take-suc}
 use Rattle.std.proofs.lemmas.Fmt.{decimal_digit}
 use Rattle.std.proofs.lemmas.List.{length-append}
 use Rattle.std.proofs.lemmas.List.Concat.{flat_map-append}
-use Rattle.std.proofs.lemmas.Option.{same_Some, some_pair_parts}
 use Rattle.theory_rings.specs.Polynomial.{IsTrimmed}
-use Rattle.spl_text.specs.Text.{IsNumber, numbers_text, AreNumbers, IsNumberList, coefficients_text, HasFront}
-use Rattle.spl_text.specs.Words.{number_of, number_before}
-use Rattle.spl_text.proofs.Words.{Lacks, Lacks-append, Lacks-decimal, Lacks-cons, not_within, number_takes, number_again, number_before_takes, number_before_again}
+use Rattle.spl_text.specs.Text.{Lacks, IsNumber, numbers_text, AreNumbers, IsNumberList, coefficients_text, HasFront}
+use Rattle.spl_text.proofs.Words.{Lacks-append, Lacks-decimal, Lacks-cons, not_within, number_unique, number_and_rest}
 
 -- ---- which bytes do not stand in the words
 
@@ -61,46 +59,35 @@ pub record SoFar (word rest ns : List ℕ) : Type 0 where
 pub SoFar-none : (word : List ℕ) → SoFar word word []
 SoFar-none word = record { each = tt; spelled = refl; again = λ ms are e. record { numbers = ms; are = are; spelled = e } }
 
-rest_after : (ls after : List ℕ) (n : ℕ) → AreNumbers ls → number_before 44 (numbers_text ls) ≡ Some (n, after) → Rest after
-rest_after [] after n are read = absurd (omega (arith, are.some))
-rest_after (m ∷ []) after n are read =
-    let spelled : decimal m ≡ decimal n ++ 44 ∷ after = (number_before_takes 44 (decimal m) (n, after) read).0 in
-    absurd (not_within 44 (decimal m) (decimal n) after spelled (Lacks-decimal 44 m (omega arith) are.each.0))
-rest_after (m ∷ k ∷ ks) after n are read =
-    let again : number_before 44 (decimal m ++ 44 ∷ numbers_text (k ∷ ks)) ≡ Some (m, numbers_text (k ∷ ks)) = number_before_again 44 m (numbers_text (k ∷ ks)) (omega arith) are.each.0 in
-    let parts = some_pair_parts n m after (numbers_text (k ∷ ks)) (sym read ∙ ap (number_before 44) (more m k ks) ∙ again) in
-    record { numbers = k ∷ ks; are = record { some = omega arith; each = are.each.1 }; spelled = parts.1 }
+rest_after : (ls after : List ℕ) (n : ℕ) → AreNumbers ls → IsNumber n → numbers_text ls ≡ decimal n ++ 44 ∷ after → Rest after
+rest_after [] after n are is read = absurd (omega (arith, are.some))
+rest_after (m ∷ []) after n are is read = absurd (not_within 44 (decimal m) (decimal n) after read (Lacks-decimal 44 m (omega arith) are.each.0))
+rest_after (m ∷ k ∷ ks) after n are is read =
+    let both = number_and_rest 44 n m after (numbers_text (k ∷ ks)) (omega arith) is are.each.0 (sym read ∙ more m k ks) in
+    record { numbers = k ∷ ks; are = record { some = omega arith; each = are.each.1 }; spelled = both.1 }
 
-pub SoFar-push : (word rest ns after : List ℕ) (n : ℕ) → SoFar word rest ns → number_before 44 rest ≡ Some (n, after) → SoFar word after (ns ++ n ∷ [])
-SoFar-push word rest ns after n so_far read =
-    let found = number_before_takes 44 rest (n, after) read in
+pub SoFar-push : (word rest ns after : List ℕ) (n : ℕ) → SoFar word rest ns → IsNumber n → rest ≡ decimal n ++ 44 ∷ after → SoFar word after (ns ++ n ∷ [])
+SoFar-push word rest ns after n so_far is read =
     record {
-      each = each-push ns n so_far.each found.1;
-      spelled = so_far.spelled ∙ ap (λ t. commas_text ns ++ t) found.0 ∙ commas_text-push ns after n;
-      again = λ ms are e. let left = so_far.again ms are e in rest_after left.numbers after n left.are (ap (number_before 44) (sym left.spelled) ∙ read);
+      each = each-push ns n so_far.each is;
+      spelled = so_far.spelled ∙ ap (λ t. commas_text ns ++ t) read ∙ commas_text-push ns after n;
+      again = λ ms are e. let left = so_far.again ms are e in rest_after left.numbers after n left.are is (sym left.spelled ∙ read);
     }
 
-pub SoFar-last : (word rest ns : List ℕ) (n : ℕ) → SoFar word rest ns → number_of rest ≡ Some n → AreNumbers (ns ++ n ∷ []) × (word ≡ numbers_text (ns ++ n ∷ []))
-SoFar-last word rest ns n so_far read =
-    let found = number_takes rest n read in
-    (AreNumbers-push ns n so_far.each found.1, so_far.spelled ∙ ap (λ t. commas_text ns ++ t) found.0 ∙ numbers_text-push ns n)
+pub SoFar-last : (word rest ns : List ℕ) (n : ℕ) → SoFar word rest ns → IsNumber n → rest ≡ decimal n → AreNumbers (ns ++ n ∷ []) × (word ≡ numbers_text (ns ++ n ∷ []))
+SoFar-last word rest ns n so_far is read =
+    (AreNumbers-push ns n so_far.each is, so_far.spelled ∙ ap (λ t. commas_text ns ++ t) read ∙ numbers_text-push ns n)
 
-no_rest : (ls : List ℕ) → AreNumbers ls → number_before 44 (numbers_text ls) ≡ None → number_of (numbers_text ls) ≡ None → ⊥
-no_rest [] are unbefore unread = omega (arith, are.some)
-no_rest (m ∷ []) are unbefore unread = let again = number_again m are.each.0 in absurd cc
-no_rest (m ∷ k ∷ ks) are unbefore unread =
-    let again : number_before 44 (numbers_text (m ∷ k ∷ ks)) ≡ Some (m, numbers_text (k ∷ ks)) = ap (number_before 44) (more m k ks) ∙ number_before_again 44 m (numbers_text (k ∷ ks)) (omega arith) are.each.0 in
-    absurd cc
+no_rest : (rest ls : List ℕ) → AreNumbers ls → rest ≡ numbers_text ls → ((n : ℕ) (after : List ℕ) → IsNumber n → rest ≢ decimal n ++ 44 ∷ after) → ((n : ℕ) → IsNumber n → rest ≢ decimal n) → ⊥
+no_rest rest [] are e unbefore unread = omega (arith, are.some)
+no_rest rest (m ∷ []) are e unbefore unread = unread m are.each.0 e
+no_rest rest (m ∷ k ∷ ks) are e unbefore unread = unbefore m (numbers_text (k ∷ ks)) are.each.0 (e ∙ more m k ks)
 
-pub SoFar-stuck : (word rest ns : List ℕ) → SoFar word rest ns → number_before 44 rest ≡ None → number_of rest ≡ None → (ms : List ℕ) → AreNumbers ms → word ≢ numbers_text ms
-SoFar-stuck word rest ns so_far unbefore unread ms are e =
-    let left = so_far.again ms are e in
-    no_rest left.numbers left.are (ap (number_before 44) (sym left.spelled) ∙ unbefore) (ap number_of (sym left.spelled) ∙ unread)
+pub SoFar-stuck : (word rest ns : List ℕ) → SoFar word rest ns → ((n : ℕ) (after : List ℕ) → IsNumber n → rest ≢ decimal n ++ 44 ∷ after) → ((n : ℕ) → IsNumber n → rest ≢ decimal n)
+    → (ms : List ℕ) → AreNumbers ms → word ≢ numbers_text ms
+SoFar-stuck word rest ns so_far unbefore unread ms are e = let left = so_far.again ms are e in no_rest rest left.numbers left.are left.spelled unbefore unread
 
 -- ---- a word spells one list
-
-pub number_unique : (n m : ℕ) → IsNumber n → IsNumber m → decimal n ≡ decimal m → n ≡ m
-number_unique n m is_n is_m e = same_Some n m (sym (number_again n is_n) ∙ ap number_of e ∙ number_again m is_m)
 
 one_or_more : (n m k : ℕ) (ks : List ℕ) → IsNumber n → decimal n ≡ numbers_text (m ∷ k ∷ ks) → ⊥
 one_or_more n m k ks is e = not_within 44 (decimal n) (decimal m) (numbers_text (k ∷ ks)) (e ∙ more m k ks) (Lacks-decimal 44 n (omega arith) is)
@@ -112,9 +99,7 @@ numbers_unique (n ∷ []) (m ∷ []) are_n are_m e = ap (λ a. a ∷ []) (number
 numbers_unique (n ∷ []) (m ∷ k ∷ ks) are_n are_m e = absurd (one_or_more n m k ks are_n.each.0 e)
 numbers_unique (n ∷ l ∷ ls) (m ∷ []) are_n are_m e = absurd (one_or_more m n l ls are_m.each.0 (sym e))
 numbers_unique (n ∷ l ∷ ls) (m ∷ k ∷ ks) are_n are_m e =
-    let parts = some_pair_parts n m (numbers_text (l ∷ ls)) (numbers_text (k ∷ ks))
-    (sym (number_before_again 44 n (numbers_text (l ∷ ls)) (omega arith) are_n.each.0) ∙ ap (number_before 44) (sym (more n l ls) ∙ e ∙ more m k ks)
-    ∙ number_before_again 44 m (numbers_text (k ∷ ks)) (omega arith) are_m.each.0) in
+    let parts = number_and_rest 44 n m (numbers_text (l ∷ ls)) (numbers_text (k ∷ ks)) (omega arith) are_n.each.0 are_m.each.0 (sym (more n l ls) ∙ e ∙ more m k ks) in
     let tails = numbers_unique (l ∷ ls) (k ∷ ks) (record { some = omega arith; each = are_n.each.1 }) (record { some = omega arith; each = are_m.each.1 }) parts.1 in
     ap (λ a. a ∷ l ∷ ls) parts.0 ∙ ap (λ t. m ∷ t) tails
 

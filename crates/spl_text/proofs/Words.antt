@@ -1,39 +1,22 @@
--- What is read is spelled so, and what is spelled so is read: words, prefixes and numbers.
-use Rattle.std.proofs.Common.{◌≡◌, ◌≢◌, ℕ, zero, suc, ◌+◌, ◌-◌, ◌^◌, ◌<◌, ◌≤◌, ◌==◌, ◌&&◌, ◌||◌, Bool, true, false, not, eqb, ltb, leb, nat_eq, List, [], ◌∷◌, ◌++◌, length, take, drop, get_or, Some, None, refl, sym, ap, subst, ◌∙◌, inl, inr, arith, lit<}
-use Rattle.std.specs.Prelude.{position, decimal}
+-- The words of a text: what stands before a byte, what follows a prefix, and numbers.
+use Rattle.std.proofs.Common.{◌≡◌, ◌≢◌, ℕ, zero, suc, ◌+◌, ◌-◌, ◌^◌, ◌<◌, ◌≤◌, ◌==◌, ◌&&◌, ◌||◌, Bool, true, false, not, cond, eqb, ltb, leb, nat_eq, List, [], ◌∷◌, ◌++◌, length, take, drop, get_or, slice_index, Option, Some, None, refl, sym, ap, subst, ◌∙◌, inl, inr, arith, lit<}
+use Rattle.std.specs.Prelude.{position, decimal, nat_lt, nat_le, MatchOption}
 use Rattle.std.specs.Bool.{then_some}
 use Rattle.std.specs.List.{position_or_len, list_all}
 use Rattle.std.specs.Str.{all_ascii_digits}
 use Rattle.std.specs.Str.Parse.{digits_value}
 use Rattle.std.specs.Cmp.Lexicographic.{pointwise, same_text}
 use Rattle.std.proofs.Math.Nat.{pow-le-pow_right}
-use Rattle.std.proofs.lemmas.Bool.{ltb-true, leb-true, eqb-true, eq-eqb, ne_eqb, lt-ltb, le-leb, and_parts, or_cases, or_left, not-true, both_ways, not_from_false, cases_lt}
+use Rattle.std.proofs.lemmas.Bool.{ltb-true, leb-true, eqb-true, eqb-false, eq-eqb, ne_eqb, lt-ltb, le-leb, and_parts, or_cases, or_left, not-true, both_ways, not_from_false, cases_lt}
 use Rattle.std.proofs.lemmas.Cmp.{nat_list_eq_equiv}
-use Rattle.std.proofs.lemmas.Fmt.{decimal-digits_value, digits_decimal, digits_value-decimal, decimal_nonempty, length-decimal-le, first_decimal, decimal_digit}
-use Rattle.std.proofs.lemmas.List.{take_at, drop_at, drop-drop, take-append-drop, get_or_at, get_or_append_left, get_or-append_right, length-append}
-use Rattle.std.proofs.lemmas.List.Sums.{split_at_first, passes_at_first, position_or_len_is}
-use Rattle.std.proofs.lemmas.Option.{cond_some, same_Some, some_pair_parts, option_and_then_some}
+use Rattle.std.proofs.lemmas.Fmt.{decimal-digits_value, digits_decimal, digits_value-decimal, decimal_nonempty, length-decimal-le, first_decimal, decimal_digit, decimal_injective}
+use Rattle.std.proofs.lemmas.List.{take_at, take-append-drop, get_or-take, get_or_at, get_or_append_left, get_or-append_right, length-append, length-take}
+use Rattle.std.proofs.lemmas.List.Sums.{split_at_first, passes_at_first, fails_before_first}
+use Rattle.std.proofs.lemmas.Option.{cond_some}
 use Rattle.std.proofs.lemmas.Str.Parse.{IsNumeralModel, numerals_by_value, tells_all_ascii_digits, digits_value_short, not_in_digits}
-use Rattle.spl_text.specs.Words.{split_once, strip_prefix, is_number, number_of, number_before}
+use Rattle.spl_text.specs.Text.{Lacks, IsNumber}
 
--- a test that passed
-pub then_some_some : {A : Type 0} (test : Bool) (x y : A) → then_some test x ≡ Some y → (test ≡ true) × (x ≡ y)
-then_some_some true x y e = (refl, cc)
-then_some_some false x y e = absurd cc
-
--- ---- the part before a separator
-
-pub split_once_at : (separator : ℕ) (bytes : List ℕ) (i : ℕ) → position (λ b. b == separator) bytes ≡ Some i → split_once separator bytes ≡ Some (take i bytes, drop (i + 1) bytes)
-unfolding split_once
-split_once_at separator bytes i found = rw found refl
-
-pub split_once_none : (separator : ℕ) (bytes : List ℕ) → position (λ b. b == separator) bytes ≡ None → split_once separator bytes ≡ None
-unfolding split_once
-split_once_none separator bytes none = rw none refl
-
--- no byte of the list is this one
-abbrev pub Lacks : ℕ → List ℕ → Type 0
-Lacks separator bytes = (i : ℕ) → i < length bytes → get_or bytes i 0 ≢ separator
+-- ---- bytes that a list lacks
 
 -- a literal word, by computation
 pub Lacks-from_test : (separator : ℕ) (bytes : List ℕ) → list_all (λ b. not (eqb b separator)) bytes ≡ true → Lacks separator bytes
@@ -62,49 +45,79 @@ Lacks-append separator xs ys left right i below =
       | inr past ↦ rw (get_or-append_right xs ys (length xs) i 0 refl past) (right (i - length xs) (omega (arith, length-append xs ys)))
     ]
 
-pub split_once_takes : (separator : ℕ) (bytes front rest : List ℕ) → split_once separator bytes ≡ Some (front, rest) → bytes ≡ front ++ separator ∷ rest
-unfolding split_once
-split_once_takes separator bytes front rest e =
-    option_and_then_some _ (position passes bytes) (front, rest) e (λ place at parts.
-    let found = cond_some (ltb (position_or_len passes bytes) (length bytes)) (position_or_len passes bytes) place at in
-    let within : position_or_len passes bytes < length bytes = ltb-true _ _ found.0 in
-    let is : get_or bytes (position_or_len passes bytes) 0 ≡ separator = eqb-true _ _ (passes_at_first passes bytes 0 within) in
-    let same = some_pair_parts (take place bytes) front (drop (place + 1) bytes) rest parts in
-    rw is at (split_at_first passes bytes 0 within) ∙ cc (found.1, same.0, same.1))
-  where
-    passes : ℕ → Bool
-    passes b = eqb b separator
+-- ---- what stands before a separator
+
+-- a list is cut at its first separator in one way
+pub split_unique : (separator : ℕ) (a b x y : List ℕ) → Lacks separator a → Lacks separator b → a ++ separator ∷ x ≡ b ++ separator ∷ y → (a ≡ b) × (x ≡ y)
+split_unique separator [] [] x y la lb e = (refl, cc)
+split_unique separator [] (b ∷ v) x y la lb e = absurd (lb 0 (omega arith) cc)
+split_unique separator (a ∷ u) [] x y la lb e = absurd (la 0 (omega arith) cc)
+split_unique separator (a ∷ u) (b ∷ v) x y la lb e =
+    let heads : a ≡ b = cc in
+    let tails : u ++ separator ∷ x ≡ v ++ separator ∷ y = cc in
+    let both = split_unique separator u v x y (λ i below. la (suc i) (omega arith)) (λ i below. lb (suc i) (omega arith)) tails in
+    (cc (heads, both.0), both.1)
+
+module _ (separator : ℕ) (bytes : List ℕ) where
+  abbrev is_separator : ℕ → Bool
+  is_separator b = eqb b separator
+
+  pub split_at : (i : ℕ) → position (λ b. b == separator) bytes ≡ Some i → Lacks separator (take i bytes) × (bytes ≡ take i bytes ++ separator ∷ drop (i + 1) bytes)
+  split_at i at =
+      let found = cond_some (ltb (position_or_len is_separator bytes) (length bytes)) (position_or_len is_separator bytes) i at in
+      let within : position_or_len is_separator bytes < length bytes = ltb-true _ _ found.0 in
+      let is : get_or bytes (position_or_len is_separator bytes) 0 ≡ separator = eqb-true _ _ (passes_at_first is_separator bytes 0 within) in
+      let whole = rw is at (split_at_first is_separator bytes 0 within) in (
+        λ k below. let before : k < i = omega (arith, length-take i bytes) in
+            rw (get_or-take i bytes k 0 before) (eqb-false _ _ (fails_before_first is_separator bytes k 0 (omega (arith, before, found.1)))),
+        subst (λ j. bytes ≡ take j bytes ++ separator ∷ drop (j + 1) bytes) found.1 whole,
+      )
+
+  pub lacks_all : position (λ b. b == separator) bytes ≡ None → Lacks separator bytes
+  lacks_all none k below =
+      elim (cases_lt (position_or_len is_separator bytes) (length bytes)) [
+        | inl within ↦ let some = ap (λ b. cond b (Some (position_or_len is_separator bytes)) None) (lt-ltb (position_or_len is_separator bytes) (length bytes) within) in
+            let none_some = sym some ∙ none in absurd cc
+        | inr past ↦ eqb-false _ _ (fails_before_first is_separator bytes k 0 (omega arith))
+      ]
 
 -- what stands after the separator is shorter than all
-pub split_once-shorter : (separator : ℕ) (bytes front rest : List ℕ) → split_once separator bytes ≡ Some (front, rest) → length rest < length bytes
-split_once-shorter separator bytes front rest e = rw (split_once_takes separator bytes front rest e) (omega (arith, length-append front (separator ∷ rest)))
-
-pub split_once_again : (separator : ℕ) (front rest : List ℕ) → Lacks separator front → split_once separator (front ++ separator ∷ rest) ≡ Some (front, rest)
-split_once_again separator front rest lacks =
-    let bytes = front ++ separator ∷ rest in
-    let passes : ℕ → Bool = λ b. eqb b separator in
-    let longer : length front < length bytes = omega (arith, length-append front (separator ∷ rest)) in
-    let first : position_or_len passes bytes ≡ length front =
-    position_or_len_is passes bytes (length front) 0 (omega arith)
-    (λ k below. ne_eqb _ _ (λ e. lacks k below (sym (get_or_append_left front (separator ∷ rest) 0 k below) ∙ e)))
-    (λ _. eq-eqb _ _ (get_or_at front separator rest 0 (length front) refl)) in
-    let found : position passes bytes ≡ Some (length front) = rw (first, lt-ltb (length front) (length bytes) longer) refl in
-    split_once_at separator bytes (length front) found ∙ rw (take_at front (separator ∷ rest) (length front) refl, ← drop-drop 1 (length front) bytes, drop_at front (separator ∷ rest) (length front) refl) refl
+pub after-shorter : (separator : ℕ) (bytes front rest : List ℕ) → bytes ≡ front ++ separator ∷ rest → length rest < length bytes
+after-shorter separator bytes front rest e = rw e (omega (arith, length-append front (separator ∷ rest)))
 
 -- ---- a prefix
 
-pub strip_prefix_takes : (prefix bytes rest : List ℕ) → strip_prefix prefix bytes ≡ Some rest → bytes ≡ prefix ++ rest
-unfolding strip_prefix
-strip_prefix_takes prefix bytes rest e =
-    let found = then_some_some (pointwise nat_eq (take (length prefix) bytes) prefix) (drop (length prefix) bytes) rest e in
-    let front = same_text (take (length prefix) bytes) prefix (sym found.0) in
-    sym (take-append-drop (length prefix) bytes) ∙ rw (front, found.1) refl
+pub prefix_taken : (prefix bytes : List ℕ) → pointwise nat_eq (take (length prefix) bytes) prefix ≡ true → bytes ≡ prefix ++ drop (length prefix) bytes
+prefix_taken prefix bytes same =
+    sym (take-append-drop (length prefix) bytes) ∙ ap (λ t. t ++ drop (length prefix) bytes) (same_text (take (length prefix) bytes) prefix (sym same))
 
-pub strip_prefix_again : (prefix rest : List ℕ) → strip_prefix prefix (prefix ++ rest) ≡ Some rest
-unfolding strip_prefix
-strip_prefix_again prefix rest = rw (take_at prefix rest (length prefix) refl, drop_at prefix rest (length prefix) refl, nat_list_eq_equiv.refl prefix) refl
+pub no_prefix : (prefix bytes : List ℕ) → pointwise nat_eq (take (length prefix) bytes) prefix ≡ false → (rest : List ℕ) → bytes ≢ prefix ++ rest
+no_prefix prefix bytes other rest e =
+    let front : take (length prefix) bytes ≡ prefix = rw e (take_at prefix rest (length prefix) refl) in
+    let same = ap (λ t. pointwise nat_eq t prefix) front ∙ nat_list_eq_equiv.refl prefix in
+    absurd cc
+
+pub prefix_spelled : {X : Type 0} (now : X → List ℕ) (o : Option X) (prefix bytes : List ℕ)
+    → MatchOption o (pointwise nat_eq (take (length prefix) bytes) prefix ≡ false)
+    (λ x. (pointwise nat_eq (take (length prefix) bytes) prefix ≡ true) × (now x ≡ drop (length prefix) bytes) × (length (now x) + length prefix ≡ length bytes))
+    → MatchOption o ((rest : List ℕ) → bytes ≢ prefix ++ rest) (λ x. bytes ≡ prefix ++ now x)
+prefix_spelled now None prefix bytes other = no_prefix prefix bytes other
+prefix_spelled now (Some x) prefix bytes same = prefix_taken prefix bytes same.0 ∙ ap (λ t. prefix ++ t) (sym same.1)
 
 -- ---- numbers
+
+-- one digit to nine, and no 0 before another digit
+abbrev pub is_number : List ℕ → Bool
+is_number word = all_ascii_digits word && nat_lt 0 (length word) && nat_le (length word) 9 && (not (slice_index word 0 == 48) || (length word == 1))
+
+-- the number of the digits, where they are those of one
+unfoldable pub number_read : List ℕ → Option ℕ
+number_read word = then_some (is_number word) (digits_value 10 word)
+
+-- a test that passed
+then_some_some : {A : Type 0} (test : Bool) (x y : A) → then_some test x ≡ Some y → (test ≡ true) × (x ≡ y)
+then_some_some true x y e = (refl, cc)
+then_some_some false x y e = absurd cc
 
 -- what fewer than nine digits give
 pub few_digits : (number digits : ℕ) → digits < 9 → number < 10 ^ digits → number < 10 ^ 8
@@ -115,8 +128,8 @@ few_digits number digits few below =
 digits_model : IsNumeralModel (λ ds. all_ascii_digits ds ≡ true) (digits_value 10)
 digits_model = numerals_by_value (λ ds. all_ascii_digits ds ≡ true) tells_all_ascii_digits
 
-pub number_takes : (word : List ℕ) (n : ℕ) → number_of word ≡ Some n → (word ≡ decimal n) × (n < 10 ^ 9)
-unfolding number_of
+pub number_takes : (word : List ℕ) (n : ℕ) → number_read word ≡ Some n → IsNumber n × (word ≡ decimal n)
+unfolding number_read
 number_takes word n e =
     let found = then_some_some (is_number word) (digits_value 10 word) n e in
     let all = and_parts (all_ascii_digits word && ltb 0 (length word) && leb (length word) 9) (not (eqb (get_or word 0 0) 48) || eqb (length word) 1) found.0 in
@@ -128,13 +141,13 @@ number_takes word n e =
       | inr one ↦ eqb-true _ _ one
     ] in
     let spelled = decimal-digits_value digits_model word two.0 (ltb-true _ _ two.1) alone (omega (arith, short)) in
-    (sym spelled ∙ ap decimal found.1, omega (arith, short, found.1))
+    (omega (arith, short, found.1), sym spelled ∙ ap decimal found.1)
   where
     both : not (eqb (get_or word 0 0) 48) ≡ true → eqb (get_or word 0 0) 48 ≡ true → ⊥
     both p q = cc
 
-pub number_again : (n : ℕ) → n < 10 ^ 9 → number_of (decimal n) ≡ Some n
-unfolding number_of
+number_again : (n : ℕ) → n < 10 ^ 9 → number_read (decimal n) ≡ Some n
+unfolding number_read
 number_again n below =
     let small : n < 2 ^ 64 = omega arith in
     let digits = digits_decimal digits_model n small in
@@ -154,21 +167,21 @@ Lacks-decimal separator n low below =
     let small : n < 2 ^ 64 = omega arith in
     not_in_digits digits_model (decimal n) separator (digits_decimal digits_model n small) (λ within. omega arith)
 
-pub number_before_takes : (separator : ℕ) (bytes : List ℕ) (x : ℕ × List ℕ) → number_before separator bytes ≡ Some x → (bytes ≡ decimal x.0 ++ separator ∷ x.1) × (x.0 < 10 ^ 9)
-unfolding number_before
-number_before_takes separator bytes x e =
-    option_and_then_some _ (split_once separator bytes) x e (λ word at then.
-    option_and_then_some _ (number_of word.0) x then (λ n number made.
-    let spelled = number_takes word.0 n number in
-    let whole : bytes ≡ decimal n ++ separator ∷ word.1 = rw (← spelled.0) (split_once_takes separator bytes word.0 word.1 at) in
-    subst (λ (y : ℕ × List ℕ). (bytes ≡ decimal y.0 ++ separator ∷ y.1) × (y.0 < 10 ^ 9)) (same_Some (n, word.1) x made) (whole, spelled.1)))
+-- where the digits give no number, the word spells none
+pub number_none : (word : List ℕ) → number_read word ≡ None → (n : ℕ) → IsNumber n → word ≢ decimal n
+number_none word none n is e = let some = ap number_read e ∙ number_again n is in absurd cc
 
--- what stands after the number is shorter than all
-pub number_before-shorter : (separator : ℕ) (bytes rest : List ℕ) (n : ℕ) → number_before separator bytes ≡ Some (n, rest) → length rest < length bytes
-number_before-shorter separator bytes rest n read =
-    rw (number_before_takes separator bytes (n, rest) read).0 (omega (arith, length-append (decimal n) (separator ∷ rest)))
+pub number_unique : (n m : ℕ) → IsNumber n → IsNumber m → decimal n ≡ decimal m → n ≡ m
+number_unique n m is_n is_m e = decimal_injective n m (omega arith) (omega arith) e
 
-pub number_before_again : (separator n : ℕ) (rest : List ℕ) → separator < 48 → n < 10 ^ 9 → number_before separator (decimal n ++ separator ∷ rest) ≡ Some (n, rest)
-unfolding number_before
-number_before_again separator n rest low below =
-    rw (split_once_again separator (decimal n) rest (Lacks-decimal separator n low below), number_again n below) refl
+-- a number that stands before a byte that is no digit
+pub number_and_rest : (separator n m : ℕ) (x y : List ℕ) → separator < 48 → IsNumber n → IsNumber m → decimal n ++ separator ∷ x ≡ decimal m ++ separator ∷ y → (n ≡ m) × (x ≡ y)
+number_and_rest separator n m x y low is_n is_m e =
+    let both = split_unique separator (decimal n) (decimal m) x y (Lacks-decimal separator n low is_n) (Lacks-decimal separator m low is_m) e in
+    (number_unique n m is_n is_m both.0, both.1)
+
+-- where the word before the separator is no number, none stands there
+pub no_number_before : (separator : ℕ) (bytes word rest : List ℕ) → separator < 48 → Lacks separator word → bytes ≡ word ++ separator ∷ rest → ((n : ℕ) → IsNumber n → word ≢ decimal n)
+    → (n : ℕ) (after : List ℕ) → IsNumber n → bytes ≢ decimal n ++ separator ∷ after
+no_number_before separator bytes word rest low lacks cut none n after is e =
+    none n is (split_unique separator word (decimal n) rest after lacks (Lacks-decimal separator n low is) (sym cut ∙ e)).0

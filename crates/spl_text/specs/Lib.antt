@@ -1,4 +1,2 @@
 pub mod Text
-pub mod Words
-pub mod Bytes
 pub mod FractionWords

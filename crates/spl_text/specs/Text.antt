@@ -1,7 +1,42 @@
--- How numbers, lists of numbers and fractions are spelled in a text. A word spells one number, one list, one fraction.
-use Rattle.std.specs.Prelude.{◌≡◌, ◌⊎◌, ℕ, ◌^◌, ◌<◌, List, [], ◌∷◌, ◌++◌, length, codes, decimal, Option, Some, None, IfSome}
+-- Which bytes a text holds, and how numbers, lists of numbers and fractions are spelled in it. A word spells one number,
+-- one list, one fraction.
+use Rattle.std.specs.Prelude.{◌≡◌, ◌≢◌, ◌⊎◌, ℕ, ◌^◌, ◌<◌, ◌≤◌, ◌==◌, List, [], ◌∷◌, ◌++◌, length, slice_index, count_by, codes, decimal, Option, Some, None, IfSome}
 use Rattle.std.specs.List.{AllByRecursion}
 use Rattle.theory_rings.specs.Polynomial.{IsTrimmed}
+
+-- ---- the bytes of a text
+
+-- a byte from the space to the tilde, or a newline
+abbrev pub IsTextByte : ℕ → Type 0
+IsTextByte b = (32 ≤ b × b ≤ 126) ⊎ (b ≡ 10)
+
+-- each byte is one of a text
+abbrev pub IsText : List ℕ → Type 0
+IsText bytes = (k : ℕ) → k < length bytes → IsTextByte (slice_index bytes k)
+
+-- the byte at the place is none of a text, and all before it are
+pub record IsFirstNoText (bytes : List ℕ) (place : ℕ) : Type 0 where
+  pub within : place < length bytes
+  pub no_text : ¬ IsTextByte (slice_index bytes place)
+  pub before : (k : ℕ) → k < place → IsTextByte (slice_index bytes k)
+
+-- no byte of the list is this one
+abbrev pub Lacks : ℕ → List ℕ → Type 0
+Lacks separator bytes = (k : ℕ) → k < length bytes → slice_index bytes k ≢ separator
+
+-- how many newlines there are
+abbrev pub newlines : List ℕ → ℕ
+newlines bytes = count_by (λ b. b == 10) bytes
+
+-- a text, and a newline
+abbrev pub line : List ℕ → List ℕ
+line text = text ++ 10 ∷ []
+
+-- the text begins with the front
+abbrev pub HasFront : List ℕ → List ℕ → Type 0
+HasFront front text = (rest : List ℕ) × (text ≡ front ++ rest)
+
+-- ---- numbers and fractions
 
 -- a number as a text may have it: at most nine digits
 abbrev pub IsNumber : ℕ → Type 0
@@ -41,15 +76,7 @@ pub record IsFractionText (t : FractionText) : Type 0 where
   pub numerator : IsNumberList t.numerator
   pub denominator : IfSome t.denominator IsNumberList
 
--- a text, and a newline
-abbrev pub line : List ℕ → List ℕ
-line text = text ++ 10 ∷ []
-
 -- the coefficients of a polynomial as a text has them; 0 is `0`
 abbrev pub coefficients_text : List ℕ → List ℕ
 coefficients_text [] = codes "0"
 coefficients_text (c ∷ cs) = numbers_text (c ∷ cs)
-
--- the text begins with the front
-abbrev pub HasFront : List ℕ → List ℕ → Type 0
-HasFront front text = (rest : List ℕ) × (text ≡ front ++ rest)

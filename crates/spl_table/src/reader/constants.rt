@@ -1,56 +1,93 @@
-// The structure constants that the entries of a table text give.
-ghost use Rattle.std.specs.Prelude.{◌≡◌, ◌*◌, ◌<◌, ◌≤◌, List, replicate, MatchBool, MatchResult, None, Some};
-ghost use Rattle.spl_table.specs.TableText.{Entry};
-ghost use Rattle.spl_text.specs.Words.{lines_of};
-ghost use Rattle.spl_table.specs.Reading.{entries_of, Holds, IsNotBuilt};
+// The constants of a table text.
+ghost use Rattle.std.specs.Prelude.{◌≡◌, ◌<◌, ◌≤◌, ◌-◌, [], ◌∷◌, ◌++◌, length, replicate, All, Some, IfOk, OnOk};
+ghost use Rattle.std.specs.List.{AllByRecursion};
+ghost use Rattle.theory_rings.specs.Ops.{IsElem};
+ghost use Rattle.spl_field.specs.SmallField.{small_ops, size_of};
+ghost use Rattle.spl_text.specs.Text.{IsNumberList, IsFractionText};
+ghost use Rattle.spl_text.specs.FractionWords.{text_of};
+ghost use Rattle.spl_poly.specs.Operations.{IsOver, without_zeros};
+ghost use Rattle.spl_fraction.specs.Fraction.{IsLowestTerms, IsFraction};
+ghost use Rattle.spl_fraction.specs.Fractions.{field_of};
+ghost use Rattle.spl_fraction.specs.FractionsOver.{fractions_over};
+ghost use Rattle.spl_table.specs.TableText.{IsOverZero, lists_of};
+ghost use Rattle.spl_table.specs.Table.{IsConstant, denominator_of};
 
-use crate::reader::entries::EntryLine;
-use crate::refusal::{Kind, TableFault};
-use spl_text::word::split_once;
+use smallvec::SmallVec;
+use spl_algebra::algebra::Constants;
+use spl_field::field::{Field, NoMemory};
+use spl_field::small::SmallField;
+use spl_fraction::field::Fractions;
+use spl_fraction::fraction::Fraction;
+use spl_poly::poly::Poly;
+use spl_text::fraction::FractionWords;
+use spl_text::numbers::Numbers;
 use std::alloc::Global;
 
-/// Whether the bytes are entries of m basis elements with values below p, in order, and the line `end`. Puts their
-/// values into the list of m³ zeros.
-fn put_entries(bytes: &[u8], m: u32, p: u32, constants: &mut [u8]) -> bool
-    requires small { m ≤ 25 }
-    requires some { 0 < p }
-    requires most { p ≤ 256 }
-    requires zeros { constants.old ≡ replicate (m * m * m) 0 }
-    ensures { MatchBool result
-        ((es : List Entry) × (entries_of m p 0 (lines_of bytes.now) ≡ Some es) × Holds m p es constants.new)
-        (entries_of m p 0 (lines_of bytes.now) ≡ None) }
+/// The polynomial with these coefficients.
+fn poly_of(alloc: Global, f: &SmallField, numbers: &[u32]) -> Result<Poly, NoMemory>
+    requires { AllByRecursion (λ c. c < size_of f.now) numbers.now }
+    ensures value { IfOk result (λ p. p ≡ without_zeros numbers.now) }
+    ensures over { IfOk result (IsOver (small_ops f.now)) }
 {
-    let mut rest = bytes;
-    let mut next = 0;
-    while let Some((line, after)) = split_once(rest, b'\n') {
-        if line == b"end".as_slice() {
-            return after.is_empty();
-        }
-        let Some(entry) = EntryLine::from_line(line, m, p, next) else {
-            return false;
-        };
-        let place = entry.place(m, p);
-        constants[place] = entry.value as u8;
-        next = place + 1;
-        rest = after;
+    let q = f.size();
+    let mut bytes: SmallVec<u8, 16> = SmallVec::new(alloc);
+    for number in numbers {
+        prove!(*number < u32::from(q));
+        bytes.push(*number as u8)?;
     }
-    false
+    Poly::from_slice(alloc, bytes.as_slice())
 }
 
-/// The m³ constants that the bytes give, where they are entries of m basis elements with values below p, in order, and
-/// the line `end`.
-pub fn constants_of(alloc: Global, bytes: &[u8], m: u32, p: u32) -> Result<Vec<u8>, TableFault>
-    requires small { m ≤ 25 }
-    requires some { 0 < p }
-    requires most { p ≤ 256 }
-    ensures { MatchResult result
-        (λ constants. (es : List Entry) × (entries_of m p 0 (lines_of bytes.now) ≡ Some es) × Holds m p es constants.items)
-        (λ e. IsNotBuilt e (entries_of m p 0 (lines_of bytes.now) ≡ None)) }
+/// The polynomial of the denominator, 1 where there is none.
+fn denominator_poly(
+    alloc: Global,
+    f: &SmallField,
+    denominator: &Option<Numbers>,
+) -> Result<Poly, NoMemory>
+    requires { AllByRecursion (λ c. c < size_of f.now) (denominator_of denominator.now) }
+    ensures value { IfOk result (λ p. p ≡ without_zeros (denominator_of denominator.now)) }
+    ensures over { IfOk result (IsOver (small_ops f.now)) }
 {
-    let count = (m * m * m) as usize;
-    let mut constants = vec![in alloc; 0; count]?;
-    if !put_entries(bytes, m, p, &mut constants) {
-        return Err(TableFault::whole(Kind::NotBuilt));
+    match denominator {
+        Some(numbers) => poly_of(alloc, f, numbers.as_slice()),
+        None => poly_of(alloc, f, &[1]),
     }
-    Ok(constants)
+}
+
+/// The fraction in lowest terms that a text has.
+pub fn constant_of(
+    alloc: Global,
+    k: &Fractions,
+    value: &FractionWords,
+) -> Result<Fraction, NoMemory>
+    requires form { IsFractionText (text_of value.now) }
+    requires elements { AllByRecursion (AllByRecursion (λ c. c < size_of (field_of k.now))) (lists_of (text_of value.now)) }
+    requires denominator { IsOverZero (text_of value.now) → ⊥ }
+    ensures elem { IfOk result (IsElem (fractions_over (field_of k.now))) }
+    ensures value { IfOk result (IsConstant (small_ops (field_of k.now)) (Some (text_of value.now))) }
+{
+    let numerator = poly_of(alloc, k.field(), value.numerator.as_slice())?;
+    let denominator = denominator_poly(alloc, k.field(), &value.denominator)?;
+    match k.make(alloc, &numerator, &denominator)? {
+        Some(fraction) => Ok(fraction),
+        None => k.zero(alloc),
+    }
+}
+
+/// Appends zeros until there are so many constants.
+pub fn push_zeros(
+    alloc: Global,
+    k: &Fractions,
+    constants: &mut Constants<Fractions>,
+    count: usize,
+) -> Result<(), NoMemory>
+    requires { length constants.old ≤ count }
+    ensures items { OnOk result (constants.new ≡ constants.old ++ replicate (count - length constants.old) ([], 1 ∷ [])) }
+    ensures over { All (IsElem (fractions_over (field_of k.now))) constants.old
+        → OnOk result (All (IsElem (fractions_over (field_of k.now))) constants.new) }
+{
+    while constants.len() < count {
+        constants.push(k.zero(alloc)?)?;
+    }
+    Ok(())
 }

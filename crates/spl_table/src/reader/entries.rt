@@ -1,68 +1,87 @@
-// The entries of a table text.
-ghost use Rattle.std.specs.Prelude.{◌≡◌, ◌*◌, ◌<◌, ◌≤◌, List, replicate, IfSome, IsTrue, MatchBool, None, Some};
-ghost use Rattle.spl_text.specs.Words.{Gives};
+// The entries of a table text, up to the line `end`.
+ghost use Rattle.std.specs.Prelude.{◌≡◌, ℕ, ◌≤◌, ◌-◌, ◌*◌, ◌++◌, ◌∷◌, [], length, replicate, All, IfOk, IfErr, Some, OnOk};
+ghost use Rattle.theory_rings.specs.Ops.{IsElem};
+ghost use Rattle.spl_field.specs.SmallField.{small_ops};
+ghost use Rattle.spl_text.specs.Text.{IsFractionText};
+ghost use Rattle.spl_text.specs.FractionWords.{text_of};
+ghost use Rattle.spl_fraction.specs.Fraction.{Pair};
+ghost use Rattle.spl_fraction.specs.Fractions.{field_of};
+ghost use Rattle.spl_fraction.specs.FractionsOver.{fractions_over};
+ghost use Rattle.spl_table.specs.TableText.{IsInRange, IsOverZero};
+ghost use Rattle.spl_table.specs.Table.{IsConstant};
+ghost use Rattle.spl_table.specs.Reading.{IfRefused, entry_of, place_of, head_of, AreEntries, IsFaultAfter};
 
-use spl_text::word::{number_before, number_of, split_once};
+use crate::reader::constants::{constant_of, push_zeros};
+use crate::reader::entry::{EntryWords, read_entry};
+use crate::refusal::{Kind, TableFault};
+use spl_algebra::algebra::Constants;
+use spl_field::field::NoMemory;
+use spl_field::vector::Vector;
+use spl_fraction::field::Fractions;
+use spl_text::word::split_once;
+use std::alloc::Global;
 
-/// The line `I J K V`: the constant at (I, J, K), counted from 1, is V.
-#[derive(Clone, Copy)]
-pub struct EntryLine {
-    pub i: u32,
-    pub j: u32,
-    pub k: u32,
-    pub value: u32,
+/// The constants that the entries give, the number of the line `end`, and what follows it.
+#[derive(Drop)]
+pub struct Entries<'a> {
+    pub constants: Constants<Fractions>,
+    pub number: u32,
+    pub rest: &'a [u8],
 }
 
-impl EntryLine {
-    ghost use Rattle.spl_table.specs.Reading.{entry, entry_of, entry_from, entry_fits, place_of};
+/// Appends zeros up to the place of the entry, and the constant of the entry.
+fn push_entry(
+    alloc: Global,
+    k: &Fractions,
+    n: usize,
+    constants: &mut Constants<Fractions>,
+    entry: EntryWords,
+) -> Result<(), NoMemory>
+    requires small { n ≤ 5 }
+    requires form { IsFractionText (text_of entry.value) }
+    requires range { IsInRange (head_of (field_of k.now) n) (entry_of entry) }
+    requires denominator { IsOverZero (text_of entry.value) → ⊥ }
+    requires free { length constants.old ≤ place_of (n * n) (entry_of entry) }
+    ensures items { OnOk result ((w : Pair ℕ) × IsConstant (small_ops (field_of k.now)) (Some (text_of entry.value)) w
+        × (constants.new ≡ constants.old ++ replicate (place_of (n * n) (entry_of entry) - length constants.old) ([], 1 ∷ []) ++ w ∷ [])) }
+    ensures over { All (IsElem (fractions_over (field_of k.now))) constants.old
+        → OnOk result (All (IsElem (fractions_over (field_of k.now))) constants.new) }
+{
+    push_zeros(alloc, k, constants, entry.place(k.field(), n))?;
+    let constant = constant_of(alloc, k, &entry.value)?;
+    constants.push(constant)?;
+    Ok(())
+}
 
-    /// The entry that the line spells.
-    #[tactic(auto, unfolding(crate::specs::Reading::entry_of))]
-    fn of(line: &[u8]) -> Option<EntryLine>
-        ensures { Gives entry result (entry_of line.now) }
-    {
-        let (i, rest) = number_before(line, b' ')?;
-        let (j, rest) = number_before(rest, b' ')?;
-        let (k, rest) = number_before(rest, b' ')?;
-        let value = number_of(rest)?;
-        Some(EntryLine { i, j, k, value })
-    }
-
-    /// Whether the triple is within the m basis elements and the value is below p.
-    fn fits(&self, m: u32, p: u32) -> bool
-        ensures { result ≡ entry_fits m p (entry self.now) }
-    {
-        1 <= self.i
-            && self.i <= m
-            && 1 <= self.j
-            && self.j <= m
-            && 1 <= self.k
-            && self.k <= m
-            && self.value < p
-    }
-
-    /// Where the constant of the triple stands among the m³.
-    pub fn place(&self, m: u32, p: u32) -> usize
-        requires small { m ≤ 25 }
-        requires fits { IsTrue (entry_fits m p (entry self.now)) }
-        ensures place { result ≡ place_of m (entry self.now) }
-        ensures below { result < m * m * m }
-    {
-        let m = m as usize;
-        ((self.i as usize - 1) * m + (self.j as usize - 1)) * m + (self.k as usize - 1)
-    }
-
-    /// The entry of the line, where it fits and stands at the place `next` or a later one.
-    #[tactic(auto, unfolding(crate::specs::Reading::entry_from))]
-    pub fn from_line(line: &[u8], m: u32, p: u32, next: usize) -> Option<EntryLine>
-        requires small { m ≤ 25 }
-        ensures entry { Gives entry result (entry_from m p next line.now) }
-        ensures fits { IfSome result (λ e. IsTrue (entry_fits m p (entry e))) }
-    {
-        let entry = EntryLine::of(line)?;
-        if !entry.fits(m, p) || entry.place(m, p) < next {
-            return None;
+/// The constants of the lines up to the line `end`, of which the first is line 4.
+pub fn read_entries<'a>(
+    alloc: Global,
+    k: &Fractions,
+    n: usize,
+    bytes: &'a [u8],
+) -> Result<Entries<'a>, TableFault>
+    requires { n ≤ 5 }
+    ensures entries { IfOk result (λ r. AreEntries (small_ops (field_of k.now)) (head_of (field_of k.now) n) bytes.now r.rest.now r.number r.constants) }
+    ensures over { IfOk result (λ r. All (IsElem (fractions_over (field_of k.now))) r.constants) }
+    ensures few { IfOk result (λ r. r.number ≤ 15629) }
+    ensures fault { IfErr result (λ e. IfRefused e (IsFaultAfter (head_of (field_of k.now) n) bytes.now)) }
+{
+    let mut constants = Vector::new(alloc);
+    let mut rest = bytes;
+    let mut number = 4;
+    while let Some((text, after)) = split_once(rest, b'\n') {
+        if text == b"end".as_slice() {
+            push_zeros(alloc, k, &mut constants, n * n * (n * n) * (n * n))?;
+            return Ok(Entries {
+                constants,
+                number,
+                rest: after,
+            });
         }
-        Some(entry)
+        let entry = read_entry(alloc, k.field(), n, constants.len(), text, number)?;
+        push_entry(alloc, k, n, &mut constants, entry)?;
+        rest = after;
+        number += 1;
     }
+    Err(TableFault::at(number, Kind::NoEnd))
 }

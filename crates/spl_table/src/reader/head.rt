@@ -1,93 +1,134 @@
 // The lines of a table text before its entries.
-ghost use Rattle.std.specs.Prelude.{◌≡◌, ◌<◌, [], ◌∷◌, IfOk, IfErr, OnOk};
+ghost use Rattle.std.specs.Prelude.{◌≡◌, ◌≢◌, ℕ, ◌%◌, ◌<◌, ◌≤◌, List, length, slice_index, IfOk, IfErr, OnOk, MatchOption};
 ghost use Rattle.spl_field.specs.FieldByDigits.{IsAdmitted};
-ghost use Rattle.spl_text.specs.Words.{Gives};
+ghost use Rattle.spl_field.specs.SmallField.{characteristic, modulus_of};
+ghost use Rattle.spl_fraction.specs.Fractions.{field_of};
+ghost use Rattle.spl_text.specs.Text.{IsNumber, AreNumbers};
+ghost use Rattle.spl_table.specs.Reading.{IfRefused, field_text, degree_text, IsNoField, IsFieldFault, IsDegreeFault};
 
 use crate::refusal::{Kind, TableFault};
 use spl_field::admission::FieldFault;
+use spl_field::field::NoMemory;
 use spl_field::small::SmallField;
-use spl_text::word::{number_before, number_of, split_once, strip_prefix};
+use spl_fraction::field::Fractions;
+use spl_text::numbers::{Numbers, numbers_of};
+use spl_text::word::{number_before, number_of, strip_prefix};
 use std::alloc::Global;
 
-/// The numbers of the lines `field P M` and `degree N`.
-#[derive(Clone, Copy)]
-pub struct Head {
-    pub characteristic: u32,
-    pub modulus: u32,
-    pub degree: u32,
+/// The numbers of the line `field P M`.
+#[derive(Drop)]
+struct FieldWords {
+    characteristic: u32,
+    modulus: Numbers,
 }
 
-impl Head {
-    ghost use Rattle.spl_table.specs.Reading.{head_at, field_of, degree_of, degree_fits, IsNotBuilt};
-    ghost use Rattle.spl_field.specs.SmallField.{characteristic, modulus_of};
+/// The numbers of the line `field P M`, where it is of this form.
+fn field_words(alloc: Global, line: &[u8]) -> Result<Option<FieldWords>, NoMemory>
+    ensures { IfOk result (λ o. MatchOption o
+        ((p : ℕ) (m : List ℕ) → IsNumber p → AreNumbers m → line.now ≢ field_text p m)
+        (λ w. IsNumber w.characteristic × AreNumbers w.modulus × (line.now ≡ field_text w.characteristic w.modulus))) }
+{
+    let Some(rest) = strip_prefix(line, b"field ") else {
+        return Ok(None);
+    };
+    let Some((characteristic, rest)) = number_before(rest, b' ') else {
+        return Ok(None);
+    };
+    let Some(modulus) = numbers_of(alloc, rest)? else {
+        return Ok(None);
+    };
+    Ok(Some(FieldWords {
+        characteristic,
+        modulus,
+    }))
+}
 
-    /// The numbers of the line `field P M`.
-    #[tactic(auto, unfolding(crate::specs::Reading::field_of))]
-    fn field_of(line: &[u8]) -> Option<(u32, u32)>
-        ensures { result ≡ field_of line.now }
-    {
-        let rest = strip_prefix(line, b"field ")?;
-        let (characteristic, rest) = number_before(rest, b' ')?;
-        let modulus = number_of(rest)?;
-        Some((characteristic, modulus))
+/// The numbers as bytes; None exactly where some number is above 255.
+fn bytes_of(alloc: Global, numbers: &[u32]) -> Result<Option<Vec<u8>>, NoMemory>
+    ensures { IfOk result (λ o. MatchOption o
+        ((k : ℕ) × (k < length numbers.now) × (256 ≤ slice_index numbers.now k))
+        (λ bytes. bytes.items ≡ numbers.now)) }
+{
+    let mut bytes = Vec::new(alloc);
+    for number in numbers {
+        let Ok(byte) = u8::try_from(*number) else {
+            return Ok(None);
+        };
+        bytes.push(byte)?;
     }
+    Ok(Some(bytes))
+}
 
-    /// The number of the line `degree N`.
-    #[tactic(auto, unfolding(crate::specs::Reading::degree_of))]
-    fn degree_of(line: &[u8]) -> Option<u32>
-        ensures { result ≡ degree_of line.now }
-    {
-        let rest = strip_prefix(line, b"degree ")?;
-        number_of(rest)
-    }
-
-    /// The three lines before the entries, and what stands after them.
-    #[tactic(auto, unfolding(crate::specs::Reading::head_at))]
-    pub fn at(bytes: &[u8]) -> Option<(Head, &[u8])>
-        ensures { Gives (λ x. (x.0, x.1.now)) result (head_at bytes.now) }
-    {
-        let (first, rest) = split_once(bytes, b'\n')?;
-        let (second, rest) = split_once(rest, b'\n')?;
-        let (third, rest) = split_once(rest, b'\n')?;
-        let (characteristic, modulus) = Head::field_of(second)?;
-        let degree = Head::degree_of(third)?;
-        if first != b"spl-table 1".as_slice() {
-            return None;
+/// The field of these numbers, where they give one.
+fn field_of(alloc: Global, words: &FieldWords) -> Result<SmallField, TableFault>
+    ensures p { IfOk result (λ f. characteristic f ≡ words.now.characteristic) }
+    ensures modulus { IfOk result (λ f. modulus_of f ≡ words.now.modulus) }
+    ensures admitted { OnOk result (IsAdmitted words.now.characteristic words.now.modulus) }
+    ensures fault { IfErr result (λ e. IfRefused e (λ at kind. (at ≡ 2) × IsNoField words.now.characteristic words.now.modulus kind)) }
+{
+    let Ok(p) = u16::try_from(words.characteristic) else {
+        return Err(TableFault::at(2, Kind::FieldSize));
+    };
+    let Some(modulus) = bytes_of(alloc, words.modulus.as_slice())? else {
+        return Err(TableFault::at(2, Kind::FieldSize));
+    };
+    match SmallField::new(alloc, p, modulus.as_slice()) {
+        Ok(field) => Ok(field),
+        Err(FieldFault::Size) => Err(TableFault::at(2, Kind::FieldSize)),
+        Err(FieldFault::NoInverse { element }) => {
+            Err(TableFault::at(2, Kind::FieldLaw { element }))
         }
-        let head = Head {
-            characteristic,
-            modulus,
-            degree,
-        };
-        Some((head, rest))
+        Err(FieldFault::Memory) => Err(TableFault::Memory),
     }
+}
 
-    /// Whether the degree is 2 to 5 and the characteristic doesn't divide it.
-    pub fn degree_fits(&self) -> bool
-        requires { 0 < self.now.characteristic }
-        ensures { result ≡ degree_fits self.now }
-    {
-        2 <= self.degree && self.degree <= 5 && self.degree % self.characteristic != 0
-    }
+/// The field of the line `field P M`, the second of a table text.
+fn read_field(alloc: Global, line: &[u8]) -> Result<SmallField, TableFault>
+    ensures spelled { IfOk result (λ f. line.now ≡ field_text (characteristic f) (modulus_of f)) }
+    ensures admitted { IfOk result (λ f. IsAdmitted (characteristic f) (modulus_of f)) }
+    ensures fault { IfErr result (λ e. IfRefused e (λ at kind. (at ≡ 2) × IsFieldFault line.now kind)) }
+{
+    let Some(words) = field_words(alloc, line)? else {
+        return Err(TableFault::at(2, Kind::Header));
+    };
+    field_of(alloc, &words)
+}
 
-    /// The field, where its numbers give one.
-    pub fn field(&self, alloc: Global) -> Result<SmallField, TableFault>
-        ensures admitted { OnOk result (IsAdmitted self.now.characteristic (self.now.modulus ∷ [])) }
-        ensures characteristic { IfOk result (λ f. characteristic f ≡ self.now.characteristic) }
-        ensures modulus { IfOk result (λ f. modulus_of f ≡ self.now.modulus ∷ []) }
-        ensures fault { IfErr result (λ e. IsNotBuilt e (IsAdmitted self.now.characteristic (self.now.modulus ∷ []) → ⊥)) }
-    {
-        let Ok(p) = u16::try_from(self.characteristic) else {
-            return Err(TableFault::whole(Kind::NotBuilt));
-        };
-        let Ok(m) = u8::try_from(self.modulus) else {
-            return Err(TableFault::whole(Kind::NotBuilt));
-        };
-        match SmallField::new(alloc, p, &[m]) {
-            Ok(field) => Ok(field),
-            Err(FieldFault::Size) => Err(TableFault::whole(Kind::NotBuilt)),
-            Err(FieldFault::NoInverse { .. }) => Err(TableFault::whole(Kind::NotBuilt)),
-            Err(FieldFault::Memory) => Err(TableFault::Memory),
-        }
+/// The fractions over the field of the line `field P M`, the second of a table text.
+pub fn read_fractions(alloc: Global, line: &[u8]) -> Result<Fractions, TableFault>
+    ensures spelled { IfOk result (λ k. line.now ≡ field_text (characteristic (field_of k)) (modulus_of (field_of k))) }
+    ensures admitted { IfOk result (λ k. IsAdmitted (characteristic (field_of k)) (modulus_of (field_of k))) }
+    ensures fault { IfErr result (λ e. IfRefused e (λ at kind. (at ≡ 2) × IsFieldFault line.now kind)) }
+{
+    let field = read_field(alloc, line)?;
+    Ok(Fractions::over(alloc, &field)?)
+}
+
+/// The number of the line `degree N`, where it is of this form.
+fn degree_word(line: &[u8]) -> Option<u32>
+    ensures { MatchOption result ((n : ℕ) → IsNumber n → line.now ≢ degree_text n) (λ n. IsNumber n × (line.now ≡ degree_text n)) }
+{
+    let rest = strip_prefix(line, b"degree ")?;
+    number_of(rest)
+}
+
+/// The degree of the line `degree N`, the third of a table text, for a field of this characteristic.
+pub fn read_degree(line: &[u8], p: u16) -> Result<usize, TableFault>
+    requires { 0 < p }
+    ensures spelled { IfOk result (λ n. line.now ≡ degree_text n) }
+    ensures low { IfOk result (λ n. 2 ≤ n) }
+    ensures high { IfOk result (λ n. n ≤ 5) }
+    ensures apart { IfOk result (λ n. n % p ≢ 0) }
+    ensures fault { IfErr result (λ e. IfRefused e (λ at kind. (at ≡ 3) × IsDegreeFault p line.now kind)) }
+{
+    let Some(degree) = degree_word(line) else {
+        return Err(TableFault::at(3, Kind::Header));
+    };
+    if degree < 2 || degree > 5 {
+        return Err(TableFault::at(3, Kind::Degree));
     }
+    if degree % u32::from(p) == 0 {
+        return Err(TableFault::at(3, Kind::Characteristic));
+    }
+    Ok(degree as usize)
 }

@@ -1,4 +1,4 @@
-use Rattle.spl_text.proofs.NumberLists.{number_unique}
+use Rattle.spl_text.proofs.Words.{number_unique}
 use Rattle.spl_text.proofs.laws.one_number_a_word.Goals as goal
 
 pub returns : goal.returns
