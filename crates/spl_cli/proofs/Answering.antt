@@ -1,11 +1,11 @@
 -- What `decide` answers to the text of a table.
 use Rattle.std.specs.Prelude.{◌≡◌, ℕ, List, []}
-use Rattle.std.proofs.Common.{inr}
+use Rattle.std.proofs.Common.{inl, inr}
 use Rattle.spl_algebra.specs.Algebra.{IsAssociative}
 use Rattle.spl_table.specs.TableText.{TableText}
 use Rattle.spl_table.specs.Table.{algebra_of, ops_of, IsTableOf}
 use Rattle.spl_table.specs.Triple.{IsFirstFailed}
-use Rattle.spl_table.specs.Refusal.{whole, IsTableText}
+use Rattle.spl_table.specs.Refusal.{whole, IsTableText, IsRefusal}
 use Rattle.spl_table.specs.declared.table.Table.{Table}
 use Rattle.spl_table.specs.declared.triple.Triple.{Triple}
 use Rattle.spl_table.specs.declared.refusal.Refusal.{Refusal}
@@ -67,3 +67,11 @@ module _ (words : List (List ℕ)) (input : List ℕ) (sink sink' : SinkState) (
     );
     stands = finishes.stands;
   }
+
+-- a text with a fault is refused
+pub Answers-refused : (words : List (List ℕ)) (input : List ℕ) (sink sink' : SinkState) (status : Status) → IsDecide words → (bytes : List ℕ) (refusal : Refusal)
+    → IsRefusal whole input refusal → bytes ≡ refusal_text refusal → Finishes Refused bytes sink sink' status → Answers words input sink sink' status
+Answers-refused words input sink sink' status form bytes refusal cause report finishes = record {
+  ends = inr (Refused, bytes, (form, record { refusal = refusal; cause = inl cause; report = report }), finishes);
+  stands = finishes.stands;
+}

@@ -46,7 +46,8 @@ fn name_of(kind: Kind) -> &'static str
 /// Appends the element without inverse, where the field's laws are at fault.
 fn push_element(line: &mut ArrayString<64>, kind: Kind)
     requires room { length line.old.bytes ≤ 60 }
-    ensures { line.new.bytes ≡ line.old.bytes ++ element_text kind }
+    ensures text { line.new.bytes ≡ line.old.bytes ++ element_text kind }
+    ensures short { length line.new.bytes ≤ length line.old.bytes + 4 }
 {
     if let Kind::FieldLaw { element } = kind {
         let mut buffer = Buffer::new();

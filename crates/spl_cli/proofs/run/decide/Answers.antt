@@ -1,6 +1,7 @@
-use Rattle.std.proofs.Common.{◌∙◌, refl}
+use Rattle.std.proofs.Common.{◌∙◌, Err, refl, ap}
+use Rattle.spl_cli.specs.Report.{refusal_text}
 use Rattle.spl_table.specs.declared.refusal.Kind.TheVariants.{NotBuilt}
-use Rattle.spl_cli.proofs.Answering.{Answers-undecided, Answers-found}
+use Rattle.spl_cli.proofs.Answering.{Answers-undecided, Answers-found, Answers-refused}
 use Rattle.spl_cli.proofs.run.decide.Goals as goal
 
 pub returns-in-Ok-None : goal.returns-in-Ok-None
@@ -14,3 +15,9 @@ returns g c = λ words form.
     Answers-found words _ _ _ _ form c.in-Ok.table c.in-Ok.ensures.ok c.as_slice.result.now
     c.in-Ok-Some.triple (rw c.in-Ok-Some.field-0-is at c.in-Ok-Some.ensures)
     (c.as_slice.ensures.value ∙ c.in-Ok-triple_evidence.ensures) c.finish-in-Ok-triple_evidence.ensures
+
+pub returns-in-Err-Refused : goal.returns-in-Err-Refused
+returns-in-Err-Refused g c = λ words form.
+    let r = c.in-Err-Refused in
+    Answers-refused words c.args.input.now _ _ _ form c.as_bytes.result.now r.refusal (r.ensures.refused r.refusal (ap Err r.field-0-is))
+    (c.as_bytes.ensures.value ∙ c.as_str.ensures.value ∙ c.refusal_line.ensures ∙ ap refusal_text r.refusal-is) c.finish.ensures
