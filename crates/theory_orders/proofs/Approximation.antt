@@ -60,7 +60,7 @@ module _ {K V : Type 0} (F : FieldOn K) (Z : ValuationOn F) (p q : K) (U : Unifo
 
   Near_less : (k s : ℕ) (x : V) → Near (k + s) x → Near s x
   unfolding Near
-  Near_less k s x h = subst L (sym (A.mul-scale (pw p k) (pw q (k + s)) x) ∙ ap (λ a. a • x) (lower k s)) (Lam_scale F Z p q U A N os O (pw p k) (pw q (k + s) • x) (p_power_in k) h)
+  Near_less k s x h = subst L (sym (A.mul-scale (pw p k) (pw q (k + s)) x) ∙ ap (λ a. a • x) (lower k s)) (Lam_scale F Z p q U A N os (pw p k) (pw q (k + s) • x) (p_power_in k) h)
 
   pub Near_add : (s : ℕ) (x y : V) → Near s x → Near s y → Near s (x ⊕ y)
   unfolding Near
@@ -127,7 +127,7 @@ module _ {K V : Type 0} (F : FieldOn K) (Z : ValuationOn F) (p q : K) (U : Unifo
       subst L
       (ap (λ z. c • z) (up-power A p t v) ∙ sym (A.mul-scale c (pw p t) v)
       ∙ ap (λ z. z • v) (F.mul_comm c (pw p t) ∙ sym (F.mul_assoc (pw p t) (pw q (t + s)) k) ∙ ap (λ z. F.◌⊗◌ z k) (lower t s)) ∙ A.mul-scale (pw q s) k v)
-      (Lam_scale F Z p q U A N os O c (up A p t v) d l)
+      (Lam_scale F Z p q U A N os c (up A p t v) d l)
 
   -- what is in D at c + s is in W up to p to the s times the order
   pub Bounded : (V → Type 0) → (ℕ → V → Type 0) → Type 0
@@ -172,7 +172,7 @@ module _ {K V : Type 0} (F : FieldOn K) (Z : ValuationOn F) (p q : K) (U : Unifo
       unfolding Bounded
       cut B v hv one =
           let b = bounded_on l h in
-          let low = lowered F Z p q U A N os O whole v in (
+          let low = lowered F Z p q U A N os whole v in (
             B.0 + (b.0 + low.0),
             λ s a d.
                 let r = B.1 (b.0 + (low.0 + s)) a (regroup B.0 b.0 low.0 s (λ k. D k a) d.0) in

@@ -50,13 +50,13 @@ module _ {K V : Type 0} (F : FieldOn K) (Z : ValuationOn F) (p q : K) (U : Unifo
   qp = F.mul_comm q p ∙ U.pq
 
   abbrev Sub : (V → Type 0) → Type 0
-  Sub = IsSublattice F Z p q U A N os O
+  Sub = IsSublattice F Z p q U A N os
 
   abbrev Indep : (V → Type 0) → ℕ → (ℕ → V) → Type 0
-  Indep = IndependentMod F Z p q U A N os O
+  Indep = IndependentMod F Z p q U A N os
 
   p_in : (x : V) → L x → L (p • x)
-  p_in x l = Lam_scale F Z p q U A N os O p x U.p_in l
+  p_in x l = Lam_scale F Z p q U A N os p x U.p_in l
 
   pub P_ideal : IsIdeal A L P
   P_ideal = Multiple-ideal A p L O p_in
@@ -83,7 +83,7 @@ module _ {K V : Type 0} (F : FieldOn K) (Z : ValuationOn F) (p q : K) (U : Unifo
   sub_of C R = right_sublattice F Z p q U A N os O C R.zero_in R.add_in R.right
 
   neg_of : (C : V → Type 0) → RightIdeal C → (x : V) → C x → C (neg x)
-  neg_of C R = sub_neg F Z p q U A N os O C (sub_of C R)
+  neg_of C R = sub_neg F Z p q U A N os C (sub_of C R)
 
   P_right : RightIdeal P
   P_right = record {
@@ -149,13 +149,13 @@ module _ {K V : Type 0} (F : FieldOn K) (Z : ValuationOn F) (p q : K) (U : Unifo
   cover : (f k : ℕ) → N < k + f → (D : V → Type 0) → RightIdeal D → (C : V → Type 0) → RightIdeal C → Within C D
       → (x : ℕ → V) → Indep P k x → ((i : ℕ) → i < k → C (x i)) → (b : V) → D b → (C b → ⊥)
       → ((C' : V → Type 0) → RightIdeal C' → Within C' D → Covers D C' → (s : V) → D s → (C' s → ⊥) → ⊥) → ⊥
-  cover zero k lt D RD C RC CD x ind inside b hb nb stop = let l = at_most F Z p q U A N os O B P P_ideal.zero_in k x ind in absurd (omega arith)
+  cover zero k lt D RD C RC CD x ind inside b hb nb stop = let l = at_most F Z p q U A N os B P P_ideal.zero_in k x ind in absurd (omega arith)
   cover (suc f) k lt D RD C RC CD x ind inside b hb nb stop = stop C RC CD
       (λ s hs ns y hy none.
       let ls = RD.inside s hs in
       cover f (suc k) (omega arith) D RD (More C RC s ls) (More_right C RC s ls)
       (λ z h. RD.stable z (λ n. h (λ w. n (subst D (sym w.4) (RD.add_in (s ⊗ w.0) w.1 (RD.right s w.0 hs w.2) (CD w.1 w.3))))))
-      (push k s x) (grow_up F Z p q U A N os O P_sub k x ind C (sub_of C RC) RC.over inside s ls ns)
+      (push k s x) (grow_up F Z p q U A N os P_sub k x ind C (sub_of C RC) RC.over inside s ls ns)
       (below_suc k (λ i. More C RC s ls (push k s x i))
       (λ i l. subst (More C RC s ls) (sym (push-below k s x i l)) (More_of C RC s ls (x i) (inside i l)))
       (subst (More C RC s ls) (sym (push-at k s x)) (More_at C RC s ls)))
@@ -232,7 +232,7 @@ module _ {K V : Type 0} (F : FieldOn K) (Z : ValuationOn F) (p q : K) (U : Unifo
           words3 A.ring (λ x t u. ((x ⊞ minus (x ⊠ t)) ⊞ minus ((x ⊞ minus (x ⊠ t)) ⊠ u), x ⊞ minus (x ⊠ (t ⊞ (u ⊞ minus (t ⊠ u)))))) refl x t u in
           stop (
             step,
-            T_ideal.add_in t (u ⊕ neg (t ⊗ u)) r.1 (T_ideal.add_in u (neg (t ⊗ u)) w.1 (sub_neg F Z p q U A N os O T (ideal_sublattice F Z p q U A N os O T T_ideal) (t ⊗ u) (T_ideal.right u t lu r.1))),
+            T_ideal.add_in t (u ⊕ neg (t ⊗ u)) r.1 (T_ideal.add_in u (neg (t ⊗ u)) w.1 (sub_neg F Z p q U A N os T (ideal_sublattice F Z p q U A N os O T T_ideal) (t ⊗ u) (T_ideal.right u t lu r.1))),
             below_suc n (λ i. Fixes step (b i))
                 (λ i l. let di = d (b i) in
                 subst C (same (b i)) (RC.add_in di (neg (di ⊗ u)) (r.2 i l) (neg_of C RC (di ⊗ u) (RC.right di u (r.2 i l) lu))))
@@ -290,7 +290,7 @@ module _ {K V : Type 0} (F : FieldOn K) (Z : ValuationOn F) (p q : K) (U : Unifo
 
     spanned : (f k : ℕ) → N < k + f → (x : ℕ → V) → Indep P k x → ((i : ℕ) → i < k → Q (x i))
         → ((n : ℕ) (g : ℕ → V) → Same Q (Lattice F Z A n g) → ⊥) → ⊥
-    spanned zero k lt x ind inside stop = let l = at_most F Z p q U A N os O B P P_ideal.zero_in k x ind in absurd (omega arith)
+    spanned zero k lt x ind inside stop = let l = at_most F Z p q U A N os B P P_ideal.zero_in k x ind in absurd (omega arith)
     spanned (suc f) k lt x ind inside stop =
         let G : V → Type 0 = Lattice F Z A (N + k) (gens k x) in
         let G_sub : Sub G = record {
@@ -301,7 +301,7 @@ module _ {K V : Type 0} (F : FieldOn K) (Z : ValuationOn F) (p q : K) (U : Unifo
         let P_G : Within P G = λ y m. InSpan_trans RA N (N + k) (λ i. p • os i) (gens k x) y (λ i l. InSpan-join_left RA N k (λ i. p • os i) x i l) (multiple_lattice y m) in
         stop (N + k) (gens k x) (
           (λ y hy. ⊎_elim (λ g. g) (λ (out : G y → ⊥). absurd (
-              spanned f (suc k) (omega arith) (push k y x) (grow_up F Z p q U A N os O P_sub k x ind G G_sub P_G (λ i l. InSpan-join_right RA N k (λ i. p • os i) x i l) y (I.inside y hy) out)
+              spanned f (suc k) (omega arith) (push k y x) (grow_up F Z p q U A N os P_sub k x ind G G_sub P_G (λ i l. InSpan-join_right RA N k (λ i. p • os i) x i l) y (I.inside y hy) out)
               (below_suc k (λ i. Q (push k y x i)) (λ i l. subst Q (sym (push-below k y x i l)) (inside i l)) (subst Q (sym (push-at k y x)) hy)) stop)) (decide_in (N + k) (gens k x) y)),
           λ y g. span_in RA Q Q_sub (N + k) (gens k x)
               (each_join N k (λ i. p • os i) x Q (λ i l. over (p • os i) (os i, InSpan-member RA N i os l, refl)) inside) y g,
@@ -340,7 +340,7 @@ module _ {K V : Type 0} (F : FieldOn K) (Z : ValuationOn F) (p q : K) (U : Unifo
 
   descend : (f k : ℕ) → N < k + f → (D : V → Type 0) → RightIdeal D → (u : List MaximalLattice) → Within (W u) D → (x : ℕ → V) → Indep D k x → ((i : ℕ) → i < k → L (x i))
       → ((w : List MaximalLattice) → Within (W w) P → ⊥) → ⊥
-  descend zero k lt D RD u inside x ind lx stop = let l = at_most F Z p q U A N os O B D RD.zero_in k x ind in absurd (omega arith)
+  descend zero k lt D RD u inside x ind lx stop = let l = at_most F Z p q U A N os B D RD.zero_in k x ind in absurd (omega arith)
   descend (suc f) k lt D RD u inside x ind lx stop = stop u (λ y hy. P_stable y (λ out.
       cover (suc N) zero (omega arith) D RD P P_right RD.over os (record { no_unit = λ c int h i l v. absurd (omega arith) }) (λ i l. absurd (omega arith)) y (inside y hy) out
       (λ C RC CD covers s hs ns.
@@ -348,7 +348,7 @@ module _ {K V : Type 0} (F : FieldOn K) (Z : ValuationOn F) (p q : K) (U : Unifo
       let m : IsMaximalIdeal A p L (Lattice F Z A n g) = maximal_of (Ann D RD C RC CD covers s hs ns) (Ann_ideal D RD C RC CD covers s hs ns) (Ann_over D RD C RC CD covers s hs ns)
       (Ann_proper D RD C RC CD covers s hs ns) (Ann_generates D RD C RC CD covers s hs ns) n g e in
       descend f (suc k) (omega arith) C RC ((n, g, m) ∷ u) (λ z w. subst C (sym w.4) ((e.1 w.1 w.3).1 w.0 (inside w.0 w.2)))
-      (push k s x) (grow_down F Z p q U A N os O P_sub k x C D ind lx (sub_of C RC) (sub_of D RD) RC.over CD s (RD.inside s hs) hs ns)
+      (push k s x) (grow_down F Z p q U A N os P_sub k x C D ind lx (sub_of C RC) (sub_of D RD) RC.over CD s (RD.inside s hs) hs ns)
       (below_suc k (λ i. L (push k s x i)) (λ i l. subst L (sym (push-below k s x i l)) (lx i l)) (subst L (sym (push-at k s x)) (RD.inside s hs))) stop))))
 
   -- some product of maximal ideals lies in p·L

@@ -136,7 +136,7 @@ module _ {K V : Type 0} (F : FieldOn K) (Z : ValuationOn F) (A : AlgebraOn F.rin
         let d = times F.monoid n F.one in
         let iq : In q = subst In (F.mul_assoc q d (F.inv d) ∙ ap (F.◌⊗◌ q) (mul-inv F d unit.0) ∙ F.mul-one q)
         (Z.mul_in (F.◌⊗◌ q d) (F.inv d) (subst (λ x. In (F.◌⊗◌ q x)) trace-one (subst (λ x. In (F.◌⊗◌ q (t x))) (A.one-mul A.one) (h A.one O.one_in))) unit.1) in
-        S.proper (Multiple-of A p q U.pq qp L A.one (Lam_scale F Z p q U A n os O q A.one iq O.one_in))
+        S.proper (Multiple-of A p q U.pq qp L A.one (Lam_scale F Z p q U A n os q A.one iq O.one_in))
 
     Small_Multiple : (a : V) → L a → Small a → Multiple A p L a
     Small_Multiple a l h = ⊎_elim (λ m. m)
@@ -152,7 +152,7 @@ module _ {K V : Type 0} (F : FieldOn K) (Z : ValuationOn F) (A : AlgebraOn F.rin
         subst L (cancel_scale A p q U.pq qp (up A p s x)) (of-Multiple A p q U.pq qp L (up A p (suc s) x) m))
       where
         shifted : (s : ℕ) (y : V) → L y → In (t (up A p s x ⊗ y))
-        shifted s y ly = subst (λ z. In (t z)) (up-right A p s x y ∙ sym (up-left A p s x y)) (h (up A p s y) (Lam_up F Z p q U A n os O s y ly))
+        shifted s y ly = subst (λ z. In (t z)) (up-right A p s x y ∙ sym (up-left A p s x y)) (h (up A p s y) (Lam_up F Z p q U A n os s y ly))
 
     pub self_dual_of_simple : IsSelfDual F Z A n B L
-    self_dual_of_simple = (λ x h. let s = lowered F Z p q U A n os O span x in descend s.0 x h s.1, in_dual)
+    self_dual_of_simple = (λ x h. let s = lowered F Z p q U A n os span x in descend s.0 x h s.1, in_dual)

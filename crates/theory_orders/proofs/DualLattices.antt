@@ -1,12 +1,12 @@
 -- Where the trace form is nondegenerate, the dual of a lattice of full rank is the lattice of the dual basis, its dual is
 -- the lattice again, and a larger lattice has a smaller dual.
 use Rattle.std.specs.Prelude.{◌≡◌, ℕ, zero, suc, ◌<◌, ◌≤◌}
-use Rattle.std.proofs.Common.{sym, ◌∙◌, ap, subst, arith, ⊎_elim}
+use Rattle.std.proofs.Common.{sym, ◌∙◌, subst, arith, ⊎_elim}
 use Rattle.std.proofs.lemmas.Bool.{cases_lt}
 use Rattle.theory_rings.specs.Ring.{FieldOn}
 use Rattle.theory_spaces.specs.Module.{ModuleOn, AlgebraOn, module_of}
 use Rattle.theory_spaces.specs.Linear.{Independent, Basis, IsSubmodule}
-use Rattle.theory_spaces.specs.Algebra.{trace, Nondegenerate}
+use Rattle.theory_spaces.specs.Algebra.{Nondegenerate}
 use Rattle.theory_spaces.specs.Form.{IsBilinear, DualBasis, trace_form}
 use Rattle.theory_spaces.specs.Valuation.{ValuationOn, integers, restrict}
 use Rattle.theory_spaces.proofs.Families.{push, push-below, push-at}
@@ -16,7 +16,7 @@ use Rattle.theory_spaces.proofs.Traces.{trace_comm}
 use Rattle.theory_spaces.proofs.TraceForms.{trace_form_bilinear, trace_form_nondegenerate}
 use Rattle.theory_spaces.proofs.Forms.{dual_basis, coord-dual, expand-dual, dual-expand, form-zero_left}
 use Rattle.theory_orders.specs.Uniformizer.{IsIntegral}
-use Rattle.theory_orders.specs.Orders.{Within, Same, ProperlyWithin}
+use Rattle.theory_orders.specs.Orders.{Same, ProperlyWithin}
 use Rattle.theory_orders.specs.Lattices.{Lattice, IsOrderAt, LatticeChain}
 use Rattle.theory_orders.specs.Dual.{Dual}
 use Rattle.theory_orders.proofs.LatticeTests.{over_integers, integral_weights}

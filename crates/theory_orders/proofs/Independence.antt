@@ -1,4 +1,4 @@
--- Vectors independent modulo a sublattice of an order that holds p times it: there are no more than the dimension.
+-- Vectors independent modulo a sublattice that holds p times a lattice: there are no more than the dimension.
 use Rattle.std.specs.Prelude.{◌≡◌, ℕ, zero, suc, ◌<◌, ◌≤◌}
 use Rattle.std.proofs.Common.{sym, ◌∙◌, ap, subst, arith, ⊎_elim}
 use Rattle.theory_rings.specs.Ring.{FieldOn}
@@ -18,7 +18,7 @@ use Rattle.theory_orders.proofs.Multiples.{Multiple-of}
 use Rattle.theory_orders.proofs.Scaling.{Lam_scale}
 
 module _ {K V : Type 0} (F : FieldOn K) (Z : ValuationOn F) (p q : K) (U : UniformizerOn F Z p q)
-    (A : AlgebraOn F.ring V) (N : ℕ) (os : ℕ → V) (O : IsOrder A (Lattice F Z A N os)) where
+    (A : AlgebraOn F.ring V) (N : ℕ) (os : ℕ → V) where
   infixl 65 ◌⊕◌
   infixl 70 ◌⊗◌
   infixl 70 ◌•◌
@@ -45,15 +45,15 @@ module _ {K V : Type 0} (F : FieldOn K) (Z : ValuationOn F) (p q : K) (U : Unifo
     pub no_unit : (c : ℕ → K) → ((i : ℕ) → i < k → In (c i)) → S (comb M k c x) → (i : ℕ) → i < k → IsUnit F Z (c i) → ⊥
 
   -- sets closed under products with the order from the right, or from the left
-  pub right_sublattice : (S : V → Type 0) → S A.zero → ((x y : V) → S x → S y → S (x ⊕ y)) → ((x l : V) → S x → L l → S (x ⊗ l)) → IsSublattice S
-  right_sublattice S z a r = record {
+  pub right_sublattice : IsOrder A L → (S : V → Type 0) → S A.zero → ((x y : V) → S x → S y → S (x ⊕ y)) → ((x l : V) → S x → L l → S (x ⊗ l)) → IsSublattice S
+  right_sublattice O S z a r = record {
     zero-in = z;
     add-in = a;
-    scale-in = λ c x h. subst S (A.scale-right c.0 x A.one ∙ ap (λ y. c.0 • y) (A.mul-one x)) (r x (c.0 • A.one) h (Lam_scale F Z p q U A N os O c.0 A.one c.1 O.one_in));
+    scale-in = λ c x h. subst S (A.scale-right c.0 x A.one ∙ ap (λ y. c.0 • y) (A.mul-one x)) (r x (c.0 • A.one) h (Lam_scale F Z p q U A N os c.0 A.one c.1 O.one_in));
   }
 
-  pub ideal_sublattice : (S : V → Type 0) → IsIdeal A L S → IsSublattice S
-  ideal_sublattice S I = right_sublattice S I.zero_in I.add_in (λ x l h hl. I.right l x hl h)
+  pub ideal_sublattice : IsOrder A L → (S : V → Type 0) → IsIdeal A L S → IsSublattice S
+  ideal_sublattice O S I = right_sublattice O S I.zero_in I.add_in (λ x l h hl. I.right l x hl h)
 
   module _ (S : V → Type 0) (C : IsSublattice S) where
     pub sub_scale : (c : K) (x : V) → In c → S x → S (c • x)
@@ -80,7 +80,7 @@ module _ {K V : Type 0} (F : FieldOn K) (Z : ValuationOn F) (p q : K) (U : Unifo
   pub nonunit_multiple : (c : K) (x : V) → In c → (IsUnit F Z c → ⊥) → L x → P (c • x)
   nonunit_multiple c x h n l = ⊎_elim
       (λ (i : In (F.◌⊗◌ q c)). Multiple-of A p q U.pq (F.mul_comm q p ∙ U.pq) L (c • x)
-      (subst L (A.mul-scale q c x) (Lam_scale F Z p q U A N os O (F.◌⊗◌ q c) x i l)))
+      (subst L (A.mul-scale q c x) (Lam_scale F Z p q U A N os (F.◌⊗◌ q c) x i l)))
       (λ (u : IsUnit F Z c). absurd (n u)) (U.multiple_or_unit c h)
 
   module _ (SP : IsSublattice P) where

@@ -13,9 +13,8 @@ use Rattle.theory_spaces.proofs.Spaces.{basis_of, coords_of}
 use Rattle.theory_spaces.proofs.Dimension.{dimension_unique}
 use Rattle.theory_spaces.proofs.Lattices.{lattice_basis}
 use Rattle.theory_spaces.proofs.PairIndex.{pair-lt, row-lt, column-lt}
-use Rattle.theory_spaces.proofs.Traces.{trace_comm}
 use Rattle.theory_orders.specs.Uniformizer.{IsIntegral}
-use Rattle.theory_orders.specs.Orders.{IsOrder, IsIdeal, LeftOrder, Within, Same}
+use Rattle.theory_orders.specs.Orders.{IsOrder, IsIdeal, LeftOrder, Same}
 use Rattle.theory_orders.specs.Lattices.{Lattice, IsOrderAt}
 use Rattle.theory_orders.specs.Dual.{Dual}
 use Rattle.theory_orders.proofs.LatticeTests.{over_field, pairs_of, pairs_of-at}

@@ -24,3 +24,4 @@ pub mod MaximalOrders
 pub mod LeftOrders
 pub mod DualLattices
 pub mod LeftOrderLattice
+pub mod Lengths

@@ -218,10 +218,10 @@ module _ {K V W : Type 0} (F : FieldOn K) (Z : ValuationOn F) (p q : K) (U : Uni
     Low s x = Lam (up A p s x)
 
     bound : (s : ℕ) × ((j : ℕ) → j < r → Low s (rank_one e j))
-    bound = uniform (λ s j. Low s (rank_one e j)) (λ s t j. Low_more F Z p q U A N b O s t (rank_one e j)) r (λ j l. lowered F Z p q U A N b O whole (rank_one e j))
+    bound = uniform (λ s j. Low s (rank_one e j)) (λ s t j. Low_more F Z p q U A N b s t (rank_one e j)) r (λ j l. lowered F Z p q U A N b whole (rank_one e j))
 
     Gam-bounded : (a : V) → Gam a → Low bound.0 a
-    Gam-bounded a h = subst (Low bound.0) (sym (columns a)) (Low_sum F Z p q U A N b O bound.0 r (λ j. rank_one (act a (w j)) j) (λ j l.
+    Gam-bounded a h = subst (Low bound.0) (sym (columns a)) (Low_sum F Z p q U A N b bound.0 r (λ j. rank_one (act a (w j)) j) (λ j l.
         let y = L-from (act a (w j)) (h (w j) (w-in j l)) in
         let same : y.0 ⊗ rank_one e j ≡ rank_one (act a (w j)) j = T.same (y.0 ⊗ rank_one e j) (rank_one (act a (w j)) j) (λ x.
         T.act-mul y.0 (rank_one e j) x ∙ ap (act y.0) (rank_one-act e j x) ∙ T.on-scale y.0 (c x j) e ∙ ap (λ v. M.◌•◌ (c x j) v) (sym y.2)

@@ -53,7 +53,7 @@ module _ {K V : Type 0} (F : FieldOn K) (Z : ValuationOn F) (p q : K) (U : Unifo
   p1 = p • A.one
 
   L_scale : (c : K) (x : V) → In c → L x → L (c • x)
-  L_scale = Lam_scale F Z p q U A N os O
+  L_scale = Lam_scale F Z p q U A N os
 
   P_ideal : IsIdeal A L P
   P_ideal = Multiple-ideal A p L O (λ x l. L_scale p x U.p_in l)
@@ -62,7 +62,7 @@ module _ {K V : Type 0} (F : FieldOn K) (Z : ValuationOn F) (p q : K) (U : Unifo
   L_neg x l = InSpan-neg (restrict F Z (module_of A)) N os x l
 
   P_neg : (x : V) → P x → P (neg x)
-  P_neg = sub_neg F Z p q U A N os O P (ideal_sublattice F Z p q U A N os O P P_ideal)
+  P_neg = sub_neg F Z p q U A N os P (ideal_sublattice F Z p q U A N os O P P_ideal)
 
   P_of : (x : V) → L (q • x) → P x
   P_of = Multiple-of A p q U.pq qp L
@@ -126,7 +126,7 @@ module _ {K V : Type 0} (F : FieldOn K) (Z : ValuationOn F) (p q : K) (U : Unifo
     S_ideal : (k : ℕ) → IsIdeal A L (S k)
     S_ideal = Chain_ideal A L O M I
 
-    S_sub : (k : ℕ) → IsSublattice F Z p q U A N os O (S k)
+    S_sub : (k : ℕ) → IsSublattice F Z p q U A N os (S k)
     S_sub k = ideal_sublattice F Z p q U A N os O (S k) (S_ideal k)
 
     pub S_over : (k : ℕ) → S k p1 → Within P (S k)
@@ -139,19 +139,19 @@ module _ {K V : Type 0} (F : FieldOn K) (Z : ValuationOn F) (p q : K) (U : Unifo
     proper m = H.simple.proper (subst M (sym m.2) (H.over m.0 m.1))
 
     -- as many vectors as there are powers of M over p
-    witnesses : LU → (k : ℕ) → S k p1 → ((x : ℕ → V) → IndependentMod F Z p q U A N os O (S k) k x → ((i : ℕ) → i < k → L (x i)) → ⊥) → ⊥
+    witnesses : LU → (k : ℕ) → S k p1 → ((x : ℕ → V) → IndependentMod F Z p q U A N os (S k) k x → ((i : ℕ) → i < k → L (x i)) → ⊥) → ⊥
     witnesses l zero h stop = stop os (record { no_unit = λ c int s i g u. absurd (omega arith) }) (λ i g. absurd (omega arith))
     witnesses l (suc k) h stop = witnesses l k (S_fewer k p1 h) (λ x ind lx.
         falls_strictly A p q U.pq qp L O M H stable l k (λ b hb out.
         let lb = Chain_inside A L O M I k b hb in
         stop (push k b x)
-        (grow_down F Z p q U A N os O (ideal_sublattice F Z p q U A N os O P P_ideal) k x (S (suc k)) (S k) ind lx (S_sub (suc k)) (S_sub k) (S_over (suc k) h) (S_fewer k) b lb
+        (grow_down F Z p q U A N os (ideal_sublattice F Z p q U A N os O P P_ideal) k x (S (suc k)) (S k) ind lx (S_sub (suc k)) (S_sub k) (S_over (suc k) h) (S_fewer k) b lb
         (SumOf_one A (Ch k) b hb) out)
         (below_suc k (λ i. L (push k b x i)) (λ i g. subst L (sym (push-below k b x i g)) (lx i g)) (subst L (sym (push-at k b x)) lb))))
 
     pub bounded : LU → (k : ℕ) → S k p1 → k ≤ N
     bounded l k h = ⊎_elim
-        (λ (g : N < k). absurd (witnesses l k h (λ x ind lx. let m = at_most F Z p q U A N os O B (S k) (S_ideal k).zero_in k x ind in absurd (omega arith))))
+        (λ (g : N < k). absurd (witnesses l k h (λ x ind lx. let m = at_most F Z p q U A N os B (S k) (S_ideal k).zero_in k x ind in absurd (omega arith))))
         (λ g. g) (cases_lt N k)
 
     -- the greatest power over p
@@ -231,7 +231,7 @@ module _ {K V : Type 0} (F : FieldOn K) (Z : ValuationOn F) (p q : K) (U : Unifo
                 (near_up F Z p q U A N os O s ((x ⊗ b) ⊗ y) left.0 left.1 left.2) (near_up F Z p q U A N os O s (y ⊗ (neg b ⊗ x)) right.0 right.1 right.2)) in
                 let k = near x commutes in
                 let xy = hx.1 y hy in
-                let xy_P : P (x ⊗ y) = (up A p c xy.0, Lam_up F Z p q U A N os O c xy.0 xy.1, xy.2) in
+                let xy_P : P (x ⊗ y) = (up A p c xy.0, Lam_up F Z p q U A N os c xy.0 xy.1, xy.2) in
                 let ly : L y = I.inside y my in
                 ⊎_elim
                 (λ (h : P x). H.simple.proper (subst M (sym eq) (I.add_in x y (subst M (sym h.2) (H.over h.0 h.1)) my)))

@@ -66,7 +66,7 @@ module _ {K V : Type 0} (F : FieldOn K) (Z : ValuationOn F) (p q : K) (U : Unifo
   Lat = Lattice F Z A
 
   P_ideal : IsIdeal A L P
-  P_ideal = Multiple-ideal A p L O (λ x l. Lam_scale F Z p q U A N os O p x U.p_in l)
+  P_ideal = Multiple-ideal A p L O (λ x l. Lam_scale F Z p q U A N os p x U.p_in l)
 
   stable : (n : ℕ) (g : ℕ → V) (x : V) → NotNot (Lat n g x) → Lat n g x
   stable n g x h = ⊎_elim (λ l. l) (λ out. absurd (h out)) (decide_in F Z p q U A N B os O n g x)
@@ -195,7 +195,7 @@ module _ {K V : Type 0} (F : FieldOn K) (Z : ValuationOn F) (p q : K) (U : Unifo
                 d.0,
                 d.1 ⊗ (c.0 • A.one),
                 d.2,
-                I.right (c.0 • A.one) d.1 (Lam_scale F Z p q U A N os O c.0 A.one c.1 O.one_in) d.3,
+                I.right (c.0 • A.one) d.1 (Lam_scale F Z p q U A N os c.0 A.one c.1 O.one_in) d.3,
                 ap (λ z. z ⊗ (c.0 • A.one)) d.4 ∙ A.mul_assoc d.0 d.1 (c.0 • A.one),
               )) x h);
         } in (

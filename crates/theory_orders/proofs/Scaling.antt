@@ -1,21 +1,20 @@
--- Powers of a uniformizer bring each element into an order, and a scalar multiple of one that is in the order is integral.
-use Rattle.std.specs.Prelude.{ℕ, zero, suc, ◌+◌, ◌<◌}
-use Rattle.std.proofs.Common.{sym, subst}
+-- Powers of a uniformizer bring each element into a lattice that spans the algebra.
+use Rattle.std.specs.Prelude.{◌≡◌, ℕ, zero, suc, ◌+◌, ◌<◌}
+use Rattle.std.proofs.Common.{sym, ◌∙◌, ap, subst}
 use Rattle.theory_rings.specs.Ring.{FieldOn}
 use Rattle.theory_rings.specs.Sum.{sum}
 use Rattle.theory_rings.specs.Power.{power}
 use Rattle.theory_spaces.specs.Module.{ModuleOn, AlgebraOn, module_of}
-use Rattle.theory_spaces.specs.Linear.{InSpan}
+use Rattle.theory_spaces.specs.Linear.{InSpan, IsSubmodule}
 use Rattle.theory_spaces.specs.Valuation.{ValuationOn, integers, restrict}
-use Rattle.theory_spaces.proofs.Modules.{InSpan-scale, InSpan-member}
+use Rattle.theory_spaces.proofs.Modules.{InSpan-zero, InSpan-add, InSpan-scale, InSpan-member}
 use Rattle.theory_orders.specs.Uniformizer.{IsIntegral, UniformizerOn}
-use Rattle.theory_orders.specs.Orders.{IsOrder}
 use Rattle.theory_orders.specs.Lattices.{Lattice}
 use Rattle.theory_orders.proofs.SumsOf.{sum_in}
-use Rattle.theory_orders.proofs.Multiples.{uniform, up, up-plus, up-add, up-zero, up-scale}
+use Rattle.theory_orders.proofs.Multiples.{uniform, up, up-plus, up-add, up-zero, up-scale, up-power}
 
 module _ {K V : Type 0} (F : FieldOn K) (Z : ValuationOn F) (p q : K) (U : UniformizerOn F Z p q)
-    (A : AlgebraOn F.ring V) (N : ℕ) (b : ℕ → V) (O : IsOrder A (Lattice F Z A N b)) where
+    (A : AlgebraOn F.ring V) (N : ℕ) (b : ℕ → V) where
   infixl 70 ◌•◌
   open A use {◌•◌}
 
@@ -32,7 +31,7 @@ module _ {K V : Type 0} (F : FieldOn K) (Z : ValuationOn F) (p q : K) (U : Unifo
   Lam_up zero x l = l
   Lam_up (suc s) x l = Lam_scale p (up A p s x) U.p_in (Lam_up s x l)
 
-  -- p to the s times x is in the order
+  -- p to the s times x is in the lattice
   abbrev pub Low : ℕ → V → Type 0
   Low s x = Lam (up A p s x)
 
@@ -40,12 +39,23 @@ module _ {K V : Type 0} (F : FieldOn K) (Z : ValuationOn F) (p q : K) (U : Unifo
   Low_more s t x h = subst Lam (sym (up-plus A p t s x)) (Lam_up t (up A p s x) h)
 
   pub Low_add : (s : ℕ) (x y : V) → Low s x → Low s y → Low s (A.◌⊕◌ x y)
-  Low_add s x y g k = subst Lam (sym (up-add A p s x y)) (O.add_in (up A p s x) (up A p s y) g k)
+  Low_add s x y g k = subst Lam (sym (up-add A p s x y)) (InSpan-add RA N b (up A p s x) (up A p s y) g k)
 
   pub Low_sum : (s m : ℕ) (f : ℕ → V) → ((i : ℕ) → i < m → Low s (f i)) → Low s (sum A.monoid m f)
-  Low_sum s m f h = sum_in A (Low s) (subst Lam (sym (up-zero A p s)) O.zero_in) (Low_add s) m f h
+  Low_sum s m f h = sum_in A (Low s) (subst Lam (sym (up-zero A p s)) (InSpan-zero RA N b)) (Low_add s) m f h
 
-  -- each element is brought into the order
+  -- a scalar goes past a power of p
+  up_swap : (s : ℕ) (c : K) (x : V) → up A p s (c • x) ≡ c • up A p s x
+  up_swap s c x = up-scale A p s c x ∙ ap (λ a. a • x) (F.mul_comm (power F.ring p s) c) ∙ A.mul-scale c (power F.ring p s) x ∙ ap (λ z. c • z) (sym (up-power A p s x))
+
+  pub Low_sub : (s : ℕ) → IsSubmodule RA (Low s)
+  Low_sub s = record {
+    zero-in = subst Lam (sym (up-zero A p s)) (InSpan-zero RA N b);
+    add-in = Low_add s;
+    scale-in = λ c x h. subst Lam (sym (up_swap s c.0 x)) (Lam_scale c.0 (up A p s x) c.1 h);
+  }
+
+  -- each element is brought into the lattice
   pub lowered : ((a : V) → InSpan (module_of A) N b a) → (a : V) → (s : ℕ) × Low s a
   lowered whole a =
       let d = whole a in

@@ -1,5 +1,5 @@
 -- Statements on the dual of an order by the trace form.
-use Rattle.std.specs.Prelude.{ℕ, suc, ◌⊎◌}
+use Rattle.std.specs.Prelude.{ℕ, suc, ◌≤◌, ◌⊎◌}
 use Rattle.theory_rings.specs.Ring.{FieldOn}
 use Rattle.theory_rings.specs.Power.{times}
 use Rattle.theory_spaces.specs.Module.{AlgebraOn, module_of}
@@ -34,6 +34,11 @@ module _ {K V : Type 0} (F : FieldOn K) (Z : ValuationOn F) (A : AlgebraOn F.rin
   GrowthByTwo = (v w : ℕ → V) → IsOrderAt F Z A n v → IsOrderAt F Z A n w → ProperlyWithin (Lattice F Z A n v) (Lattice F Z A n w)
       → (k : ℕ) → LatticeChain F Z A k (Lattice F Z A n w) (Dual F Z A n B (Lattice F Z A n w))
       → LatticeChain F Z A (suc (suc k)) (Lattice F Z A n v) (Dual F Z A n B (Lattice F Z A n v))
+
+  -- the length of the dual over a lattice of full rank is bounded
+  abbrev pub LengthBounded : Type 0
+  LengthBounded = (v : ℕ → V) → Independent (module_of A) n v
+      → (b : ℕ) × ((k : ℕ) → LatticeChain F Z A k (Lattice F Z A n v) (Dual F Z A n B (Lattice F Z A n v)) → k ≤ b)
 
   -- an order with a unimodular trace form is its dual
   abbrev pub UnimodularSelfDual : Type 0

@@ -4,7 +4,7 @@ ghost use Rattle.std.specs.Int.{◌∣◌};
 ghost use Rattle.theory_rings.specs.Power.{times};
 ghost use Rattle.theory_rings.specs.Prime.{IsPrime};
 ghost use Rattle.theory_spaces.specs.Algebra.{Central, Nondegenerate};
-ghost use Rattle.theory_orders.specs.DualLaws.{DimensionIsUnit, OrderInDual, DoubleDual, DualShrinks, GrowthByTwo, UnimodularSelfDual, SimpleSelfDual, SelfDualOrRamified};
+ghost use Rattle.theory_orders.specs.DualLaws.{DimensionIsUnit, OrderInDual, DoubleDual, DualShrinks, GrowthByTwo, LengthBounded, UnimodularSelfDual, SimpleSelfDual, SelfDualOrRamified};
 
 use crate::order_laws::PlacedAlgebra;
 
@@ -14,10 +14,11 @@ pub fn order_lies_in_its_dual<A: PlacedAlgebra>()
 {}
 
 /// Where the trace form is nondegenerate, the dual of the dual of a lattice of full rank is the lattice, a larger lattice
-/// has a smaller dual, and the length of the dual over the order is less by at least two for a larger order.
+/// has a smaller dual, and the length of the dual over the order is bounded, and less by at least two for a larger order.
 pub fn growth_shrinks_the_dual<A: PlacedAlgebra>()
     ensures double { Nondegenerate A.algebra A.dimension A.basis → DoubleDual A.field A.valuation A.algebra A.dimension A.basis }
     ensures shrinks { Nondegenerate A.algebra A.dimension A.basis → DualShrinks A.field A.valuation A.algebra A.dimension A.basis }
+    ensures bounded { Nondegenerate A.algebra A.dimension A.basis → LengthBounded A.field A.valuation A.algebra A.dimension A.basis }
     ensures by_two { Nondegenerate A.algebra A.dimension A.basis → GrowthByTwo A.field A.valuation A.algebra A.dimension A.basis }
 {}
 

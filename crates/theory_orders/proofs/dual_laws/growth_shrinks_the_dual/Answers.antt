@@ -1,4 +1,5 @@
 use Rattle.theory_orders.proofs.DualLattices.{double_dual, dual_shrinks, growth_by_two}
+use Rattle.theory_orders.proofs.Lengths.{length_bounded}
 use Rattle.theory_orders.proofs.dual_laws.growth_shrinks_the_dual.Goals as goal
 
 pub returns-clause-double : goal.returns-clause-double
@@ -9,3 +10,6 @@ returns-clause-shrinks g c = λ non. let a = g.A.PlacedAlgebra in dual_shrinks a
 
 pub returns-clause-by_two : goal.returns-clause-by_two
 returns-clause-by_two g c = λ non. let a = g.A.PlacedAlgebra in growth_by_two a.field a.valuation a.algebra a.dimension a.basis non
+
+pub returns-clause-bounded : goal.returns-clause-bounded
+returns-clause-bounded g c = λ non. let a = g.A.PlacedAlgebra in length_bounded a.field a.valuation a.p a.q a.uniformizer a.algebra a.dimension a.basis non
