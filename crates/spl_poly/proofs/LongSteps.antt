@@ -1,9 +1,9 @@
 -- The steps of the long division, on lists over a program's field.
-use Rattle.std.specs.Prelude.{◌≡◌, ◌≢◌, ℕ, zero, suc, ◌+◌, ◌-◌, ◌<◌, ◌≤◌, List, length, get_or, slice_set}
+use Rattle.std.specs.Prelude.{◌≡◌, ℕ, suc, ◌+◌, ◌-◌, ◌<◌, ◌≤◌, List, length}
 use Rattle.std.specs.List.{All}
-use Rattle.std.proofs.Common.{refl, sym, ◌∙◌, ap, ap₂, arith, subst, ⊎_elim, set}
+use Rattle.std.proofs.Common.{sym, ◌∙◌, ap, ap₂, arith, ⊎_elim, set}
 use Rattle.std.proofs.lemmas.Bool.{cases_lt}
-use Rattle.std.proofs.lemmas.List.{get_or_past, get_or-set_same, get_or-set_other}
+use Rattle.std.proofs.lemmas.List.{get_or-set_same, get_or-set_other}
 use Rattle.theory_rings.specs.Ring.{FieldOn}
 use Rattle.theory_rings.specs.Ops.{Ops, IsElem, FieldLaws}
 use Rattle.theory_rings.specs.Elements.{Elem, Elem-path, elements}

@@ -1,17 +1,16 @@
 -- Remainders of products and powers, on lists over a program's field.
-use Rattle.std.specs.Prelude.{◌≡◌, ◌≢◌, ℕ, zero, suc, ◌+◌, ◌*◌, ◌/◌, ◌%◌, ◌<◌, ◌≤◌, List, [], ◌∷◌, length}
-use Rattle.std.specs.List.{All}
-use Rattle.std.proofs.Common.{refl, sym, ◌∙◌, ap, ap₂, arith, subst}
+use Rattle.std.specs.Prelude.{◌≡◌, ℕ, zero, suc, ◌+◌, ◌<◌, List, [], ◌∷◌, length}
+use Rattle.std.proofs.Common.{refl, sym, ◌∙◌, ap, ap₂}
 use Rattle.std.proofs.lemmas.List.Elements.{All-nil, All-cons}
 use Rattle.theory_rings.specs.Ring.{FieldOn, CommRingOn}
 use Rattle.theory_rings.specs.Ops.{Ops, IsElem, FieldLaws}
 use Rattle.theory_rings.specs.Elements.{Elem, Elem-path, elements}
 use Rattle.theory_rings.specs.Sum.{at}
 use Rattle.theory_rings.specs.Power.{power}
-use Rattle.theory_rings.specs.Polynomial.{IsTrimmed, trim, Poly, coefficient, convolution, convolution_of, constant_coefficients}
+use Rattle.theory_rings.specs.Polynomial.{IsTrimmed, trim, Poly, coefficient, convolution_of, constant_coefficients}
 use Rattle.theory_rings.specs.Division.{Congruent}
 use Rattle.theory_rings.proofs.Powers.Powers.{power-add}
-use Rattle.theory_rings.proofs.Rings.Congruences.{congruent_of_eq, congruent_trans, congruent_sym, congruent-mul}
+use Rattle.theory_rings.proofs.Rings.Congruences.{congruent_of_eq, congruent_trans, congruent-mul}
 use Rattle.theory_rings.proofs.Polynomials.PolynomialRing.{Poly-path, IsTrimmed-trim, get_or-trim, coefficient-one, coefficient-add, coefficient-mul}
 use Rattle.theory_rings.proofs.Polynomials.Bezout.{field_polynomials}
 use Rattle.theory_rings.proofs.Polynomials.ElementLists.{values, at-values, elements_of, values-elements_of, poly_of, coefficient-poly_of, convolution_of-elements}
@@ -34,7 +33,7 @@ module _ {E : Type 0} (o : Ops E) (L : FieldLaws o) where
   abbrev pub HasCoefficients : Poly F.cring → (ℕ → E) → Type 0
   HasCoefficients p f = (k : ℕ) → f k ≡ (coefficient F.cring p k).0
 
-  coefficients_mul : (p q : Poly F.cring) (f g : ℕ → E) → HasCoefficients p f → HasCoefficients q g → HasCoefficients (P.◌⊗◌ p q) (convolution_of o f g)
+  pub coefficients_mul : (p q : Poly F.cring) (f g : ℕ → E) → HasCoefficients p f → HasCoefficients q g → HasCoefficients (P.◌⊗◌ p q) (convolution_of o f g)
   coefficients_mul p q f g hf hg k =
       convolution_of_congr o L f g (λ i. (coefficient F.cring p i).0) (λ i. (coefficient F.cring q i).0) hf hg k
       ∙ convolution_of-elements o L (coefficient F.cring p) (coefficient F.cring q) k

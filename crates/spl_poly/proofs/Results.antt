@@ -1,7 +1,6 @@
 -- What the calls give, from what their loops have done.
-use Rattle.std.specs.Prelude.{◌≡◌, ◌≢◌, ℕ, suc, ◌+◌, ◌-◌, ◌<◌, ◌≤◌, List, [], ◌∷◌, length, get_or}
-use Rattle.std.specs.List.{All}
-use Rattle.std.proofs.Common.{refl, sym, ◌∙◌, ap, ap₂, arith, subst, ⊎_elim}
+use Rattle.std.specs.Prelude.{◌≡◌, ◌≢◌, ℕ, suc, ◌+◌, ◌-◌, ◌<◌, ◌≤◌, List, [], ◌∷◌, length}
+use Rattle.std.proofs.Common.{refl, sym, ◌∙◌, ap, ap₂, arith, ⊎_elim}
 use Rattle.std.proofs.lemmas.Bool.{cases_lt}
 use Rattle.std.proofs.lemmas.List.{get_or_past}
 use Rattle.theory_rings.specs.Ops.{Ops, IsElem, FieldLaws}
@@ -9,7 +8,7 @@ use Rattle.theory_rings.specs.Sum.{at}
 use Rattle.theory_rings.specs.Polynomial.{IsTrimmed, convolution_of, degree}
 use Rattle.theory_rings.proofs.Rings.Elements.{at-elem}
 use Rattle.theory_rings.proofs.Polynomials.PolynomialRing.{IsTrimmed-injective}
-use Rattle.spl_poly.specs.Operations.{IsOver, IsProduct, IsDivisionOf, IsDivision, IsMonicOf}
+use Rattle.spl_poly.specs.Operations.{IsOver, IsProduct, IsDivision, IsMonicOf}
 use Rattle.spl_poly.proofs.Coefficients.{mul-past, convolution_of-past, convolution_of_congr}
 use Rattle.spl_poly.proofs.Trimming.{IsTrimmed_of_last, last-ne-zero_of_pos, length_le_of_zeros}
 

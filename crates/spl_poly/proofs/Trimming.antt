@@ -1,11 +1,11 @@
 -- Lists without zeros at their end.
-use Rattle.std.specs.Prelude.{◌≡◌, ◌≢◌, ℕ, zero, suc, ◌+◌, ◌-◌, ◌<◌, ◌≤◌, Bool, true, false, List, [], ◌∷◌, length, get_or, nat_eq, take, ◌++◌}
+use Rattle.std.specs.Prelude.{◌≡◌, ◌≢◌, ℕ, suc, ◌-◌, ◌<◌, ◌≤◌, List, [], ◌∷◌, length, get_or, take, ◌++◌}
 use Rattle.std.proofs.Common.{refl, sym, ◌∙◌, ap, arith, subst, ⊎_elim, length-take}
 use Rattle.std.proofs.lemmas.Bool.{eqb-true, cases_lt}
 use Rattle.std.proofs.lemmas.List.{get_or_past, get_or-take, take_all, drop_all, append-nil}
 use Rattle.std.specs.List.{refill}
 use Rattle.theory_rings.specs.Ring.{ZeroTest}
-use Rattle.theory_rings.specs.Polynomial.{IsTrimmed, trim}
+use Rattle.theory_rings.specs.Polynomial.{IsTrimmed}
 use Rattle.theory_rings.proofs.Polynomials.PolynomialRing.{last-ne-zero, IsTrimmed-injective, IsTrimmed-trim, get_or-trim}
 use Rattle.spl_poly.specs.Operations.{is_nought, without_zeros}
 

@@ -1,7 +1,7 @@
 -- Sum, product, division and powers of polynomials over a program's field, as lists of coefficients, that of power 0
 -- first. Each says what every coefficient is; a list that does not end with 0 is what its coefficients are.
 -- (Lang, Algebra, chapter IV.)
-use Rattle.std.specs.Prelude.{◌≡◌, ℕ, ◌<◌, Bool, List, length, nat_eq}
+use Rattle.std.specs.Prelude.{◌≡◌, ℕ, ◌<◌, ◌⊎◌, Bool, List, [], length, nat_eq}
 use Rattle.std.specs.List.{All}
 use Rattle.theory_rings.specs.Ops.{Ops, IsElem}
 use Rattle.theory_rings.specs.Sum.{at}
@@ -55,3 +55,11 @@ module _ {E : Type 0} (o : Ops E) where
     pub same_degree : length r ≡ length a
     pub leading : at o r (degree r) ≡ o.one
     pub scaled : (k : ℕ) → at o r k ≡ o.mul (o.inv (at o a (degree a))) (at o a k)
+
+  -- b is c · a for some c
+  abbrev pub Divides : List E → List E → Type 0
+  Divides a b = (c : List E) × IsOver c × IsProduct c a b
+
+  -- it is 0, or its leading coefficient is 1
+  abbrev pub IsZeroOrMonic : List E → Type 0
+  IsZeroOrMonic a = (a ≡ []) ⊎ (at o a (degree a) ≡ o.one)

@@ -8,3 +8,5 @@ mod elements;
 pub mod order;
 pub mod poly;
 mod rows;
+#[cfg(test)]
+mod tests;

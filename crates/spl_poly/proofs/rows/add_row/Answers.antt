@@ -1,4 +1,4 @@
-use Rattle.std.proofs.Common.{arith, sym, ◌∙◌, ap, get_or, length, ◌≤◌, ◌<◌, ⊎_elim}
+use Rattle.std.proofs.Common.{arith, sym, ◌∙◌, get_or, length, ◌≤◌, ◌<◌, ⊎_elim}
 use Rattle.std.proofs.lemmas.Bool.{cases_lt}
 use Rattle.std.proofs.lemmas.List.Elements.{All-set}
 use Rattle.theory_rings.specs.Ops.{IsElem}

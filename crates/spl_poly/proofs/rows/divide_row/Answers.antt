@@ -1,4 +1,4 @@
-use Rattle.std.proofs.Common.{ℕ, List, suc, ◌≡◌, ◌+◌, ◌-◌, arith, refl, sym, ◌∙◌, ap, ap₂, subst, get_or, set, length, ◌≤◌, ◌<◌}
+use Rattle.std.proofs.Common.{ℕ, List, ◌≡◌, ◌+◌, ◌-◌, arith, refl, sym, ◌∙◌, ap, subst, get_or, set}
 use Rattle.std.proofs.lemmas.List.{get_or_past, get_or-set_other}
 use Rattle.std.proofs.lemmas.List.Elements.{All-set, All-from_get_or}
 use Rattle.theory_rings.specs.Ops.{IsElem}

@@ -1,4 +1,4 @@
-use Rattle.std.proofs.Common.{ℕ, suc, ◌≡◌, ◌+◌, ◌-◌, arith, sym, ◌∙◌, ap, ap₂, get_or, length, ◌≤◌, ◌<◌}
+use Rattle.std.proofs.Common.{ℕ, suc, ◌≡◌, ◌+◌, arith, sym, ◌∙◌, ap, ap₂}
 use Rattle.theory_rings.specs.Sum.{sum_of}
 use Rattle.spl_field.specs.SmallField.{small_ops}
 use Rattle.spl_poly.proofs.Coefficients.{sum_of-zeros, product_term, product_term-low, convolution_of_sum}

@@ -1,6 +1,6 @@
-use Rattle.std.proofs.Common.{◌≡◌, ◌-◌, ℕ, get_or}
+use Rattle.std.proofs.Common.{◌≡◌, ◌-◌, get_or}
 use Rattle.theory_rings.specs.Ops.{IsElem}
-use Rattle.theory_rings.specs.Sum.{at, sum_of}
+use Rattle.theory_rings.specs.Sum.{sum_of}
 use Rattle.spl_field.specs.SmallField.{small_ops}
 use Rattle.spl_poly.proofs.rows.product_coefficient.Given as goal
 

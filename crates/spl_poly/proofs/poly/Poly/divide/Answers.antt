@@ -1,4 +1,4 @@
-use Rattle.std.proofs.Common.{arith, sym, ◌∙◌, ap, subst, get_or, length, List, ℕ, ◌≡◌, ◌-◌, ◌<◌, ◌≤◌}
+use Rattle.std.proofs.Common.{arith, sym, ◌∙◌, ap, subst, get_or, length, List, ℕ, ◌≡◌, ◌-◌}
 use Rattle.theory_rings.specs.Polynomial.{IsTrimmed}
 use Rattle.theory_rings.proofs.Rings.Elements.{at-elem}
 use Rattle.spl_field.specs.SmallField.{small_ops}

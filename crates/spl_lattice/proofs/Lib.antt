@@ -1,0 +1,3 @@
+pub mod Lifting
+pub mod GreatestDivisors
+pub mod Combinations
