@@ -2,6 +2,7 @@ pub mod Spellings
 pub mod TextLaws
 mod Places
 mod Faults
+mod Elements
 mod Filling
 mod Constants
 mod EntryFaults

@@ -1,7 +1,7 @@
 // Tables.
 ghost use Rattle.std.specs.Prelude.{◌≡◌, ◌≢◌, ℕ, ◌*◌, ◌%◌, ◌<◌, ◌≤◌, length, All, IfOk};
 ghost use Rattle.theory_rings.specs.Ops.{IsElem};
-ghost use Rattle.spl_field.specs.SmallField.{characteristic};
+ghost use Rattle.spl_field.specs.SmallField.{characteristic, modulus_of, small_ops};
 ghost use Rattle.spl_fraction.specs.Fractions.{field_of as base_of};
 ghost use Rattle.spl_fraction.specs.FractionsOver.{fractions_over};
 
@@ -9,6 +9,7 @@ use spl_algebra::algebra::{Algebra, Constants};
 use spl_field::field::NoMemory;
 use spl_field::small::SmallField;
 use spl_fraction::field::Fractions;
+use spl_fraction::laws::elements_are_lowest_terms;
 use std::alloc::Global;
 
 /// A table: the rational functions over a field of 2 to 256 elements, a degree n from 2 to 5 that its characteristic
@@ -53,6 +54,31 @@ impl Table {
             degree: n,
             algebra,
         })
+    }
+
+    /// The table of a field, a degree n and n⁶ constants, which are fractions over the field: that at the basis elements
+    /// i, j and k, counted from 0, stands at (i·m + j)·m + k, where m is n². The one fault is want of memory.
+    pub fn new(
+        alloc: Global,
+        field: SmallField,
+        n: usize,
+        constants: Constants<Fractions>,
+    ) -> Result<Table, NoMemory>
+        requires low { 2 ≤ n }
+        requires high { n ≤ 5 }
+        requires apart { n % characteristic field ≢ 0 }
+        requires full { length constants ≡ n * n * (n * n) * (n * n) }
+        requires over { All (IsElem (fractions_over field)) constants }
+        ensures p { IfOk result (λ t. characteristic (field_of t) ≡ characteristic field) }
+        ensures modulus { IfOk result (λ t. modulus_of (field_of t) ≡ modulus_of field) }
+        ensures ops { IfOk result (λ t. small_ops (field_of t) ≡ small_ops field) }
+        ensures degree { IfOk result (λ t. degree_of t ≡ n) }
+        ensures algebra { IfOk result (λ t. algebra_of t ≡ record { dim = n * n; constants = constants }) }
+    {
+        let fractions = Fractions::over(alloc, &field)?;
+        elements_are_lowest_terms(&field);
+        elements_are_lowest_terms(fractions.field());
+        Table::of(alloc, fractions, n, constants)
     }
 
     /// The field that the coefficients of the fractions are elements of.
