@@ -1,0 +1,7 @@
+use Rattle.spl_field.specs.SmallField.{small_ops}
+use Rattle.spl_fraction.specs.FractionsOver.{small_laws}
+use Rattle.spl_fraction.proofs.LowestTerms.{elem_iff_lowest}
+use Rattle.spl_fraction.proofs.laws.elements_are_lowest_terms.Goals as goal
+
+pub returns : goal.returns
+returns c u v = elem_iff_lowest (small_ops c.args.f.now) (small_laws c.args.f.now) u v

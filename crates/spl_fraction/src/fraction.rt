@@ -1,0 +1,47 @@
+// Fractions of polynomials.
+ghost use Rattle.std.specs.Prelude.{◌≡◌};
+
+use spl_poly::poly::Poly;
+use std::marker::Model;
+
+/// A fraction: a numerator, and a monic denominator without a common divisor of degree 1 or more. Contracts see it as the
+/// pair of their coefficients. Over which field it is one is a condition of the calls that take it.
+#[derive(Drop)]
+pub struct Fraction {
+    numerator: Poly,
+    denominator: Poly,
+}
+
+impl Model for Fraction {
+    ghost use Rattle.std.specs.Prelude.{ℕ, List};
+
+    ghost Value = { List ℕ × List ℕ };
+
+    ghost view = { λ a. (a.numerator, a.denominator) };
+}
+
+impl Fraction {
+    /// The pair.
+    pub(crate) fn of(numerator: Poly, denominator: Poly) -> Fraction
+        ensures { result ≡ (numerator, denominator) }
+    {
+        Fraction {
+            numerator,
+            denominator,
+        }
+    }
+
+    /// The numerator. It takes no memory.
+    pub fn numerator(&self) -> &Poly
+        ensures { result.now ≡ self.now.0 }
+    {
+        &self.numerator
+    }
+
+    /// The denominator, which is monic. It takes no memory.
+    pub fn denominator(&self) -> &Poly
+        ensures { result.now ≡ self.now.1 }
+    {
+        &self.denominator
+    }
+}
