@@ -14,10 +14,11 @@ use Rattle.theory_rings.proofs.Polynomials.ElementLists.{values}
 use Rattle.theory_rings.proofs.Fractions.Fractions.{value_unique, denominator-ne-zero}
 use Rattle.theory_rings.proofs.Fractions.Lowest.{Lowest, IsMonic-ne-zero, polynomial_reduction, rational_functions, is_rational_functions}
 use Rattle.spl_poly.proofs.PowerRemainders.{HasCoefficients}
+use Rattle.spl_lattice.proofs.Lifting.{eq_of_coefficients, coefficients_of_eq, has-add, has-mul}
 use Rattle.spl_fraction.specs.Fraction.{Pair, IsSame, IsFractionSum, IsFractionProduct, IsFractionNegative, IsFractionInverse, AreFractionOps}
 use Rattle.spl_fraction.specs.FractionOps.{polynomial_of, RationalFunction, rational_function, pair_of, is_fraction, fraction_ops}
 use Rattle.spl_fraction.specs.FractionField.{is_fraction-parts, is_fraction-pair_of, rational_function_eq, rational_function-pair_of, pair_of-rational_function, numerator-zero, eq_zero_of_empty}
-use Rattle.spl_fraction.proofs.ListPolynomials.{is_polynomial-gives, values_back, has_polynomial_of, has_mul, has_add, has_neg, eq_of_coefficients, coefficients_of_eq}
+use Rattle.spl_fraction.proofs.ListPolynomials.{is_polynomial-gives, values_back, has_polynomial_of, has_neg}
 
 module _ {E : Type 0} (o : Ops E) (L : FieldLaws o) where
   abbrev F : FieldOn (Elem o)
@@ -70,7 +71,7 @@ module _ {E : Type 0} (o : Ops E) (L : FieldLaws o) where
       let e = rational_function_eq o L c h in
       record {
         products = coefficients_of_eq o L (P.◌⊗◌ (num c) q) (P.◌⊗◌ p (den c)) (convolution_of o (at o c.0) g) (convolution_of o f (at o c.1))
-            (has_mul o L (num c) q (at o c.0) g (has_num c h) hg) (has_mul o L p (den c) f (at o c.1) hf (has_den c h))
+            (has-mul o L (num c) q (at o c.0) g (has_num c h) hg) (has-mul o L p (den c) f (at o c.1) hf (has_den c h))
             (ap (λ (x : RationalFunction o L). P.◌⊗◌ x.0.0 q) (sym e) ∙ v ∙ ap (λ (x : RationalFunction o L). P.◌⊗◌ p x.0.1) e);
       }
 
@@ -79,7 +80,7 @@ module _ {E : Type 0} (o : Ops E) (L : FieldLaws o) where
       let e = rational_function_eq o L c h in
       ap (λ (x : RationalFunction o L). P.◌⊗◌ x.0.0 q) e
       ∙ eq_of_coefficients o L (P.◌⊗◌ (num c) q) (P.◌⊗◌ p (den c)) (convolution_of o (at o c.0) g) (convolution_of o f (at o c.1))
-      (has_mul o L (num c) q (at o c.0) g (has_num c h) hg) (has_mul o L p (den c) f (at o c.1) hf (has_den c h)) s.products
+      (has-mul o L (num c) q (at o c.0) g (has_num c h) hg) (has-mul o L p (den c) f (at o c.1) hf (has_den c h)) s.products
       ∙ ap (λ (x : RationalFunction o L). P.◌⊗◌ p x.0.1) (sym e)
 
   -- the fraction with a value is the pair of the rational function with it
@@ -116,7 +117,7 @@ module _ {E : Type 0} (o : Ops E) (L : FieldLaws o) where
       denominators = poly_mul-ne-zero F (den a) (den b) (den-ne-zero a ha) (den-ne-zero b hb)
 
       dens_has : Has (P.◌⊗◌ (den a) (den b)) (convolution_of o (at o a.1) (at o b.1))
-      dens_has = has_mul o L (den a) (den b) (at o a.1) (at o b.1) (has_den a ha) (has_den b hb)
+      dens_has = has-mul o L (den a) (den b) (at o a.1) (at o b.1) (has_den a ha) (has_den b hb)
 
       -- the sum
       abbrev sum_num : Poly F.cring
@@ -127,9 +128,9 @@ module _ {E : Type 0} (o : Ops E) (L : FieldLaws o) where
 
       sum_has : Has sum_num sum_coefficients
       sum_has =
-          has_add o L (P.◌⊗◌ (num a) (den b)) (P.◌⊗◌ (num b) (den a)) (convolution_of o (at o a.0) (at o b.1)) (convolution_of o (at o b.0) (at o a.1))
-          (has_mul o L (num a) (den b) (at o a.0) (at o b.1) (has_num a ha) (has_den b hb))
-          (has_mul o L (num b) (den a) (at o b.0) (at o a.1) (has_num b hb) (has_den a ha))
+          has-add o L (P.◌⊗◌ (num a) (den b)) (P.◌⊗◌ (num b) (den a)) (convolution_of o (at o a.0) (at o b.1)) (convolution_of o (at o b.0) (at o a.1))
+          (has-mul o L (num a) (den b) (at o a.0) (at o b.1) (has_num a ha) (has_den b hb))
+          (has-mul o L (num b) (den a) (at o b.0) (at o a.1) (has_num b hb) (has_den a ha))
 
       sum_value : Is (K.◌⊕◌ (rat a) (rat b)) sum_num (P.◌⊗◌ (den a) (den b))
       sum_value = I.add_value (rat a) (rat b) (num a) (den a) (num b) (den b) (value_own a ha) (value_own b hb)
@@ -144,7 +145,7 @@ module _ {E : Type 0} (o : Ops E) (L : FieldLaws o) where
 
       -- the product
       nums_has : Has (P.◌⊗◌ (num a) (num b)) (convolution_of o (at o a.0) (at o b.0))
-      nums_has = has_mul o L (num a) (num b) (at o a.0) (at o b.0) (has_num a ha) (has_num b hb)
+      nums_has = has-mul o L (num a) (num b) (at o a.0) (at o b.0) (has_num a ha) (has_num b hb)
 
       product_value : Is (K.◌⊗◌ (rat a) (rat b)) (P.◌⊗◌ (num a) (num b)) (P.◌⊗◌ (den a) (den b))
       product_value = I.mul_value (rat a) (rat b) (num a) (den a) (num b) (den b) (value_own a ha) (value_own b hb)

@@ -17,6 +17,7 @@ use Rattle.theory_rings.proofs.Polynomials.ElementLists.{values, at-values, IsTr
 use Rattle.spl_poly.specs.Operations.{IsOver, IsProduct, Divides}
 use Rattle.spl_poly.proofs.Coefficients.{convolution_of_congr}
 use Rattle.spl_poly.proofs.PowerRemainders.{HasCoefficients, values-over}
+use Rattle.spl_lattice.proofs.Lifting.{eq_of_coefficients, coefficients_of_eq, has-mul}
 use Rattle.spl_fraction.specs.FractionOps.{is_trimmed, polynomial_of, is_polynomial}
 use Rattle.spl_fraction.specs.FractionField.{elements_of, values-elements_of, values-polynomial_of}
 
@@ -84,24 +85,8 @@ module _ {E : Type 0} (o : Ops E) (L : FieldLaws o) where
       ap (λ ys. at o ys k) (sym (values-elements_of o L xs (list_all-over xs h))) ∙ at-values o L (elements_of o L xs) k
       ∙ ap (λ x. x.0) (sym (get_or-trim F.zero_test (elements_of o L xs) k))
 
-  pub has_mul : (p q : Poly F.cring) (f g : ℕ → E) → Has p f → Has q g → Has (P.◌⊗◌ p q) (convolution_of o f g)
-  has_mul p q f g hf hg k =
-      convolution_of_congr o L f g (λ i. (coefficient F.cring p i).0) (λ i. (coefficient F.cring q i).0) hf hg k
-      ∙ convolution_of-elements o L (coefficient F.cring p) (coefficient F.cring q) k
-      ∙ ap (λ x. x.0) (sym (coefficient-mul F.cring F.zero_test p q k))
-
-  pub has_add : (p q : Poly F.cring) (f g : ℕ → E) → Has p f → Has q g → Has (P.◌⊕◌ p q) (λ k. o.add (f k) (g k))
-  has_add p q f g hf hg k = ap₂ o.add (hf k) (hg k) ∙ ap (λ x. x.0) (sym (coefficient-add F.cring F.zero_test p q k))
-
   pub has_neg : (p : Poly F.cring) (f : ℕ → E) → Has p f → Has (P.neg p) (λ k. o.neg (f k))
   has_neg p f hf k = ap o.neg (hf k) ∙ ap (λ x. x.0) (sym (coefficient-neg F.cring F.zero_test p k))
-
-  -- a polynomial is what its coefficients are
-  pub eq_of_coefficients : (p q : Poly F.cring) (f g : ℕ → E) → Has p f → Has q g → ((k : ℕ) → f k ≡ g k) → p ≡ q
-  eq_of_coefficients p q f g hf hg e = Poly-path F.cring p q (λ k. Elem-path o (coefficient F.cring p k) (coefficient F.cring q k) (sym (hf k) ∙ e k ∙ hg k))
-
-  pub coefficients_of_eq : (p q : Poly F.cring) (f g : ℕ → E) → Has p f → Has q g → p ≡ q → (k : ℕ) → f k ≡ g k
-  coefficients_of_eq p q f g hf hg e k = hf k ∙ ap (λ r. (coefficient F.cring r k).0) e ∙ sym (hg k)
 
   -- ---- degrees
 
@@ -121,14 +106,14 @@ module _ {E : Type 0} (o : Ops E) (L : FieldLaws o) where
   divides_polynomial_of g u hg hu d =
       let c : Poly F.cring = polynomial_of o L d.0 in (
         c,
-        eq_of_coefficients (polynomial_of o L u) (P.◌⊗◌ c (polynomial_of o L g)) (at o u) (convolution_of o (at o d.0) (at o g))
-            (has_polynomial_of u hu.over) (has_mul c (polynomial_of o L g) (at o d.0) (at o g) (has_polynomial_of d.0 d.1) (has_polynomial_of g hg.over)) d.2,
+        eq_of_coefficients o L (polynomial_of o L u) (P.◌⊗◌ c (polynomial_of o L g)) (at o u) (convolution_of o (at o d.0) (at o g))
+            (has_polynomial_of u hu.over) (has-mul o L c (polynomial_of o L g) (at o d.0) (at o g) (has_polynomial_of d.0 d.1) (has_polynomial_of g hg.over)) d.2,
       )
 
   pub divides_values : (g p : Poly F.cring) → DividesIn P g p → Divides o (values o L g.0) (values o L p.0)
   divides_values g p d = (
     values o L d.0.0,
     values-over o L d.0.0,
-    coefficients_of_eq p (P.◌⊗◌ d.0 g) (at o (values o L p.0)) (convolution_of o (at o (values o L d.0.0)) (at o (values o L g.0)))
-        (at-values o L p.0) (has_mul d.0 g (at o (values o L d.0.0)) (at o (values o L g.0)) (at-values o L d.0.0) (at-values o L g.0)) d.1,
+    coefficients_of_eq o L p (P.◌⊗◌ d.0 g) (at o (values o L p.0)) (convolution_of o (at o (values o L d.0.0)) (at o (values o L g.0)))
+        (at-values o L p.0) (has-mul o L d.0 g (at o (values o L d.0.0)) (at o (values o L g.0)) (at-values o L d.0.0) (at-values o L g.0)) d.1,
   )

@@ -9,10 +9,11 @@ use Rattle.theory_rings.specs.Polynomial.{IsTrimmed, Poly, convolution_of, degre
 use Rattle.theory_rings.proofs.Polynomials.Bezout.{field_polynomials}
 use Rattle.spl_poly.specs.Operations.{IsOver}
 use Rattle.spl_poly.proofs.PowerRemainders.{HasCoefficients}
+use Rattle.spl_lattice.proofs.Lifting.{eq_of_coefficients, coefficients_of_eq, has-add, has-mul}
 use Rattle.spl_fraction.specs.Fraction.{Pair, IsSame, IsLowestTerms, IsFractionSum, IsFractionProduct, IsFractionNegative}
 use Rattle.spl_fraction.specs.FractionOps.{polynomial_of}
 use Rattle.spl_fraction.specs.FractionField.{polynomial_of-one}
-use Rattle.spl_fraction.proofs.ListPolynomials.{IsPolynomial, has_polynomial_of, has_mul, has_add, has_neg, eq_of_coefficients, coefficients_of_eq}
+use Rattle.spl_fraction.proofs.ListPolynomials.{IsPolynomial, has_polynomial_of, has_neg}
 
 module _ {E : Type 0} (o : Ops E) (L : FieldLaws o) where
   abbrev F : FieldOn (Elem o)
@@ -49,14 +50,14 @@ module _ {E : Type 0} (o : Ops E) (L : FieldLaws o) where
       → P.◌⊗◌ (num c) q ≡ P.◌⊗◌ p (den c) → IsSame o (at o c.0) (at o c.1) f g
   same_of_eq c h p q f g hf hg e = record {
     products = coefficients_of_eq o L (P.◌⊗◌ (num c) q) (P.◌⊗◌ p (den c)) (convolution_of o (at o c.0) g) (convolution_of o f (at o c.1))
-        (has_mul o L (num c) q (at o c.0) g (has_num c h) hg) (has_mul o L p (den c) f (at o c.1) hf (has_den c h)) e;
+        (has-mul o L (num c) q (at o c.0) g (has_num c h) hg) (has-mul o L p (den c) f (at o c.1) hf (has_den c h)) e;
   }
 
   eq_of_same : (c : Pair E) → IsPairOver c → (p q : Poly F.cring) (f g : ℕ → E) → Has p f → Has q g
       → IsSame o (at o c.0) (at o c.1) f g → P.◌⊗◌ (num c) q ≡ P.◌⊗◌ p (den c)
   eq_of_same c h p q f g hf hg s =
       eq_of_coefficients o L (P.◌⊗◌ (num c) q) (P.◌⊗◌ p (den c)) (convolution_of o (at o c.0) g) (convolution_of o f (at o c.1))
-      (has_mul o L (num c) q (at o c.0) g (has_num c h) hg) (has_mul o L p (den c) f (at o c.1) hf (has_den c h)) s.products
+      (has-mul o L (num c) q (at o c.0) g (has_num c h) hg) (has-mul o L p (den c) f (at o c.1) hf (has_den c h)) s.products
 
   module _ (a b c : Pair E) (ha : IsPairOver a) (hb : IsPairOver b) (hc : IsPairOver c) where
     abbrev pub dens : Poly F.cring
@@ -69,16 +70,16 @@ module _ {E : Type 0} (o : Ops E) (L : FieldLaws o) where
     sum_coefficients k = o.add (convolution_of o (at o a.0) (at o b.1) k) (convolution_of o (at o b.0) (at o a.1) k)
 
     has_dens : Has dens (convolution_of o (at o a.1) (at o b.1))
-    has_dens = has_mul o L (den a) (den b) (at o a.1) (at o b.1) (has_den a ha) (has_den b hb)
+    has_dens = has-mul o L (den a) (den b) (at o a.1) (at o b.1) (has_den a ha) (has_den b hb)
 
     has_sum : Has sum_num sum_coefficients
     has_sum =
-        has_add o L (P.◌⊗◌ (num a) (den b)) (P.◌⊗◌ (num b) (den a)) (convolution_of o (at o a.0) (at o b.1)) (convolution_of o (at o b.0) (at o a.1))
-        (has_mul o L (num a) (den b) (at o a.0) (at o b.1) (has_num a ha) (has_den b hb))
-        (has_mul o L (num b) (den a) (at o b.0) (at o a.1) (has_num b hb) (has_den a ha))
+        has-add o L (P.◌⊗◌ (num a) (den b)) (P.◌⊗◌ (num b) (den a)) (convolution_of o (at o a.0) (at o b.1)) (convolution_of o (at o b.0) (at o a.1))
+        (has-mul o L (num a) (den b) (at o a.0) (at o b.1) (has_num a ha) (has_den b hb))
+        (has-mul o L (num b) (den a) (at o b.0) (at o a.1) (has_num b hb) (has_den a ha))
 
     has_product : Has (P.◌⊗◌ (num a) (num b)) (convolution_of o (at o a.0) (at o b.0))
-    has_product = has_mul o L (num a) (num b) (at o a.0) (at o b.0) (has_num a ha) (has_num b hb)
+    has_product = has-mul o L (num a) (num b) (at o a.0) (at o b.0) (has_num a ha) (has_num b hb)
 
     pub sum_of_eq : P.◌⊗◌ (num c) dens ≡ P.◌⊗◌ sum_num (den c) → IsFractionSum o a b c
     sum_of_eq e = same_of_eq c hc sum_num dens sum_coefficients (convolution_of o (at o a.1) (at o b.1)) has_sum has_dens e

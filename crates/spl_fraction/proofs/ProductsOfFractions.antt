@@ -13,7 +13,7 @@ use Rattle.theory_rings.proofs.Polynomials.Degrees.{ne_zero_of_length, length-de
 use Rattle.theory_rings.proofs.Polynomials.Constants.{coefficient-constant_mul}
 use Rattle.theory_rings.proofs.Polynomials.Bezout.{field_polynomials, degree_zero_inverse}
 use Rattle.spl_poly.specs.Operations.{IsOver, IsProduct}
-use Rattle.spl_fraction.specs.Fraction.{Pair, IsLowestTerms, IsFraction, IsFractionProduct, IsFractionNegative}
+use Rattle.spl_fraction.specs.Fraction.{Pair, IsCoprime as IsCoprimeList, IsLowestTerms, IsFraction, IsFractionProduct, IsFractionNegative}
 use Rattle.spl_fraction.specs.FractionOps.{polynomial_of}
 use Rattle.spl_fraction.specs.FractionField.{polynomial_of-nil}
 use Rattle.spl_fraction.proofs.ListPolynomials.{IsPolynomial, length-polynomial_of}
@@ -22,6 +22,16 @@ use Rattle.spl_fraction.proofs.Coprime.{coprime-unit_mul}
 use Rattle.spl_fraction.proofs.Reducing.{poly-mul, eq_of_fraction, constant_poly, poly-constant_mul, constant_unit}
 use Rattle.spl_fraction.proofs.PairEquations.{pair_over, num, den, product_of_eq, eq_of_product, negative_of_eq, den_one}
 use Rattle.spl_fraction.proofs.SumsOfFractions.{numerator_of, denominator_of}
+
+-- w is a · b in lowest terms
+pub record IsLowestProduct {E : Type 0} (o : Ops E) (a b w : Pair E) : Type 0 where
+  pub lowest : IsLowestTerms o w.0 w.1
+  pub product : IsFractionProduct o a b w
+
+-- w is −a in lowest terms
+pub record IsLowestNegative {E : Type 0} (o : Ops E) (a w : Pair E) : Type 0 where
+  pub lowest : IsLowestTerms o w.0 w.1
+  pub negative : IsFractionNegative o a w
 
 module _ {E : Type 0} (o : Ops E) (L : FieldLaws o) where
   abbrev F : FieldOn (Elem o)
@@ -149,3 +159,20 @@ module _ {E : Type 0} (o : Ops E) (L : FieldLaws o) where
     negative_value =
         negative_of_eq o L a (u, a.1) (pair_over o L a ha) (pair_over o L (u, a.1) negative_lowest)
         (ap (λ x. P.◌⊗◌ x (d a)) (same_negative ∙ minus_one-mul (n a)))
+
+  -- what the code makes
+  pub lowest_product_with_constant : (a b w : Pair E) (u v : List E) → Lowest a → Lowest b → length a.0 ≡ 1 → length a.1 ≡ 1 → Is u → IsProduct o a.0 b.0 u
+      → v ≡ b.1 → w ≡ (u, v) → IsLowestProduct o a b w
+  lowest_product_with_constant a b w u v ha hb hk hl hu eu ev e =
+      subst (IsLowestProduct o a b) (sym (e ∙ ap (λ y. (u, y)) ev))
+      record { lowest = constant_lowest a b ha hb hk hl u hu eu; product = constant_product a b ha hb hk hl u hu eu }
+
+  pub lowest_negative : (a w : Pair E) (c : E) (u v : List E) → Lowest a → c ≡ o.neg o.one → Is u → IsProduct o (c ∷ []) a.0 u → v ≡ a.1 → w ≡ (u, v)
+      → IsLowestNegative o a w
+  lowest_negative a w c u v ha ec hu eu ev e =
+      let eu' : IsProduct o (o.neg o.one ∷ []) a.0 u = subst (λ x. IsProduct o (x ∷ []) a.0 u) ec eu in
+      subst (IsLowestNegative o a) (sym (e ∙ ap (λ y. (u, y)) ev))
+      record { lowest = negative_lowest a ha u hu eu'; negative = negative_value a ha u hu eu' }
+
+  pub coprime_swap : (a : Pair E) → Lowest a → IsCoprimeList o a.1 a.0
+  coprime_swap a h g og tg du dv = h.coprime g og tg dv du

@@ -25,11 +25,12 @@ use Rattle.spl_poly.specs.Operations.{IsOver, IsSum, IsProduct, IsDivision, Divi
 use Rattle.spl_poly.proofs.Coefficients.{convolution_of-elem}
 use Rattle.spl_lattice.specs.Ideal.{IsGenerator}
 use Rattle.spl_poly.proofs.PowerRemainders.{HasCoefficients}
+use Rattle.spl_lattice.proofs.Lifting.{eq_of_coefficients, coefficients_of_eq, has-add, has-mul}
 use Rattle.spl_fraction.specs.Fraction.{Pair, IsSame, IsCoprime, IsLowestTerms, IsFraction}
 use Rattle.spl_fraction.specs.FractionOps.{polynomial_of, is_polynomial, is_fraction}
 use Rattle.spl_fraction.specs.FractionField.{polynomial_of-nil, is_fraction-one}
 use Rattle.spl_fraction.specs.CommonDivisor.{IsCommonDivisor}
-use Rattle.spl_fraction.proofs.ListPolynomials.{IsPolynomial, is_polynomial-from, values_back, IsPolynomial-values, has_polynomial_of, has_mul, has_add, eq_of_coefficients, coefficients_of_eq, length-polynomial_of, degree-polynomial_of, divides_polynomial_of, divides_values}
+use Rattle.spl_fraction.proofs.ListPolynomials.{IsPolynomial, is_polynomial-from, values_back, IsPolynomial-values, has_polynomial_of, length-polynomial_of, degree-polynomial_of, divides_polynomial_of, divides_values}
 use Rattle.spl_fraction.proofs.LowestTerms.{lead_value, lowest_of_fraction, coprime_lists, coprime_polynomials, lowest_of_polynomials}
 use Rattle.spl_fraction.proofs.Coprime.{coprime-mul_unit}
 
@@ -64,27 +65,27 @@ module _ {E : Type 0} (o : Ops E) (L : FieldLaws o) where
   pub poly-mul : (a b c : List E) → IsOver o a → IsOver o b → IsOver o c → IsProduct o a b c → poly c ≡ P.◌⊗◌ (poly a) (poly b)
   poly-mul a b c ha hb hc e =
       eq_of_coefficients o L (poly c) (P.◌⊗◌ (poly a) (poly b)) (at o c) (convolution_of o (at o a) (at o b))
-      (has_polynomial_of o L c hc) (has_mul o L (poly a) (poly b) (at o a) (at o b) (has_polynomial_of o L a ha) (has_polynomial_of o L b hb)) e
+      (has_polynomial_of o L c hc) (has-mul o L (poly a) (poly b) (at o a) (at o b) (has_polynomial_of o L a ha) (has_polynomial_of o L b hb)) e
 
   pub poly-add : (a b c : List E) → IsOver o a → IsOver o b → IsOver o c → IsSum o a b c → poly c ≡ P.◌⊕◌ (poly a) (poly b)
   poly-add a b c ha hb hc e =
       eq_of_coefficients o L (poly c) (P.◌⊕◌ (poly a) (poly b)) (at o c) (λ k. o.add (at o a k) (at o b k))
-      (has_polynomial_of o L c hc) (has_add o L (poly a) (poly b) (at o a) (at o b) (has_polynomial_of o L a ha) (has_polynomial_of o L b hb)) e
+      (has_polynomial_of o L c hc) (has-add o L (poly a) (poly b) (at o a) (at o b) (has_polynomial_of o L a ha) (has_polynomial_of o L b hb)) e
 
   pub fraction_of_eq : (w : Pair E) (u v : List E) → IsOver o w.0 → IsOver o w.1 → IsOver o u → IsOver o v
       → P.◌⊗◌ (poly w.0) (poly v) ≡ P.◌⊗◌ (poly u) (poly w.1) → IsFraction o w u v
   fraction_of_eq w u v h0 h1 hu hv e = record {
     products = coefficients_of_eq o L (P.◌⊗◌ (poly w.0) (poly v)) (P.◌⊗◌ (poly u) (poly w.1)) (convolution_of o (at o w.0) (at o v)) (convolution_of o (at o u) (at o w.1))
-        (has_mul o L (poly w.0) (poly v) (at o w.0) (at o v) (has_polynomial_of o L w.0 h0) (has_polynomial_of o L v hv))
-        (has_mul o L (poly u) (poly w.1) (at o u) (at o w.1) (has_polynomial_of o L u hu) (has_polynomial_of o L w.1 h1)) e;
+        (has-mul o L (poly w.0) (poly v) (at o w.0) (at o v) (has_polynomial_of o L w.0 h0) (has_polynomial_of o L v hv))
+        (has-mul o L (poly u) (poly w.1) (at o u) (at o w.1) (has_polynomial_of o L u hu) (has_polynomial_of o L w.1 h1)) e;
   }
 
   pub eq_of_fraction : (w : Pair E) (u v : List E) → IsOver o w.0 → IsOver o w.1 → IsOver o u → IsOver o v
       → IsFraction o w u v → P.◌⊗◌ (poly w.0) (poly v) ≡ P.◌⊗◌ (poly u) (poly w.1)
   eq_of_fraction w u v h0 h1 hu hv e =
       eq_of_coefficients o L (P.◌⊗◌ (poly w.0) (poly v)) (P.◌⊗◌ (poly u) (poly w.1)) (convolution_of o (at o w.0) (at o v)) (convolution_of o (at o u) (at o w.1))
-      (has_mul o L (poly w.0) (poly v) (at o w.0) (at o v) (has_polynomial_of o L w.0 h0) (has_polynomial_of o L v hv))
-      (has_mul o L (poly u) (poly w.1) (at o u) (at o w.1) (has_polynomial_of o L u hu) (has_polynomial_of o L w.1 h1)) e.products
+      (has-mul o L (poly w.0) (poly v) (at o w.0) (at o v) (has_polynomial_of o L w.0 h0) (has_polynomial_of o L v hv))
+      (has-mul o L (poly u) (poly w.1) (at o u) (at o w.1) (has_polynomial_of o L u hu) (has_polynomial_of o L w.1 h1)) e.products
 
   pub poly-ne-zero : (v : List E) → Is v → v ≢ [] → poly v ≢ P.zero
   poly-ne-zero v h n e = n (sym (values_back o L v h) ∙ ap (λ (x : Poly F.cring). values o L x.0) e ∙ ap (values o L) (zero-list F.cring F.zero_test))
@@ -142,7 +143,7 @@ module _ {E : Type 0} (o : Ops E) (L : FieldLaws o) where
     pub poly-constant_mul : (x y : List E) → IsOver o x → IsOver o y → IsProduct o (c ∷ []) x y → poly y ≡ P.◌⊗◌ constant_poly (poly x)
     poly-constant_mul x y hx hy e =
         eq_of_coefficients o L (poly y) (P.◌⊗◌ constant_poly (poly x)) (at o y) (convolution_of o (at o (c ∷ [])) (at o x))
-        (has_polynomial_of o L y hy) (has_mul o L constant_poly (poly x) (at o (c ∷ [])) (at o x) has_constant (has_polynomial_of o L x hx)) e
+        (has_polynomial_of o L y hy) (has-mul o L constant_poly (poly x) (at o (c ∷ [])) (at o x) has_constant (has_polynomial_of o L x hx)) e
 
     -- it has an inverse
     pub constant_unit : (b : Elem o) → o.mul c b.0 ≡ o.one → P.◌⊗◌ constant_poly (constant F.cring F.zero_test b) ≡ P.one
@@ -253,9 +254,9 @@ module _ {E : Type 0} (o : Ops E) (L : FieldLaws o) where
     t = poly d.t;
     combined = eq_of_coefficients o L (poly g) (P.◌⊕◌ (P.◌⊗◌ (poly d.s) (poly a)) (P.◌⊗◌ (poly d.t) (poly b))) (at o g)
         (λ k. o.add (convolution_of o (at o d.s) (at o a) k) (convolution_of o (at o d.t) (at o b) k)) (has_polynomial_of o L g hg.over)
-        (has_add o L (P.◌⊗◌ (poly d.s) (poly a)) (P.◌⊗◌ (poly d.t) (poly b)) (convolution_of o (at o d.s) (at o a)) (convolution_of o (at o d.t) (at o b))
-        (has_mul o L (poly d.s) (poly a) (at o d.s) (at o a) (has_polynomial_of o L d.s d.s_over) (has_polynomial_of o L a ha.over))
-        (has_mul o L (poly d.t) (poly b) (at o d.t) (at o b) (has_polynomial_of o L d.t d.t_over) (has_polynomial_of o L b hb.over)))
+        (has-add o L (P.◌⊗◌ (poly d.s) (poly a)) (P.◌⊗◌ (poly d.t) (poly b)) (convolution_of o (at o d.s) (at o a)) (convolution_of o (at o d.t) (at o b))
+        (has-mul o L (poly d.s) (poly a) (at o d.s) (at o a) (has_polynomial_of o L d.s d.s_over) (has_polynomial_of o L a ha.over))
+        (has-mul o L (poly d.t) (poly b) (at o d.t) (at o b) (has_polynomial_of o L d.t d.t_over) (has_polynomial_of o L b hb.over)))
         d.combination;
   }
 
@@ -290,8 +291,8 @@ module _ {E : Type 0} (o : Ops E) (L : FieldLaws o) where
       division = record {
         whole = eq_of_coefficients o L (poly a) (P.◌⊕◌ (P.◌⊗◌ (poly q) (poly g)) (poly r)) (at o a)
             (λ k. o.add (convolution_of o (at o q) (at o g) k) (at o r k)) (has_polynomial_of o L a ha.over)
-            (has_add o L (P.◌⊗◌ (poly q) (poly g)) (poly r) (convolution_of o (at o q) (at o g)) (at o r)
-            (has_mul o L (poly q) (poly g) (at o q) (at o g) (has_polynomial_of o L q hq.over) (has_polynomial_of o L g hg.over))
+            (has-add o L (P.◌⊗◌ (poly q) (poly g)) (poly r) (convolution_of o (at o q) (at o g)) (at o r)
+            (has-mul o L (poly q) (poly g) (at o q) (at o g) (has_polynomial_of o L q hq.over) (has_polynomial_of o L g hg.over))
             (has_polynomial_of o L r hr.over)) e.whole;
         smaller = omega (arith, e.smaller, length-polynomial_of o L r hr, length-polynomial_of o L g hg);
       }

@@ -18,6 +18,18 @@ use Rattle.spl_fraction.proofs.Coprime.{coprime-add_mul}
 use Rattle.spl_fraction.proofs.Reducing.{poly-mul, poly-add, poly-ne-zero, eq_of_fraction, lowest_over_one}
 use Rattle.spl_fraction.proofs.PairEquations.{pair_over, num, den, sum_num, dens, sum_of_eq, eq_of_sum, den_one, one_of_constant}
 
+-- w is a + b in lowest terms
+pub record IsLowestSum {E : Type 0} (o : Ops E) (a b w : Pair E) : Type 0 where
+  pub lowest : IsLowestTerms o w.0 w.1
+  pub sum : IsFractionSum o a b w
+
+-- products and sums of lists that are others
+pub product_same : {E : Type 0} (o : Ops E) (x y x' y' z : List E) → x ≡ x' → y ≡ y' → IsProduct o x y z → IsProduct o x' y' z
+product_same o x y x' y' z ex ey p = subst (λ v. IsProduct o v y' z) ex (subst (λ v. IsProduct o x v z) ey p)
+
+pub sum_same : {E : Type 0} (o : Ops E) (x y x' y' z : List E) → x ≡ x' → y ≡ y' → IsSum o x y z → IsSum o x' y' z
+sum_same o x y x' y' z ex ey p = subst (λ v. IsSum o v y' z) ex (subst (λ v. IsSum o x v z) ey p)
+
 module _ {E : Type 0} (o : Ops E) (L : FieldLaws o) where
   abbrev F : FieldOn (Elem o)
   F = elements o L
@@ -136,3 +148,19 @@ module _ {E : Type 0} (o : Ops E) (L : FieldLaws o) where
   sum_comm a b c ha hb hc s = sum_from b a hb ha c hc
       (ap (P.◌⊗◌ (n c)) (P.mul_comm (d b) (d a)) ∙ eq_of_sum o L a b c (pair_over o L a ha) (pair_over o L b hb) (pair_over o L c hc) s
       ∙ ap (λ x. P.◌⊗◌ x (d c)) (P.add_comm (P.◌⊗◌ (n a) (d b)) (P.◌⊗◌ (n b) (d a))))
+
+  lowest_sum : (a b w w' : Pair E) → w ≡ w' → IsLowestSum o a b w' → IsLowestSum o a b w
+  lowest_sum a b w w' e s = subst (IsLowestSum o a b) (sym e) s
+
+  -- what the code makes, by cases
+  pub lowest_sum_of_polynomials : (a b w : Pair E) (u v : List E) → Lowest a → Lowest b → length a.1 ≡ 1 → length b.1 ≡ 1 → Is u → IsSum o a.0 b.0 u
+      → v ≡ o.one ∷ [] → w ≡ (u, v) → IsLowestSum o a b w
+  lowest_sum_of_polynomials a b w u v ha hb hl hm hu eu ev e =
+      lowest_sum a b w (u, o.one ∷ []) (e ∙ ap (λ y. (u, y)) ev)
+      record { lowest = polynomials_lowest a b ha hb hl hm u hu eu; sum = polynomials_sum a b ha hb hl hm u hu eu }
+
+  pub lowest_sum_with_polynomial : (a b w : Pair E) (m u v : List E) → Lowest a → Lowest b → length b.1 ≡ 1 → IsOver o m → IsProduct o b.0 a.1 m
+      → Is u → IsSum o a.0 m u → v ≡ a.1 → w ≡ (u, v) → IsLowestSum o a b w
+  lowest_sum_with_polynomial a b w m u v ha hb hm om em hu eu ev e =
+      lowest_sum a b w (u, a.1) (e ∙ ap (λ y. (u, y)) ev)
+      record { lowest = polynomial_lowest a b ha hb hm m u om em hu eu; sum = polynomial_sum a b ha hb hm m u om em hu eu }

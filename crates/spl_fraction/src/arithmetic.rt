@@ -1,21 +1,44 @@
-// The sum and the product of fractions, by cases.
-ghost use Rattle.std.specs.Prelude.{◌≡◌, ◌≢◌, IfOk};
+// The sum, the product, the negative and the inverse of fractions, by cases.
+ghost use Rattle.std.specs.Prelude.{◌≡◌, ◌≢◌, ◌↔◌, [], length, IfOk, IsTrue};
+ghost use Rattle.theory_rings.specs.Ops.{IsElem};
+ghost use Rattle.spl_field.specs.SmallField.{small_ops};
+ghost use Rattle.spl_fraction.specs.Fraction.{IsLowestTerms, IsFractionSum, IsFractionProduct, IsFractionNegative, IsFractionInverse};
 
 use crate::fraction::Fraction;
 use crate::reduction::{is_constant, one_poly, reduced, scaled, with_monic_denominator};
 use spl_field::field::NoMemory;
 use spl_field::small::SmallField;
 use spl_poly::order::order_of;
-use spl_poly::poly::Poly;
 use std::alloc::Global;
 use std::cmp::Ordering;
 
 /// An equal fraction.
-pub(crate) fn copy_of(alloc: Global, f: &SmallField, a: &Fraction) -> Result<Fraction, NoMemory> {
-    Ok(Fraction::of(
-        a.numerator().copy(alloc, f)?,
-        a.denominator().copy(alloc, f)?,
-    ))
+pub(crate) fn copy_of(alloc: Global, f: &SmallField, a: &Fraction) -> Result<Fraction, NoMemory>
+    requires { IsLowestTerms (small_ops f.now) a.now.0 a.now.1 }
+    ensures { IfOk result (λ r. r ≡ a.now) }
+{
+    let numerator = a.numerator().copy(alloc, f)?;
+    let denominator = a.denominator().copy(alloc, f)?;
+    Ok(Fraction::of(numerator, denominator))
+}
+
+/// The sum of polynomials.
+fn sum_of_polynomials(
+    alloc: Global,
+    f: &SmallField,
+    a: &Fraction,
+    b: &Fraction,
+) -> Result<Fraction, NoMemory>
+    requires left { IsLowestTerms (small_ops f.now) a.now.0 a.now.1 }
+    requires right { IsLowestTerms (small_ops f.now) b.now.0 b.now.1 }
+    requires left_polynomial { length a.now.1 ≡ 1 }
+    requires right_polynomial { length b.now.1 ≡ 1 }
+    ensures lowest { IfOk result (λ w. IsLowestTerms (small_ops f.now) w.0 w.1) }
+    ensures sum { IfOk result (IsFractionSum (small_ops f.now) a.now b.now) }
+{
+    let numerator = a.numerator().add(alloc, f, b.numerator())?;
+    let one = one_poly(alloc)?;
+    Ok(Fraction::of(numerator, one))
 }
 
 /// The sum of a fraction and a polynomial.
@@ -23,29 +46,40 @@ fn sum_with_polynomial(
     alloc: Global,
     f: &SmallField,
     a: &Fraction,
-    p: &Poly,
-) -> Result<Fraction, NoMemory> {
+    b: &Fraction,
+) -> Result<Fraction, NoMemory>
+    requires left { IsLowestTerms (small_ops f.now) a.now.0 a.now.1 }
+    requires right { IsLowestTerms (small_ops f.now) b.now.0 b.now.1 }
+    requires polynomial { length b.now.1 ≡ 1 }
+    ensures lowest { IfOk result (λ w. IsLowestTerms (small_ops f.now) w.0 w.1) }
+    ensures sum { IfOk result (IsFractionSum (small_ops f.now) a.now b.now) }
+{
     if is_constant(a.denominator()) {
-        return Ok(Fraction::of(a.numerator().add(alloc, f, p)?, one_poly(alloc)?));
+        return Ok(sum_of_polynomials(alloc, f, a, b)?);
     }
-    let multiple = p.mul(alloc, f, a.denominator())?;
-    Ok(Fraction::of(
-        a.numerator().add(alloc, f, &multiple)?,
-        a.denominator().copy(alloc, f)?,
-    ))
+    let multiple = b.numerator().mul(alloc, f, a.denominator())?;
+    let numerator = a.numerator().add(alloc, f, &multiple)?;
+    let denominator = a.denominator().copy(alloc, f)?;
+    Ok(Fraction::of(numerator, denominator))
 }
 
-/// The sum of fractions, as a numerator over the product of the denominators.
+/// The sum of fractions, from a numerator over the product of the denominators.
 fn sum_of_fractions(
     alloc: Global,
     f: &SmallField,
     a: &Fraction,
     b: &Fraction,
-) -> Result<Fraction, NoMemory> {
+) -> Result<Fraction, NoMemory>
+    requires left { IsLowestTerms (small_ops f.now) a.now.0 a.now.1 }
+    requires right { IsLowestTerms (small_ops f.now) b.now.0 b.now.1 }
+    ensures lowest { IfOk result (λ w. IsLowestTerms (small_ops f.now) w.0 w.1) }
+    ensures sum { IfOk result (IsFractionSum (small_ops f.now) a.now b.now) }
+{
     let left = a.numerator().mul(alloc, f, b.denominator())?;
     let right = b.numerator().mul(alloc, f, a.denominator())?;
+    let numerator = left.add(alloc, f, &right)?;
     let denominator = a.denominator().mul(alloc, f, b.denominator())?;
-    Ok(reduced(alloc, f, left.add(alloc, f, &right)?, denominator)?)
+    Ok(reduced(alloc, f, numerator, denominator)?)
 }
 
 /// The sum. Where one is 0, or has the denominator 1, it takes no common divisor.
@@ -54,7 +88,12 @@ pub(crate) fn sum_of(
     f: &SmallField,
     a: &Fraction,
     b: &Fraction,
-) -> Result<Fraction, NoMemory> {
+) -> Result<Fraction, NoMemory>
+    requires left { IsLowestTerms (small_ops f.now) a.now.0 a.now.1 }
+    requires right { IsLowestTerms (small_ops f.now) b.now.0 b.now.1 }
+    ensures lowest { IfOk result (λ w. IsLowestTerms (small_ops f.now) w.0 w.1) }
+    ensures sum { IfOk result (IsFractionSum (small_ops f.now) a.now b.now) }
+{
     if a.numerator().is_zero() {
         return Ok(copy_of(alloc, f, b)?);
     }
@@ -62,30 +101,56 @@ pub(crate) fn sum_of(
         return Ok(copy_of(alloc, f, a)?);
     }
     if is_constant(b.denominator()) {
-        return Ok(sum_with_polynomial(alloc, f, a, b.numerator())?);
+        return Ok(sum_with_polynomial(alloc, f, a, b)?);
     }
     if is_constant(a.denominator()) {
-        return Ok(sum_with_polynomial(alloc, f, b, a.numerator())?);
+        return Ok(sum_with_polynomial(alloc, f, b, a)?);
     }
     Ok(sum_of_fractions(alloc, f, a, b)?)
 }
 
 /// Whether the fraction is a constant other than 0.
-fn is_unit(a: &Fraction) -> bool {
+fn is_unit(a: &Fraction) -> bool
+    ensures numerator { IsTrue result → length a.now.0 ≡ 1 }
+    ensures denominator { IsTrue result → length a.now.1 ≡ 1 }
+{
     is_constant(a.numerator()) && is_constant(a.denominator())
 }
 
-/// The product of a constant and a fraction.
+/// The product of a constant other than 0 and a fraction.
 fn product_with_constant(
     alloc: Global,
     f: &SmallField,
-    c: &Poly,
     a: &Fraction,
-) -> Result<Fraction, NoMemory> {
-    Ok(Fraction::of(
-        c.mul(alloc, f, a.numerator())?,
-        a.denominator().copy(alloc, f)?,
-    ))
+    b: &Fraction,
+) -> Result<Fraction, NoMemory>
+    requires left { IsLowestTerms (small_ops f.now) a.now.0 a.now.1 }
+    requires right { IsLowestTerms (small_ops f.now) b.now.0 b.now.1 }
+    requires numerator { length a.now.0 ≡ 1 }
+    requires denominator { length a.now.1 ≡ 1 }
+    ensures lowest { IfOk result (λ w. IsLowestTerms (small_ops f.now) w.0 w.1) }
+    ensures product { IfOk result (IsFractionProduct (small_ops f.now) a.now b.now) }
+{
+    let numerator = a.numerator().mul(alloc, f, b.numerator())?;
+    let denominator = b.denominator().copy(alloc, f)?;
+    Ok(Fraction::of(numerator, denominator))
+}
+
+/// The product of fractions, from the product of the numerators over that of the denominators.
+fn product_of_fractions(
+    alloc: Global,
+    f: &SmallField,
+    a: &Fraction,
+    b: &Fraction,
+) -> Result<Fraction, NoMemory>
+    requires left { IsLowestTerms (small_ops f.now) a.now.0 a.now.1 }
+    requires right { IsLowestTerms (small_ops f.now) b.now.0 b.now.1 }
+    ensures lowest { IfOk result (λ w. IsLowestTerms (small_ops f.now) w.0 w.1) }
+    ensures product { IfOk result (IsFractionProduct (small_ops f.now) a.now b.now) }
+{
+    let numerator = a.numerator().mul(alloc, f, b.numerator())?;
+    let denominator = a.denominator().mul(alloc, f, b.denominator())?;
+    Ok(reduced(alloc, f, numerator, denominator)?)
 }
 
 /// The product. Where one is a constant, or both have the denominator 1, it takes no common divisor.
@@ -94,7 +159,12 @@ pub(crate) fn product_of(
     f: &SmallField,
     a: &Fraction,
     b: &Fraction,
-) -> Result<Fraction, NoMemory> {
+) -> Result<Fraction, NoMemory>
+    requires left { IsLowestTerms (small_ops f.now) a.now.0 a.now.1 }
+    requires right { IsLowestTerms (small_ops f.now) b.now.0 b.now.1 }
+    ensures lowest { IfOk result (λ w. IsLowestTerms (small_ops f.now) w.0 w.1) }
+    ensures product { IfOk result (IsFractionProduct (small_ops f.now) a.now b.now) }
+{
     if a.numerator().is_zero() {
         return Ok(copy_of(alloc, f, a)?);
     }
@@ -102,14 +172,21 @@ pub(crate) fn product_of(
         return Ok(copy_of(alloc, f, b)?);
     }
     if is_unit(a) {
-        return Ok(product_with_constant(alloc, f, a.numerator(), b)?);
+        return Ok(product_with_constant(alloc, f, a, b)?);
     }
     if is_unit(b) {
-        return Ok(product_with_constant(alloc, f, b.numerator(), a)?);
+        return Ok(product_with_constant(alloc, f, b, a)?);
     }
-    let numerator = a.numerator().mul(alloc, f, b.numerator())?;
-    let denominator = a.denominator().mul(alloc, f, b.denominator())?;
-    Ok(reduced(alloc, f, numerator, denominator)?)
+    Ok(product_of_fractions(alloc, f, a, b)?)
+}
+
+/// −1.
+fn minus_one(f: &SmallField) -> u8
+    ensures value { result ≡ (small_ops f.now).neg (small_ops f.now).one }
+    ensures elem { IsElem (small_ops f.now) result }
+    ensures nonzero { result ≢ 0 }
+{
+    f.negative(1)
 }
 
 /// The negative.
@@ -117,11 +194,14 @@ pub(crate) fn negative_of(
     alloc: Global,
     f: &SmallField,
     a: &Fraction,
-) -> Result<Fraction, NoMemory> {
-    Ok(Fraction::of(
-        scaled(alloc, f, f.negative(1), a.numerator())?,
-        a.denominator().copy(alloc, f)?,
-    ))
+) -> Result<Fraction, NoMemory>
+    requires { IsLowestTerms (small_ops f.now) a.now.0 a.now.1 }
+    ensures lowest { IfOk result (λ w. IsLowestTerms (small_ops f.now) w.0 w.1) }
+    ensures negative { IfOk result (IsFractionNegative (small_ops f.now) a.now) }
+{
+    let numerator = scaled(alloc, f, minus_one(f), a.numerator())?;
+    let denominator = a.denominator().copy(alloc, f)?;
+    Ok(Fraction::of(numerator, denominator))
 }
 
 /// The inverse of a fraction that is not 0.
@@ -129,14 +209,21 @@ pub(crate) fn inverse_of(
     alloc: Global,
     f: &SmallField,
     a: &Fraction,
-) -> Result<Fraction, NoMemory> {
+) -> Result<Fraction, NoMemory>
+    requires lowest { IsLowestTerms (small_ops f.now) a.now.0 a.now.1 }
+    requires nonzero { a.now.0 ≢ [] }
+    ensures lowest { IfOk result (λ w. IsLowestTerms (small_ops f.now) w.0 w.1) }
+    ensures inverse { IfOk result (IsFractionInverse (small_ops f.now) a.now) }
+{
     let num = a.denominator().copy(alloc, f)?;
     let den = a.numerator().copy(alloc, f)?;
     Ok(with_monic_denominator(alloc, f, num, den)?)
 }
 
 /// Whether they are the same.
-pub(crate) fn are_same(a: &Fraction, b: &Fraction) -> bool {
+pub(crate) fn are_same(a: &Fraction, b: &Fraction) -> bool
+    ensures { IsTrue result ↔ (a.now ≡ b.now) }
+{
     order_of(a.numerator(), b.numerator()) == Ordering::Equal
         && order_of(a.denominator(), b.denominator()) == Ordering::Equal
 }

@@ -21,6 +21,11 @@ impl Model for Fraction {
 }
 
 impl Fraction {
+    ghost use Rattle.std.specs.Prelude.{ℕ};
+    ghost use Rattle.theory_rings.specs.Ops.{Ops};
+    ghost use Rattle.spl_poly.specs.Operations.{IsOver};
+    ghost use Rattle.spl_fraction.specs.Fraction.{IsLowestTerms};
+
     /// The pair.
     pub(crate) fn of(numerator: Poly, denominator: Poly) -> Fraction
         ensures { result ≡ (numerator, denominator) }
@@ -33,14 +38,16 @@ impl Fraction {
 
     /// The numerator. It takes no memory.
     pub fn numerator(&self) -> &Poly
-        ensures { result.now ≡ self.now.0 }
+        ensures value { result.now ≡ self.now.0 }
+        ensures over { (o : Ops ℕ) → IsLowestTerms o self.now.0 self.now.1 → IsOver o result.now }
     {
         &self.numerator
     }
 
     /// The denominator, which is monic. It takes no memory.
     pub fn denominator(&self) -> &Poly
-        ensures { result.now ≡ self.now.1 }
+        ensures value { result.now ≡ self.now.1 }
+        ensures over { (o : Ops ℕ) → IsLowestTerms o self.now.0 self.now.1 → IsOver o result.now }
     {
         &self.denominator
     }
