@@ -126,15 +126,17 @@ module _ {E : Type 0} (o : Ops E) (L : FieldLaws o) where
           one_b : d b ≡ P.one
           one_b = den_one o L b hb hm
 
+    -- the product of the denominators is not 0
+    pub denominators_nonzero : (v : List E) → Is v → IsProduct o a.1 b.1 v → v ≢ []
+    denominators_nonzero v hv ev e =
+        poly_mul-ne-zero F (d a) (d b) (den-ne-zero a ha) (den-ne-zero b hb)
+        (sym (poly-mul o L a.1 b.1 v ha.denominator_over hb.denominator_over hv.over ev) ∙ ap (polynomial_of o L) e ∙ polynomial_of-nil o L)
+
     -- a numerator over the product of the denominators
     module _ (l r u v : List E) (ol : IsOver o l) (or : IsOver o r) (ou : IsOver o u) (hv : Is v)
         (el : IsProduct o a.0 b.1 l) (er : IsProduct o b.0 a.1 r) (eu : IsSum o l r u) (ev : IsProduct o a.1 b.1 v) where
       same_v : polynomial_of o L v ≡ P.◌⊗◌ (d a) (d b)
       same_v = poly-mul o L a.1 b.1 v ha.denominator_over hb.denominator_over hv.over ev
-
-      pub product_nonzero : v ≢ []
-      product_nonzero e =
-          poly_mul-ne-zero F (d a) (d b) (den-ne-zero a ha) (den-ne-zero b hb) (sym same_v ∙ ap (polynomial_of o L) e ∙ polynomial_of-nil o L)
 
       pub reduced_sum : (w : Pair E) → Lowest w → IsFraction o w u v → IsFractionSum o a b w
       reduced_sum w hw e = sum_from w hw
