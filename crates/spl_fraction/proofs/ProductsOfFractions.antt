@@ -33,6 +33,14 @@ pub record IsLowestNegative {E : Type 0} (o : Ops E) (a w : Pair E) : Type 0 whe
   pub lowest : IsLowestTerms o w.0 w.1
   pub negative : IsFractionNegative o a w
 
+-- lists that are the denominator and the numerator
+pub coprime_lists_swap : {E : Type 0} (o : Ops E) (u v x y : List E) → x ≡ v → y ≡ u → IsCoprimeList o u v → IsCoprimeList o x y
+coprime_lists_swap o u v x y ex ey h =
+    subst (λ z. IsCoprimeList o z y) (sym ex) (subst (IsCoprimeList o v) (sym ey) (λ g og tg dv du. h g og tg du dv))
+
+pub fraction_same : {E : Type 0} (o : Ops E) (w : Pair E) (u v u' v' : List E) → u ≡ u' → v ≡ v' → IsFraction o w u v → IsFraction o w u' v'
+fraction_same o w u v u' v' eu ev h = subst (λ x. IsFraction o w x v') eu (subst (IsFraction o w u) ev h)
+
 module _ {E : Type 0} (o : Ops E) (L : FieldLaws o) where
   abbrev F : FieldOn (Elem o)
   F = elements o L
@@ -173,6 +181,3 @@ module _ {E : Type 0} (o : Ops E) (L : FieldLaws o) where
       let eu' : IsProduct o (o.neg o.one ∷ []) a.0 u = subst (λ x. IsProduct o (x ∷ []) a.0 u) ec eu in
       subst (IsLowestNegative o a) (sym (e ∙ ap (λ y. (u, y)) ev))
       record { lowest = negative_lowest a ha u hu eu'; negative = negative_value a ha u hu eu' }
-
-  pub coprime_swap : (a : Pair E) → Lowest a → IsCoprimeList o a.1 a.0
-  coprime_swap a h g og tg du dv = h.coprime g og tg dv du

@@ -8,7 +8,8 @@ use crate::fraction::Fraction;
 use crate::reduction::{is_constant, one_poly, reduced, scaled, with_monic_denominator};
 use spl_field::field::NoMemory;
 use spl_field::small::SmallField;
-use spl_poly::order::order_of;
+use spl_poly::order::{order_law, order_of};
+use spl_poly::poly::Poly;
 use std::alloc::Global;
 use std::cmp::Ordering;
 
@@ -220,10 +221,24 @@ pub(crate) fn inverse_of(
     Ok(with_monic_denominator(alloc, f, num, den)?)
 }
 
-/// Whether they are the same.
+/// Whether the polynomials are the same.
+fn are_same_polynomials(a: &Poly, b: &Poly) -> bool
+    ensures { IsTrue result ↔ (a.now ≡ b.now) }
+{
+    order_law();
+    match order_of(a, b) {
+        Ordering::Equal => true,
+        Ordering::Less => false,
+        Ordering::Greater => false,
+    }
+}
+
+/// Whether the fractions are the same.
 pub(crate) fn are_same(a: &Fraction, b: &Fraction) -> bool
     ensures { IsTrue result ↔ (a.now ≡ b.now) }
 {
-    order_of(a.numerator(), b.numerator()) == Ordering::Equal
-        && order_of(a.denominator(), b.denominator()) == Ordering::Equal
+    if are_same_polynomials(a.numerator(), b.numerator()) {
+        return are_same_polynomials(a.denominator(), b.denominator());
+    }
+    false
 }
