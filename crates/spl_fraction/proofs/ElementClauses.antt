@@ -1,10 +1,10 @@
 -- From pairs in lowest terms with a value to the operations on fractions.
 use Rattle.std.specs.Prelude.{◌≡◌, ◌≢◌, List, [], ◌∷◌}
-use Rattle.std.proofs.Common.{refl, sym, ◌∙◌, ap}
+use Rattle.std.proofs.Common.{refl, sym, ◌∙◌, ap, subst}
 use Rattle.theory_rings.specs.Ops.{Ops, IsElem, FieldLaws}
 use Rattle.spl_fraction.specs.Fraction.{Pair, IsLowestTerms, IsFractionSum, IsFractionProduct, IsFractionNegative, IsFractionInverse}
 use Rattle.spl_fraction.specs.FractionOps.{fraction_ops}
-use Rattle.spl_fraction.specs.FractionField.{eq_zero_of_empty}
+use Rattle.spl_fraction.specs.FractionField.{eq_zero_of_empty, fraction_laws}
 use Rattle.spl_fraction.proofs.LowestTerms.{lowest_of_fraction, fraction_of_lowest}
 use Rattle.spl_fraction.proofs.FractionValues.{eq_sum, eq_product, eq_negative, eq_inverse}
 
@@ -55,3 +55,9 @@ module _ {E : Type 0} (o : Ops E) (L : FieldLaws o) where
   pub ne_zero : (a : Pair E) → a.0 ≢ [] → a ≢ K.zero
   unfolding fraction_ops
   ne_zero a n e = n (ap (λ x. x.0) e)
+
+  pub zero_elem : (w : Pair E) → w ≡ ([], o.one ∷ []) → IsElem K w
+  zero_elem w e = let M = fraction_laws o L in subst (IsElem K) (zero_is ∙ sym e) M.zero-elem
+
+  pub one_elem : (w : Pair E) → w ≡ (o.one ∷ [], o.one ∷ []) → IsElem K w
+  one_elem w e = let M = fraction_laws o L in subst (IsElem K) (one_is ∙ sym e) M.one-elem

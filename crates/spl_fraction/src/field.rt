@@ -34,7 +34,9 @@ impl Field for Fractions {
         ensures value { IfOk result (λ r. r ≡ (fractions_over self.now.field).zero) }
         ensures pair { IfOk result (λ r. r ≡ ([], 1 ∷ [])) }
     {
-        Ok(Fraction::of(Poly::from_slice(alloc, &[])?, one_poly(alloc)?))
+        let numerator = Poly::from_slice(alloc, &[])?;
+        let one = one_poly(alloc)?;
+        Ok(Fraction::of(numerator, one))
     }
 
     fn one(&self, alloc: Global) -> Result<Fraction, NoMemory>
@@ -42,7 +44,9 @@ impl Field for Fractions {
         ensures value { IfOk result (λ r. r ≡ (fractions_over self.now.field).one) }
         ensures pair { IfOk result (λ r. r ≡ (1 ∷ [], 1 ∷ [])) }
     {
-        Ok(Fraction::of(one_poly(alloc)?, one_poly(alloc)?))
+        let numerator = one_poly(alloc)?;
+        let one = one_poly(alloc)?;
+        Ok(Fraction::of(numerator, one))
     }
 
     fn add(&self, alloc: Global, a: &Fraction, b: &Fraction) -> Result<Fraction, NoMemory>
