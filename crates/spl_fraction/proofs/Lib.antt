@@ -8,3 +8,4 @@ pub mod PairEquations
 pub mod SumsOfFractions
 pub mod ProductsOfFractions
 pub mod ElementClauses
+pub mod PlaceOrders

@@ -1,7 +1,8 @@
 // Places, and their order.
 ghost use Rattle.std.specs.Prelude.{◌≡◌};
+ghost use Rattle.spl_fraction.specs.Place.{place_cmp, IsPlaceOrder};
 
-use spl_poly::order::order_of;
+use spl_poly::order::{order_law, order_of};
 use spl_poly::poly::Poly;
 use std::cmp::Ordering;
 
@@ -12,18 +13,21 @@ pub enum Place {
     Infinity,
 }
 
-impl Place {
-    ghost use Rattle.spl_fraction.specs.Place.{place_cmp, IsPlaceOrder};
-
-    /// The order of places: the finite ones as their polynomials, and infinity last. It takes no memory.
-    pub fn order_by_polynomial(&self, b: &Place) -> Ordering
-        ensures { result ≡ place_cmp self.now b.now }
-    {
-        match (self, b) {
-            (Place::Finite { poly: p }, Place::Finite { poly: q }) => order_of(p, q),
-            (Place::Finite { poly: _ }, Place::Infinity) => Ordering::Less,
-            (Place::Infinity, Place::Finite { poly: _ }) => Ordering::Greater,
-            (Place::Infinity, Place::Infinity) => Ordering::Equal,
-        }
+/// The order of places: the finite ones as their polynomials, and infinity last. It takes no memory.
+pub fn order_of_places(a: &Place, b: &Place) -> Ordering
+    ensures { result ≡ place_cmp a.now b.now }
+{
+    match (a, b) {
+        (Place::Finite { poly: p }, Place::Finite { poly: q }) => order_of(p, q),
+        (Place::Finite { poly: _ }, Place::Infinity) => Ordering::Less,
+        (Place::Infinity, Place::Finite { poly: _ }) => Ordering::Greater,
+        (Place::Infinity, Place::Infinity) => Ordering::Equal,
     }
+}
+
+/// It is a total order in which only equal places are equal.
+pub fn place_order_law()
+    ensures { IsPlaceOrder place_cmp }
+{
+    order_law();
 }
