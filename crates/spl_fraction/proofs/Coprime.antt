@@ -1,10 +1,10 @@
 -- Coprime polynomials over a field stay coprime under multiples and sums with multiples; lowest terms of fractions that
 -- are combined.
 use Rattle.std.specs.Prelude.{◌≡◌, [], ◌∷◌}
-use Rattle.std.proofs.Common.{refl, sym, ◌∙◌, ap, ap₂}
+use Rattle.std.proofs.Common.{refl, ◌∙◌, ap, ap₂}
 use Rattle.theory_rings.specs.Ring.{FieldOn, CommRingOn}
-use Rattle.theory_rings.specs.Polynomial.{Poly, lead, degree}
-use Rattle.theory_rings.specs.Division.{Divides, IsCoprime}
+use Rattle.theory_rings.specs.Polynomial.{Poly}
+use Rattle.theory_rings.specs.Division.{IsCoprime}
 use Rattle.theory_rings.proofs.Rings.Solver.{◌⊞◌, ◌⊠◌, minus, v0, v1, v2, v3, v4, var, by_sorted, ring4, ring5}
 use Rattle.theory_rings.proofs.Polynomials.Bezout.{field_polynomials, bezout, coprime_of_bezout}
 

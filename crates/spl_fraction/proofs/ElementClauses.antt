@@ -1,5 +1,5 @@
 -- From pairs in lowest terms with a value to the operations on fractions.
-use Rattle.std.specs.Prelude.{◌≡◌, ◌≢◌, List, [], ◌∷◌}
+use Rattle.std.specs.Prelude.{◌≡◌, ◌≢◌, [], ◌∷◌}
 use Rattle.std.proofs.Common.{refl, sym, ◌∙◌, ap, subst}
 use Rattle.theory_rings.specs.Ops.{Ops, IsElem, FieldLaws}
 use Rattle.spl_fraction.specs.Fraction.{Pair, IsLowestTerms, IsFractionSum, IsFractionProduct, IsFractionNegative, IsFractionInverse}

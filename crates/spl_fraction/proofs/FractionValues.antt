@@ -1,9 +1,9 @@
 -- The values of fractions: the operations of rational functions are those of fractions by their coefficients, and a
 -- fraction in lowest terms with the value of a sum, a product, a negative or an inverse is it.
-use Rattle.std.specs.Prelude.{◌≡◌, ◌≢◌, ℕ, Bool, true, List, [], ◌∷◌}
-use Rattle.std.proofs.Common.{refl, sym, ◌∙◌, ap, ap₂}
+use Rattle.std.specs.Prelude.{◌≡◌, ◌≢◌, ℕ, true, []}
+use Rattle.std.proofs.Common.{refl, sym, ◌∙◌, ap}
 use Rattle.theory_rings.specs.Ring.{FieldOn, CommRingOn}
-use Rattle.theory_rings.specs.Ops.{Ops, IsElem, FieldLaws}
+use Rattle.theory_rings.specs.Ops.{Ops, FieldLaws}
 use Rattle.theory_rings.specs.Elements.{Elem, elements}
 use Rattle.theory_rings.specs.Sum.{at}
 use Rattle.theory_rings.specs.Polynomial.{Poly, convolution_of}
@@ -170,8 +170,8 @@ module _ {E : Type 0} (o : Ops E) (L : FieldLaws o) where
 
       rat-ne-zero : rat a ≡ K.zero → ⊥
       rat-ne-zero e = num-ne-zero (
-        ap (λ (x : RationalFunction o L). x.0.0) (sym (rational_function_eq o L a ha) ∙ e) ∙ numerator-zero o L
-      )
+          ap (λ (x : RationalFunction o L). x.0.0) (sym (rational_function_eq o L a ha) ∙ e) ∙ numerator-zero o L
+          )
 
       inverse_value : Is (K.inv (rat a)) (den a) (num a)
       inverse_value = sym products ∙ P.mul_comm y.0.1 (den a)

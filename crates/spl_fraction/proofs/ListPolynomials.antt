@@ -1,21 +1,20 @@
 -- Lists of a program's values as polynomials over the field of its elements: their coefficients, and what divides them.
-use Rattle.std.specs.Prelude.{◌≡◌, ℕ, zero, suc, ◌-◌, ◌<◌, ◌≤◌, Bool, true, false, not, ◌&&◌, List, [], ◌∷◌, length, map, get_or}
-use Rattle.std.specs.List.{All, list_all}
-use Rattle.std.proofs.Common.{refl, sym, ◌∙◌, ap, ap₂, arith}
+use Rattle.std.specs.Prelude.{◌≡◌, ℕ, Bool, true, false, not, List, [], ◌∷◌, length}
+use Rattle.std.specs.List.{list_all}
+use Rattle.std.proofs.Common.{refl, sym, ◌∙◌, ap}
 use Rattle.std.proofs.lemmas.Bool.{and_from, and_parts, not-true, both_ways}
 use Rattle.std.proofs.lemmas.List.{length-map}
 use Rattle.std.proofs.lemmas.List.Elements.{All-nil, All-cons, All-head, All-tail}
 use Rattle.theory_rings.specs.Ring.{FieldOn, CommRingOn}
 use Rattle.theory_rings.specs.Ops.{Ops, IsElem, FieldLaws}
-use Rattle.theory_rings.specs.Elements.{Elem, Elem-path, elements}
+use Rattle.theory_rings.specs.Elements.{Elem, elements}
 use Rattle.theory_rings.specs.Sum.{at}
-use Rattle.theory_rings.specs.Polynomial.{IsTrimmed, Poly, coefficient, convolution_of, degree}
+use Rattle.theory_rings.specs.Polynomial.{IsTrimmed, Poly, convolution_of, degree}
 use Rattle.theory_rings.specs.Division.{Divides as DividesIn}
-use Rattle.theory_rings.proofs.Polynomials.PolynomialRing.{get_or-trim, Poly-path, coefficient-add, coefficient-neg, coefficient-mul}
+use Rattle.theory_rings.proofs.Polynomials.PolynomialRing.{get_or-trim, coefficient-neg}
 use Rattle.theory_rings.proofs.Polynomials.Bezout.{field_polynomials}
-use Rattle.theory_rings.proofs.Polynomials.ElementLists.{values, at-values, IsTrimmed-values, convolution_of-elements}
-use Rattle.spl_poly.specs.Operations.{IsOver, IsProduct, Divides}
-use Rattle.spl_poly.proofs.Coefficients.{convolution_of_congr}
+use Rattle.theory_rings.proofs.Polynomials.ElementLists.{values, at-values, IsTrimmed-values}
+use Rattle.spl_poly.specs.Operations.{IsOver, Divides}
 use Rattle.spl_poly.proofs.PowerRemainders.{HasCoefficients, values-over}
 use Rattle.spl_lattice.proofs.Lifting.{eq_of_coefficients, coefficients_of_eq, has-mul}
 use Rattle.spl_fraction.specs.FractionOps.{is_trimmed, polynomial_of, is_polynomial}

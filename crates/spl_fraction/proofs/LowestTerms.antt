@@ -1,5 +1,5 @@
 -- The test of fractions is true exactly at lowest terms.
-use Rattle.std.specs.Prelude.{◌≡◌, ℕ, ◌<◌, ◌≤◌, Bool, true, ◌&&◌, List, [], ◌∷◌, length, ◌↔◌}
+use Rattle.std.specs.Prelude.{◌≡◌, ◌<◌, ◌≤◌, true, ◌&&◌, List, [], ◌∷◌, length, ◌↔◌}
 use Rattle.std.proofs.Common.{refl, sym, ◌∙◌, ap, arith, subst}
 use Rattle.std.proofs.lemmas.List.{length-map}
 use Rattle.std.proofs.lemmas.Bool.{and_from}
@@ -7,14 +7,14 @@ use Rattle.theory_rings.specs.Ring.{FieldOn, CommRingOn}
 use Rattle.theory_rings.specs.Ops.{Ops, IsElem, FieldLaws}
 use Rattle.theory_rings.specs.Elements.{Elem, Elem-path, elements}
 use Rattle.theory_rings.specs.Sum.{at}
-use Rattle.theory_rings.specs.Polynomial.{IsTrimmed, Poly, coefficient, lead, degree}
+use Rattle.theory_rings.specs.Polynomial.{Poly, coefficient, lead, degree}
 use Rattle.theory_rings.specs.Division.{IsCoprime as IsCoprimeIn}
 use Rattle.theory_rings.proofs.Polynomials.Degrees.{length_le_suc-degree}
 use Rattle.theory_rings.proofs.Polynomials.Bezout.{field_polynomials}
 use Rattle.theory_rings.proofs.Polynomials.ElementLists.{values}
 use Rattle.theory_rings.proofs.Fractions.Lowest.{Lowest}
 use Rattle.theory_rings.proofs.Fractions.LowestTests.{is_lowest, is_lowest-complete}
-use Rattle.spl_poly.specs.Operations.{IsOver, Divides}
+use Rattle.spl_poly.specs.Operations.{Divides}
 use Rattle.spl_fraction.specs.Fraction.{IsCoprime, IsLowestTerms}
 use Rattle.spl_fraction.specs.FractionOps.{polynomial_of, is_polynomial, is_fraction, fraction_ops}
 use Rattle.spl_fraction.specs.FractionField.{is_fraction-parts}

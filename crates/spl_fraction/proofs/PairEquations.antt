@@ -1,11 +1,11 @@
 -- Sums and products of fractions as equations of polynomials.
-use Rattle.std.specs.Prelude.{◌≡◌, ◌≢◌, ℕ, List, [], ◌∷◌, length}
-use Rattle.std.proofs.Common.{refl, sym, ◌∙◌, ap, ap₂, arith, subst}
+use Rattle.std.specs.Prelude.{◌≡◌, ℕ, List, [], ◌∷◌, length}
+use Rattle.std.proofs.Common.{◌∙◌, ap, arith}
 use Rattle.theory_rings.specs.Ring.{FieldOn, CommRingOn}
-use Rattle.theory_rings.specs.Ops.{Ops, IsElem, FieldLaws}
+use Rattle.theory_rings.specs.Ops.{Ops, FieldLaws}
 use Rattle.theory_rings.specs.Elements.{Elem, elements}
 use Rattle.theory_rings.specs.Sum.{at}
-use Rattle.theory_rings.specs.Polynomial.{IsTrimmed, Poly, convolution_of, degree}
+use Rattle.theory_rings.specs.Polynomial.{Poly, convolution_of, degree}
 use Rattle.theory_rings.proofs.Polynomials.Bezout.{field_polynomials}
 use Rattle.spl_poly.specs.Operations.{IsOver}
 use Rattle.spl_poly.proofs.PowerRemainders.{HasCoefficients}
@@ -13,7 +13,7 @@ use Rattle.spl_lattice.proofs.Lifting.{eq_of_coefficients, coefficients_of_eq, h
 use Rattle.spl_fraction.specs.Fraction.{Pair, IsSame, IsLowestTerms, IsFractionSum, IsFractionProduct, IsFractionNegative}
 use Rattle.spl_fraction.specs.FractionOps.{polynomial_of}
 use Rattle.spl_fraction.specs.FractionField.{polynomial_of-one}
-use Rattle.spl_fraction.proofs.ListPolynomials.{IsPolynomial, has_polynomial_of, has_neg}
+use Rattle.spl_fraction.proofs.ListPolynomials.{has_polynomial_of, has_neg}
 
 module _ {E : Type 0} (o : Ops E) (L : FieldLaws o) where
   abbrev F : FieldOn (Elem o)

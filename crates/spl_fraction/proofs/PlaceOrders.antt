@@ -1,9 +1,7 @@
 -- The order of places is a total order, as that of polynomials is.
 use Rattle.std.specs.Prelude.{◌≡◌}
 use Rattle.std.specs.Ordering.{ordering_reverse}
-use Rattle.std.specs.Cmp.{IsTotalOrder}
-use Rattle.std.specs.declared.cmp.Ordering.{Ordering}
-use Rattle.std.specs.declared.cmp.Ordering.TheVariants.{Less, Equal, Greater}
+use Rattle.std.specs.declared.cmp.Ordering.TheVariants.{Less, Equal}
 use Rattle.std.proofs.Common.{refl, ap}
 use Rattle.spl_poly.specs.Order.{poly_cmp, IsPolynomialOrder}
 use Rattle.spl_fraction.specs.Place.{place_cmp, IsPlaceOrder}

@@ -1,18 +1,17 @@
 -- The product of fractions by cases, the negative, and the inverse.
-use Rattle.std.specs.Prelude.{◌≡◌, ◌≢◌, ℕ, List, [], ◌∷◌, length}
+use Rattle.std.specs.Prelude.{◌≡◌, ◌≢◌, List, [], ◌∷◌, length}
 use Rattle.std.proofs.Common.{refl, sym, ◌∙◌, ap, ap₂, subst, arith}
 use Rattle.theory_rings.specs.Ring.{FieldOn, CommRingOn}
-use Rattle.theory_rings.specs.Ops.{Ops, IsElem, FieldLaws}
+use Rattle.theory_rings.specs.Ops.{Ops, FieldLaws}
 use Rattle.theory_rings.specs.Elements.{Elem, Elem-path, elements}
 use Rattle.theory_rings.specs.Polynomial.{Poly, coefficient, lead}
 use Rattle.theory_rings.specs.Division.{IsCoprime}
-use Rattle.theory_rings.proofs.Rings.RingLaws.{neg-mul}
-use Rattle.theory_rings.proofs.Rings.Solver.{◌⊞◌, ◌⊠◌, minus, nil, unit, ring1, ring2, ring3, ring4}
+use Rattle.theory_rings.proofs.Rings.Solver.{◌⊠◌, minus, nil, unit, ring1, ring3}
 use Rattle.theory_rings.proofs.Polynomials.PolynomialRing.{Poly-path, coefficient-neg, constant}
 use Rattle.theory_rings.proofs.Polynomials.Degrees.{ne_zero_of_length, length-degree_of_ne_zero}
 use Rattle.theory_rings.proofs.Polynomials.Constants.{coefficient-constant_mul}
 use Rattle.theory_rings.proofs.Polynomials.Bezout.{field_polynomials, degree_zero_inverse}
-use Rattle.spl_poly.specs.Operations.{IsOver, IsProduct}
+use Rattle.spl_poly.specs.Operations.{IsProduct}
 use Rattle.spl_fraction.specs.Fraction.{Pair, IsCoprime as IsCoprimeList, IsLowestTerms, IsFraction, IsFractionProduct, IsFractionNegative}
 use Rattle.spl_fraction.specs.FractionOps.{polynomial_of}
 use Rattle.spl_fraction.specs.FractionField.{polynomial_of-nil}

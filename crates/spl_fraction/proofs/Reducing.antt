@@ -1,8 +1,7 @@
 -- Steps to lowest terms, on lists over a program's field: constants, divisors, and the leading coefficient of the
 -- denominator.
-use Rattle.std.specs.Prelude.{◌≡◌, ◌≢◌, ℕ, zero, suc, ◌<◌, ◌≤◌, List, [], ◌∷◌, ◌++◌, length, get_or, All}
+use Rattle.std.specs.Prelude.{◌≡◌, ◌≢◌, ℕ, zero, suc, ◌<◌, List, [], ◌∷◌, ◌++◌, length, get_or, All}
 use Rattle.std.proofs.Common.{refl, sym, ◌∙◌, ap, ap₂, arith, subst, lit<}
-use Rattle.std.proofs.lemmas.List.{length-map}
 use Rattle.std.proofs.lemmas.List.Elements.{All-nil, All-cons, All-get_or}
 use Rattle.theory_rings.specs.Ring.{FieldOn, CommRingOn}
 use Rattle.theory_rings.specs.Ops.{Ops, IsElem, FieldLaws}
@@ -15,22 +14,20 @@ use Rattle.theory_rings.proofs.Rings.Solver.{◌⊞◌, ◌⊠◌, ring3, ring5}
 use Rattle.theory_rings.proofs.Rings.Fields.{mul-inv}
 use Rattle.theory_rings.proofs.Polynomials.PolynomialRing.{constant, coefficient-constant, zero-list}
 use Rattle.theory_rings.proofs.Polynomials.Degrees.{length_pos, lead-ne-zero, lead-constant, zero-length, ne_zero_of_length, length_le_suc-degree, length-degree_of_ne_zero}
-use Rattle.theory_rings.proofs.Polynomials.Constants.{constant_hom, constant-one}
+use Rattle.theory_rings.proofs.Polynomials.Constants.{constant_hom}
 use Rattle.theory_rings.proofs.Polynomials.Division.{division_unique}
 use Rattle.theory_rings.proofs.Polynomials.Bezout.{field_polynomials, field_degree-mul, field_lead-mul, poly_mul-ne-zero, poly_mul_cancel_left, poly_one-ne-zero, combination_one, coprime_of_bezout}
 use Rattle.theory_rings.proofs.Polynomials.ElementLists.{values}
-use Rattle.theory_rings.proofs.Fractions.Lowest.{Lowest}
-use Rattle.theory_rings.proofs.Fractions.LowestTests.{is_lowest, is_lowest-complete}
 use Rattle.spl_poly.specs.Operations.{IsOver, IsSum, IsProduct, IsDivision, Divides}
 use Rattle.spl_poly.proofs.Coefficients.{convolution_of-elem}
 use Rattle.spl_lattice.specs.Ideal.{IsGenerator}
 use Rattle.spl_poly.proofs.PowerRemainders.{HasCoefficients}
 use Rattle.spl_lattice.proofs.Lifting.{eq_of_coefficients, coefficients_of_eq, has-add, has-mul}
-use Rattle.spl_fraction.specs.Fraction.{Pair, IsSame, IsCoprime, IsLowestTerms, IsFraction}
-use Rattle.spl_fraction.specs.FractionOps.{polynomial_of, is_polynomial, is_fraction}
+use Rattle.spl_fraction.specs.Fraction.{Pair, IsCoprime, IsLowestTerms, IsFraction}
+use Rattle.spl_fraction.specs.FractionOps.{polynomial_of}
 use Rattle.spl_fraction.specs.FractionField.{polynomial_of-nil, is_fraction-one}
 use Rattle.spl_fraction.specs.CommonDivisor.{IsCommonDivisor}
-use Rattle.spl_fraction.proofs.ListPolynomials.{IsPolynomial, is_polynomial-from, values_back, IsPolynomial-values, has_polynomial_of, length-polynomial_of, degree-polynomial_of, divides_polynomial_of, divides_values}
+use Rattle.spl_fraction.proofs.ListPolynomials.{IsPolynomial, is_polynomial-from, values_back, has_polynomial_of, length-polynomial_of, divides_polynomial_of}
 use Rattle.spl_fraction.proofs.LowestTerms.{lead_value, lowest_of_fraction, coprime_lists, coprime_polynomials, lowest_of_polynomials}
 use Rattle.spl_fraction.proofs.Coprime.{coprime-mul_unit}
 

@@ -2,11 +2,11 @@
 use Rattle.std.specs.Prelude.{◌≡◌, ◌≢◌, List, [], ◌∷◌, length}
 use Rattle.std.proofs.Common.{refl, sym, ◌∙◌, ap, ap₂, subst, arith}
 use Rattle.theory_rings.specs.Ring.{FieldOn, CommRingOn}
-use Rattle.theory_rings.specs.Ops.{Ops, IsElem, FieldLaws}
+use Rattle.theory_rings.specs.Ops.{Ops, FieldLaws}
 use Rattle.theory_rings.specs.Elements.{Elem, elements}
-use Rattle.theory_rings.specs.Polynomial.{IsTrimmed, Poly}
+use Rattle.theory_rings.specs.Polynomial.{Poly}
 use Rattle.theory_rings.specs.Division.{IsCoprime}
-use Rattle.theory_rings.proofs.Rings.Solver.{◌⊞◌, ◌⊠◌, nil, unit, ring2, ring3, ring4}
+use Rattle.theory_rings.proofs.Rings.Solver.{◌⊞◌, ◌⊠◌, nil, unit, ring2, ring3}
 use Rattle.theory_rings.proofs.Polynomials.Bezout.{field_polynomials, poly_mul-ne-zero}
 use Rattle.spl_poly.specs.Operations.{IsOver, IsSum, IsProduct}
 use Rattle.spl_fraction.specs.Fraction.{Pair, IsLowestTerms, IsFraction, IsFractionSum}
@@ -16,7 +16,7 @@ use Rattle.spl_fraction.proofs.ListPolynomials.{IsPolynomial}
 use Rattle.spl_fraction.proofs.LowestTerms.{coprime_lists, coprime_polynomials}
 use Rattle.spl_fraction.proofs.Coprime.{coprime-add_mul}
 use Rattle.spl_fraction.proofs.Reducing.{poly-mul, poly-add, poly-ne-zero, eq_of_fraction, lowest_over_one}
-use Rattle.spl_fraction.proofs.PairEquations.{pair_over, num, den, sum_num, dens, sum_of_eq, eq_of_sum, den_one, one_of_constant}
+use Rattle.spl_fraction.proofs.PairEquations.{pair_over, num, den, sum_of_eq, eq_of_sum, den_one}
 
 -- w is a + b in lowest terms
 pub record IsLowestSum {E : Type 0} (o : Ops E) (a b w : Pair E) : Type 0 where

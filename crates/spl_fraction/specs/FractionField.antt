@@ -1,5 +1,5 @@
 -- The fractions in lowest terms are a field: they are carried to the rational functions and back.
-use Rattle.std.specs.Prelude.{◌≡◌, ◌≢◌, ℕ, zero, suc, Bool, true, false, not, ◌&&◌, List, [], ◌∷◌, map, get_or}
+use Rattle.std.specs.Prelude.{◌≡◌, ℕ, zero, suc, Bool, true, false, not, ◌&&◌, List, [], ◌∷◌, map, get_or}
 use Rattle.std.specs.List.{list_all}
 use Rattle.std.proofs.Common.{refl, sym, ◌∙◌, ap, ap₂}
 use Rattle.std.proofs.lemmas.Bool.{and_from, and_parts, not-true, both_ways}
@@ -11,7 +11,7 @@ use Rattle.theory_rings.specs.Polynomial.{IsTrimmed, Poly, coefficient, degree, 
 use Rattle.theory_rings.specs.Fraction.{SameFraction, IsFractionField}
 use Rattle.theory_rings.proofs.Rings.RingLaws.{zero-mul}
 use Rattle.theory_rings.proofs.Rings.Embedding.{FieldEmbedding, embedded_field}
-use Rattle.theory_rings.proofs.Polynomials.PolynomialRing.{is_empty, IsTrimmed-injective, IsTrimmed-trim, get_or-trim, Poly-path, coefficient-zero, coefficient-one, zero_poly_test}
+use Rattle.theory_rings.proofs.Polynomials.PolynomialRing.{is_empty, IsTrimmed-injective, IsTrimmed-trim, get_or-trim, Poly-path, coefficient-zero, coefficient-one}
 use Rattle.theory_rings.proofs.Polynomials.Constants.{constant-one}
 use Rattle.theory_rings.proofs.Polynomials.Degrees.{length_pos, lead-constant}
 use Rattle.theory_rings.proofs.Polynomials.Bezout.{field_polynomials, poly_one-ne-zero, degree_of_divides_one}

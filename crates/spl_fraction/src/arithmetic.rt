@@ -191,11 +191,7 @@ fn minus_one(f: &SmallField) -> u8
 }
 
 /// The negative.
-pub(crate) fn negative_of(
-    alloc: Global,
-    f: &SmallField,
-    a: &Fraction,
-) -> Result<Fraction, NoMemory>
+pub(crate) fn negative_of(alloc: Global, f: &SmallField, a: &Fraction) -> Result<Fraction, NoMemory>
     requires { IsLowestTerms (small_ops f.now) a.now.0 a.now.1 }
     ensures lowest { IfOk result (λ w. IsLowestTerms (small_ops f.now) w.0 w.1) }
     ensures negative { IfOk result (IsFractionNegative (small_ops f.now) a.now) }
@@ -206,11 +202,7 @@ pub(crate) fn negative_of(
 }
 
 /// The inverse of a fraction that is not 0.
-pub(crate) fn inverse_of(
-    alloc: Global,
-    f: &SmallField,
-    a: &Fraction,
-) -> Result<Fraction, NoMemory>
+pub(crate) fn inverse_of(alloc: Global, f: &SmallField, a: &Fraction) -> Result<Fraction, NoMemory>
     requires lowest { IsLowestTerms (small_ops f.now) a.now.0 a.now.1 }
     requires nonzero { a.now.0 ≢ [] }
     ensures lowest { IfOk result (λ w. IsLowestTerms (small_ops f.now) w.0 w.1) }

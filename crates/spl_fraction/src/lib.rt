@@ -9,8 +9,5 @@ pub mod field;
 pub mod fraction;
 pub mod laws;
 pub mod place;
-mod reading;
 mod reduction;
-#[cfg(test)]
-mod tests;
 mod writing;

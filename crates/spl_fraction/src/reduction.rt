@@ -103,10 +103,7 @@ pub(crate) fn with_monic_denominator(
         return Ok(Fraction::of(num, den));
     }
     let unit = inverse(f, lead);
-    Ok(Fraction::of(
-        scaled(alloc, f, unit, &num)?,
-        scaled(alloc, f, unit, &den)?,
-    ))
+    Ok(Fraction::of(scaled(alloc, f, unit, &num)?, scaled(alloc, f, unit, &den)?))
 }
 
 /// The monic greatest common divisor of polynomials.
@@ -150,12 +147,7 @@ fn divided(
 {
     let left = num.divide(alloc, f, divisor)?;
     let right = den.divide(alloc, f, divisor)?;
-    Ok(with_monic_denominator(
-        alloc,
-        f,
-        left.quotient,
-        right.quotient,
-    )?)
+    Ok(with_monic_denominator(alloc, f, left.quotient, right.quotient)?)
 }
 
 /// The fraction in lowest terms; constants take no common divisor.

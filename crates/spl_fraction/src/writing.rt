@@ -43,11 +43,7 @@ fn push_both(alloc: Global, a: &Poly, b: &Poly, out: &mut Vec<u8>) -> Result<(),
 }
 
 /// Writes the canonical text of the fraction behind the text, which stays as it was where memory is wanting.
-pub(crate) fn push_fraction(
-    alloc: Global,
-    a: &Fraction,
-    out: &mut Vec<u8>,
-) -> Result<(), NoMemory>
+pub(crate) fn push_fraction(alloc: Global, a: &Fraction, out: &mut Vec<u8>) -> Result<(), NoMemory>
     requires { 0 < length a.now.1 }
     ensures ok { OnOk result (out.new.items ≡ out.old.items ++ canonical_text a.now) }
     ensures err { OnErr result (out.new.items ≡ out.old.items) }

@@ -1,6 +1,5 @@
-use Rattle.std.proofs.Common.{sym, ◌∙◌, ap, subst}
+use Rattle.std.proofs.Common.{sym, ◌∙◌}
 use Rattle.spl_field.specs.SmallField.{small_ops}
-use Rattle.spl_fraction.specs.FractionsOver.{small_laws}
 use Rattle.spl_fraction.proofs.ProductsOfFractions.{coprime_lists_swap, fraction_same}
 use Rattle.spl_fraction.proofs.arithmetic.inverse_of.Goals as goal
 

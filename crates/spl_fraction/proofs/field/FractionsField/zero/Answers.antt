@@ -1,4 +1,4 @@
-use Rattle.std.proofs.Common.{◌≡◌, List, [], ◌∷◌, sym, ◌∙◌, ap₂}
+use Rattle.std.proofs.Common.{sym, ◌∙◌, ap₂}
 use Rattle.spl_field.specs.SmallField.{small_ops}
 use Rattle.spl_fraction.specs.FractionsOver.{small_laws}
 use Rattle.spl_fraction.proofs.ElementClauses.{zero_elem, zero_is}
