@@ -1,15 +1,17 @@
 -- A canonical text spells the numbers of one fraction.
-use Rattle.std.specs.Prelude.{◌≡◌, ◌≢◌, ℕ, ◌^◌, ◌<◌, ◌≤◌, List, [], ◌∷◌, ◌++◌, length, Option, Some, None, IfSome}
+use Rattle.std.specs.Prelude.{◌≡◌, ◌≢◌, ℕ, ◌^◌, ◌<◌, ◌≤◌, List, [], ◌∷◌, ◌++◌, length, Option, Some, None, IfSome, MatchOption}
 use Rattle.std.proofs.Common.{refl, sym, ◌∙◌, ap, ap₂, arith, subst, inl, inr, ⊎_elim, lit<}
 use Rattle.std.proofs.lemmas.Bool.{ltb-true}
 use Rattle.std.proofs.lemmas.List.Elements.{All-nil, All-cons, All-weaker, recursion_from_All}
 use Rattle.theory_rings.specs.Ops.{Ops, IsElem, FieldLaws}
-use Rattle.theory_rings.specs.Polynomial.{IsTrimmed}
+use Rattle.theory_rings.specs.Sum.{at}
+use Rattle.theory_rings.specs.Polynomial.{IsTrimmed, degree}
 use Rattle.spl_field.specs.SmallField.{small_ops}
 use Rattle.spl_field.specs.declared.small.SmallField.{SmallField}
 use Rattle.spl_poly.specs.Operations.{IsOver, without_zeros}
 use Rattle.spl_poly.proofs.Trimming.{without_zeros_unique}
 use Rattle.spl_text.specs.Text.{IsNumber, AreNumbers, IsNumberList, FractionText, IsFractionText, fraction_text, numbers_text, coefficients_text, denominator_text}
+use Rattle.spl_text.proofs.NumberLists.{of_none}
 use Rattle.spl_text.proofs.Fractions.{fraction_unique}
 use Rattle.spl_fraction.specs.Fraction.{Pair, IsLowestTerms}
 use Rattle.spl_fraction.specs.FractionsOver.{small_laws}
@@ -19,7 +21,7 @@ use Rattle.spl_fraction.specs.CanonicalWords.{numbers_of, denominator_of, words_
 -- ---- the words of a fraction spell its text
 
 text_numbers : (u : List ℕ) → coefficients_text u ≡ numbers_text (numbers_of u)
-text_numbers [] = refl
+text_numbers [] = of_none [] refl
 text_numbers (c ∷ cs) = refl
 
 text_denominator : (v : List ℕ) → canonical_denominator v ≡ denominator_text (denominator_of v)
@@ -58,6 +60,10 @@ pub denominator-some : (v ds : List ℕ) → Some ds ≡ denominator_of v → (d
 denominator-some [] ds e = absurd cc
 denominator-some (c ∷ []) ds e = absurd cc
 denominator-some (c ∷ d ∷ vs) ds e = (cc, omega arith)
+
+-- words are their parts
+words_path : (t u : FractionText) → t.numerator ≡ u.numerator → t.denominator ≡ u.denominator → t ≡ u
+words_path t u e d = ap₂ {A = List ℕ} {B = Option (List ℕ)} {C = FractionText} (λ x y. record { numerator = x; denominator = y }) e d
 
 module _ (f : SmallField) where
   abbrev o : Ops ℕ
@@ -109,3 +115,60 @@ module _ (f : SmallField) where
         subst (IsOver o) (sym same) (numbers_over w.0 h.numerator_over),
         ap without_zeros same ∙ without_zeros-numbers_of w.0 h.numerator_trimmed,
       )
+
+  -- ---- a numerator alone
+
+  -- the words of the one numerator over 1
+  pub words_of_one : (t : FractionText) → IsFractionText t → t.denominator ≡ None → t ≡ words_of (without_zeros t.numerator, 1 ∷ [])
+  words_of_one t h e =
+      words_path t (words_of (without_zeros t.numerator, 1 ∷ [])) (sym (numbers_of-without_zeros t.numerator h.numerator)) e
+
+  -- ---- a numerator and a denominator
+
+  pub words_of_both : (t : FractionText) (ds u v : List ℕ) → IsFractionText t → t.denominator ≡ Some ds → u ≡ without_zeros t.numerator
+      → Some ds ≡ denominator_of v → t ≡ words_of (u, v)
+  words_of_both t ds u v h e eu ev =
+      words_path t (words_of (u, v)) (sym (ap numbers_of eu ∙ numbers_of-without_zeros t.numerator h.numerator)) (e ∙ ev)
+
+  -- the denominator of the text
+  pub denominator_back : (ds v : List ℕ) → IsOver o v → IsTrimmed 0 v → Some ds ≡ denominator_of v → IsOver o ds × (without_zeros ds ≡ v) × (1 < length v)
+  denominator_back ds v h t e =
+      let s = denominator-some v ds e in (subst (IsOver o) (sym s.0) h, ap without_zeros s.0 ∙ without_zeros_trimmed v t, s.1)
+
+  -- the denominator that was read
+  pub denominator_forth : (ds v : List ℕ) → IsNumberList ds → v ≡ without_zeros ds → 1 < length v → Some ds ≡ denominator_of v
+  denominator_forth ds v h e l =
+      let same : numbers_of v ≡ ds = ap numbers_of e ∙ numbers_of-without_zeros ds h in
+      ap (λ (x : List ℕ). Some x) (sym same ∙ numbers_of-some v (omega arith)) ∙ sym (denominator_of-long v l)
+
+  -- a canonical text is that of one fraction
+  pub canonical_unique : (bytes : List ℕ) (w x : Pair ℕ) → IsCanonicalText o bytes w → IsCanonicalText o bytes x → w ≡ x
+  canonical_unique bytes w x h k =
+      let e : words_of w ≡ words_of x = same_words bytes (words_of w) x (is_fraction_text w h.lowest) (h.text ∙ text_words w) k in
+      let a = h.lowest in
+      let b = k.lowest in
+      ap₂ (λ u v. (u, v))
+      (sym (without_zeros-numbers_of w.0 a.numerator_trimmed) ∙ ap (λ t. without_zeros t.numerator) e ∙ without_zeros-numbers_of x.0 b.numerator_trimmed)
+      (go w.1 x.1 a.denominator_nonzero b.denominator_nonzero a.monic b.monic (ap (λ t. t.denominator) e))
+    where
+      go : (u v : List ℕ) → 0 < length u → 0 < length v → at o u (degree u) ≡ 1 → at o v (degree v) ≡ 1 → denominator_of u ≡ denominator_of v → u ≡ v
+      go [] v l m p q s = absurd (omega arith)
+      go (c ∷ []) [] l m p q s = absurd (omega arith)
+      go (c ∷ []) (d ∷ []) l m p q s = ap (λ y. y ∷ []) (p ∙ sym q)
+      go (c ∷ []) (d ∷ e ∷ ds) l m p q s = absurd cc
+      go (c ∷ b ∷ bs) [] l m p q s = absurd cc
+      go (c ∷ b ∷ bs) (d ∷ []) l m p q s = absurd cc
+      go (c ∷ b ∷ bs) (d ∷ e ∷ ds) l m p q s = cc
+
+-- weaker answers
+pub match_option_map : {A : Type 0} {P P' : Type 0} {Q Q' : A → Type 0} (r : Option A) → (P' → P) → ((x : A) → Q' x → Q x) → MatchOption r P' Q' → MatchOption r P Q
+match_option_map None p q h = p h
+match_option_map (Some x) p q h = q x h
+
+pub eq_none : {A : Type 0} (r : Option A) → ((x : A) → r ≡ Some x → ⊥) → r ≡ None
+eq_none None n = refl
+eq_none (Some x) n = absurd (n x refl)
+
+pub some_of_match : {A : Type 0} (P : Type 0) {Q Q' : A → Type 0} (r : Option A) → ((x : A) → Q' x → Q x) → MatchOption r P Q' → IfSome r Q
+some_of_match P None q h = tt
+some_of_match P (Some x) q h = q x h
