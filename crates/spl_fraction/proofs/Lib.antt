@@ -9,3 +9,4 @@ pub mod SumsOfFractions
 pub mod ProductsOfFractions
 pub mod ElementClauses
 pub mod PlaceOrders
+pub mod CanonicalTexts

@@ -312,6 +312,13 @@ module _ {E : Type 0} (o : Ops E) (L : FieldLaws o) where
       let c = divides_polynomial_of o L [] b none hb (subst (λ x. Divides o x b) e d.right) in
       poly-ne-zero b hb n (c.1 ∙ ap (P.◌⊗◌ c.0) (polynomial_of-nil o L) ∙ mul-zero P.ring c.0)
 
+  -- a common divisor of coprime polynomials is a constant
+  pub constant_of_coprime : (a b g : List E) → Is b → Is g → b ≢ [] → IsCommonDivisor o a b g → IsCoprime o a b → length g ≡ 1
+  constant_of_coprime a b g hb hg n d c =
+      let low = c g hg.over hg.trimmed d.left d.right in
+      let pos : 0 < length g = length_pos_of_ne-nil g (divisor_nonzero a b g hb n d) in
+      omega (arith, low, pos)
+
   -- quotients by a common divisor
   module _ (a b g p q r s : List E) (ha : Is a) (hb : Is b) (hg : Is g) (hp : Is p) (hq : Is q) (hr : Is r) (hs : Is s) (n : b ≢ [])
       (d : IsCommonDivisor o a b g) (ep : IsDivision o a g p r) (eq : IsDivision o b g q s) where

@@ -6,3 +6,4 @@ pub mod Fractions
 pub mod CommonDivisor
 pub mod Place
 pub mod CanonicalText
+pub mod CanonicalWords

@@ -8,6 +8,7 @@ ghost use Rattle.spl_fraction.specs.FractionsOver.{fractions_over, fractions_law
 
 use crate::arithmetic::{are_same, copy_of, inverse_of, negative_of, product_of, sum_of};
 use crate::fraction::Fraction;
+use crate::reading::fraction_of_text;
 use crate::reduction::{one_poly, reduced};
 use crate::writing::push_fraction;
 use spl_field::field::{Field, NoMemory};
@@ -110,7 +111,7 @@ impl Field for Fractions {
 
 impl Fractions {
     ghost use Rattle.spl_fraction.specs.Fractions.{field_of};
-    ghost use Rattle.spl_fraction.specs.CanonicalText.{canonical_text};
+    ghost use Rattle.spl_fraction.specs.CanonicalText.{canonical_text, IsCanonicalText};
 
     /// The fractions over an equal field. The one fault is want of memory.
     pub fn over(alloc: Global, field: &SmallField) -> Result<Fractions, NoMemory>
@@ -145,6 +146,16 @@ impl Fractions {
         let num = num.copy(alloc, &self.field)?;
         let den = den.copy(alloc, &self.field)?;
         Ok(Some(reduced(alloc, &self.field, num, den)?))
+    }
+
+    /// The fraction whose canonical text this is; None exactly where it is that of none. The one fault is want of memory.
+    pub fn read_fraction(&self, alloc: Global, text: &[u8]) -> Result<Option<Fraction>, NoMemory>
+        ensures elem { IfOk result (λ o. IfSome o (IsElem (fractions_over (field_of self.now)))) }
+        ensures value { IfOk result (λ o. MatchOption o
+            ((w : Pair ℕ) → IsCanonicalText (small_ops (field_of self.now)) text.now w → ⊥)
+            (IsCanonicalText (small_ops (field_of self.now)) text.now)) }
+    {
+        Ok(fraction_of_text(alloc, &self.field, text)?)
     }
 
     /// Writes the canonical text of the fraction behind what there is, which stays as it was where memory is wanting.

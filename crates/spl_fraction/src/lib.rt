@@ -9,5 +9,8 @@ pub mod field;
 pub mod fraction;
 pub mod laws;
 pub mod place;
+mod reading;
 mod reduction;
+#[cfg(test)]
+mod tests;
 mod writing;

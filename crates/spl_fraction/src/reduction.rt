@@ -177,3 +177,24 @@ pub(crate) fn reduced(
     }
     Ok(divided(alloc, f, &num, &den, &divisor)?)
 }
+
+/// Whether only constants divide both, of which the second is not 0.
+pub(crate) fn are_coprime(
+    alloc: Global,
+    f: &SmallField,
+    a: &Poly,
+    b: &Poly,
+) -> Result<bool, NoMemory>
+    requires a_over { IsOver (small_ops f.now) a.now }
+    requires a_trimmed { IsTrimmed 0 a.now }
+    requires b_over { IsOver (small_ops f.now) b.now }
+    requires b_trimmed { IsTrimmed 0 b.now }
+    requires b_nonzero { b.now ≢ [] }
+    ensures { IfOk result (λ r. IsTrue r ↔ IsCoprime (small_ops f.now) a.now b.now) }
+{
+    if is_constant(a) {
+        return Ok(true);
+    }
+    let divisor = common_divisor(alloc, f, a, b)?;
+    Ok(is_constant(&divisor))
+}
