@@ -2,6 +2,7 @@ pub mod Spellings
 pub mod TextLaws
 mod Places
 mod Faults
+mod OneRefusal
 mod Elements
 mod Filling
 mod Constants

@@ -113,7 +113,7 @@ table_unique x bytes t u r s is_t is_u =
 -- ---- a line that is read right has no fault
 
 -- an entry that may stand here, where the next line is at fault
-no_fault_at_entry : (h : Head) (previous : Option Entry) (rest after : List ℕ) (e : Entry) → IsRightEntry h previous e → rest ≡ entry_line e ++ after
+pub no_fault_at_entry : (h : Head) (previous : Option Entry) (rest after : List ℕ) (e : Entry) → IsRightEntry h previous e → rest ≡ entry_line e ++ after
     → (kind : Kind) → LineFault h previous rest kind → ⊥
 no_fault_at_entry h previous rest after e right next kind fault = go kind fault
   where
@@ -138,7 +138,7 @@ no_fault_at_entry h previous rest after e right next kind fault = go kind fault
     go NotBuilt w = w
 
 -- the line `end`, where the next line is at fault
-no_fault_at_end : (h : Head) (previous : Option Entry) (rest after : List ℕ) → rest ≡ end_line ++ after
+pub no_fault_at_end : (h : Head) (previous : Option Entry) (rest after : List ℕ) → rest ≡ end_line ++ after
     → (kind : Kind) → LineFault h previous rest kind → ⊥
 no_fault_at_end h previous rest after next kind fault = go kind fault
   where

@@ -15,3 +15,8 @@ pub fn no_text_has_both()
     ensures { (extent : Extent) (bytes : List ℕ) (t : TableText) (r : List ℕ) (refusal : Refusal)
         → IsTableText extent bytes t r → IsRefusal extent bytes refusal → ⊥ }
 {}
+
+/// A text has at most one refusal.
+pub fn one_refusal_a_text()
+    ensures { (extent : Extent) (bytes : List ℕ) (f g : Refusal) → IsRefusal extent bytes f → IsRefusal extent bytes g → f ≡ g }
+{}
