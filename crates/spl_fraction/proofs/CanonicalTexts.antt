@@ -1,5 +1,5 @@
 -- A canonical text spells the numbers of one fraction.
-use Rattle.std.specs.Prelude.{◌≡◌, ◌≢◌, ℕ, ◌^◌, ◌<◌, ◌≤◌, List, [], ◌∷◌, ◌++◌, length, Option, Some, None, IfSome, MatchOption}
+use Rattle.std.specs.Prelude.{◌≡◌, ◌≢◌, ℕ, ◌<◌, ◌≤◌, List, [], ◌∷◌, ◌++◌, length, Option, Some, None, IfSome, MatchOption}
 use Rattle.std.proofs.Common.{refl, sym, ◌∙◌, ap, ap₂, arith, subst, inl, inr, ⊎_elim, lit<}
 use Rattle.std.proofs.lemmas.Bool.{ltb-true}
 use Rattle.std.proofs.lemmas.List.Elements.{All-nil, All-cons, All-weaker, recursion_from_All}
@@ -10,13 +10,13 @@ use Rattle.spl_field.specs.SmallField.{small_ops}
 use Rattle.spl_field.specs.declared.small.SmallField.{SmallField}
 use Rattle.spl_poly.specs.Operations.{IsOver, without_zeros}
 use Rattle.spl_poly.proofs.Trimming.{without_zeros_unique}
-use Rattle.spl_text.specs.Text.{IsNumber, AreNumbers, IsNumberList, FractionText, IsFractionText, fraction_text, numbers_text, coefficients_text, denominator_text}
+use Rattle.spl_text.specs.Text.{IsNumber, IsNumberList, FractionText, IsFractionText, fraction_text, numbers_text, coefficients_text, denominator_text}
 use Rattle.spl_text.proofs.NumberLists.{of_none}
 use Rattle.spl_text.proofs.Fractions.{fraction_unique}
 use Rattle.spl_fraction.specs.Fraction.{Pair, IsLowestTerms}
 use Rattle.spl_fraction.specs.FractionsOver.{small_laws}
 use Rattle.spl_fraction.specs.CanonicalText.{denominator_text as canonical_denominator, canonical_text, IsCanonicalText}
-use Rattle.spl_fraction.specs.CanonicalWords.{numbers_of, denominator_of, words_of, IsProper}
+use Rattle.spl_fraction.specs.CanonicalWords.{numbers_of, denominator_of, words_of}
 
 -- ---- the words of a fraction spell its text
 
@@ -159,6 +159,12 @@ module _ (f : SmallField) where
       go (c ∷ b ∷ bs) [] l m p q s = absurd cc
       go (c ∷ b ∷ bs) (d ∷ []) l m p q s = absurd cc
       go (c ∷ b ∷ bs) (d ∷ e ∷ ds) l m p q s = cc
+
+  -- what is read of the canonical text of a fraction is the fraction
+  pub read_again : (bytes : List ℕ) (r : Option (Pair ℕ)) (w : Pair ℕ) → MatchOption r ((x : Pair ℕ) → IsCanonicalText o bytes x → ⊥) (IsCanonicalText o bytes)
+      → IsLowestTerms o w.0 w.1 → bytes ≡ canonical_text w → r ≡ Some w
+  read_again bytes None w h low e = absurd (h w record { lowest = low; text = e })
+  read_again bytes (Some x) w h low e = ap (λ (y : Pair ℕ). Some y) (canonical_unique bytes x w h record { lowest = low; text = e })
 
 -- weaker answers
 pub match_option_map : {A : Type 0} {P P' : Type 0} {Q Q' : A → Type 0} (r : Option A) → (P' → P) → ((x : A) → Q' x → Q x) → MatchOption r P' Q' → MatchOption r P Q

@@ -1,5 +1,5 @@
 -- The numbers of a canonical text: those of the numerator, and of the denominator where that is not 1.
-use Rattle.std.specs.Prelude.{◌≡◌, ℕ, ◌<◌, List, [], ◌∷◌, length, Option, Some, None}
+use Rattle.std.specs.Prelude.{ℕ, ◌<◌, List, [], ◌∷◌, length, Option, Some, None}
 use Rattle.theory_rings.specs.Ops.{Ops}
 use Rattle.spl_text.specs.Text.{FractionText}
 use Rattle.spl_fraction.specs.Fraction.{Pair, IsLowestTerms}

@@ -1,5 +1,5 @@
 // The field of fractions.
-ghost use Rattle.std.specs.Prelude.{◌≡◌, ◌≢◌, ◌↔◌, ℕ, List, [], ◌∷◌, ◌++◌, IfOk, IfSome, IsTrue, MatchOption, OnOk, OnErr};
+ghost use Rattle.std.specs.Prelude.{◌≡◌, ◌≢◌, ◌↔◌, ℕ, List, [], ◌∷◌, ◌++◌, Some, IfOk, IfSome, IsTrue, MatchOption, OnOk, OnErr};
 ghost use Rattle.theory_rings.specs.Ops.{IsElem};
 ghost use Rattle.spl_field.specs.SmallField.{small_ops, characteristic, modulus_of};
 ghost use Rattle.spl_poly.specs.Operations.{IsOver};
@@ -154,6 +154,8 @@ impl Fractions {
         ensures value { IfOk result (λ o. MatchOption o
             ((w : Pair ℕ) → IsCanonicalText (small_ops (field_of self.now)) text.now w → ⊥)
             (IsCanonicalText (small_ops (field_of self.now)) text.now)) }
+        ensures again { IfOk result (λ o. (w : Pair ℕ) → IsElem (fractions_over (field_of self.now)) w
+            → text.now ≡ canonical_text w → o ≡ Some w) }
     {
         Ok(fraction_of_text(alloc, &self.field, text)?)
     }
