@@ -13,7 +13,7 @@ returns-in_ok-e-in-Some-clause-basis g c =
     let rows = c.in_ok-rows-in-Some in
     let twice = c.in_ok-twice-in-Some in
     let e = c.in_ok-e-in-Some in
-    let n_is : c.in-Some.n ≡ w + w = omega (arith, c.in-Some.ensures) in
+    let n_is : c.in-Some.n ≡ w + w = omega arith in
     let P : List (List g.row.F-Elem.Denot) → Type 0 = λ m. m ≡ right_part o w c.count_below-k.result c.as_slice-in-Some-3.result.now in
     let Q : List (List g.row.F-Elem.Denot) → Type 0 = λ m. IsReducedBasis o w m in
     IfOk-weaker c.right_part_of.result P Q (λ m m_is. (meet_of o L w c.args.a.now c.args.b.now rows.rows twice.twice e.e.rows m e.e.pivots c.len.result c.in-Some.n c.count_below-k.result c.requires.left c.requires.right
@@ -30,7 +30,7 @@ returns-in_ok-e-in-Some-clause-members g c =
     let rows = c.in_ok-rows-in-Some in
     let twice = c.in_ok-twice-in-Some in
     let e = c.in_ok-e-in-Some in
-    let n_is : c.in-Some.n ≡ w + w = omega (arith, c.in-Some.ensures) in
+    let n_is : c.in-Some.n ≡ w + w = omega arith in
     let P : List (List g.row.F-Elem.Denot) → Type 0 = λ m. m ≡ right_part o w c.count_below-k.result c.as_slice-in-Some-3.result.now in
     let Q : List (List g.row.F-Elem.Denot) → Type 0 = λ m. SpansMeet o w m c.args.a.now c.args.b.now in
     IfOk-weaker c.right_part_of.result P Q (λ m m_is. (meet_of o L w c.args.a.now c.args.b.now rows.rows twice.twice e.e.rows m e.e.pivots c.len.result c.in-Some.n c.count_below-k.result c.requires.left c.requires.right
