@@ -98,10 +98,7 @@ fn refuses_a_text_that_is_cut(rt: HostRuntime) -> Result<(), Fail> {
 #[test]
 fn takes_degree_32_and_not_33(rt: HostRuntime) -> Result<(), Fail> {
     let alloc = rt.alloc();
-    for (zeros, report) in [
-        (32, "refused 5 NotBuilt\n"),
-        (33, "refused 4 PolyDegree\n"),
-    ] {
+    for (zeros, report) in [(32, "refused 5 NotBuilt\n"), (33, "refused 4 PolyDegree\n")] {
         let input = power(alloc, zeros)?;
         let written = report_on(alloc, input.as_slice())?;
         assert_eq!(rt; written.as_slice(), report.as_bytes());
