@@ -1,10 +1,13 @@
-// Tests that cross crates: what the program writes, and how it ends, for whole inputs.
+// Tests that cross crates: what the program writes, and how it ends, for whole inputs; and the field of fractions
+// through its trait.
 //
-// It stands on spl_cli and spl_outside. The texts and the expected answers come from outside the program.
+// It stands on spl_cli, spl_outside and spl_fraction. The texts and the expected answers come from outside the program.
 #![tactic(auto)]
 
 #[cfg(test)]
 mod damaged;
+#[cfg(test)]
+mod fractions;
 #[cfg(test)]
 mod rows;
 #[cfg(test)]
