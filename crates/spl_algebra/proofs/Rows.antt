@@ -22,6 +22,12 @@ row_end-le_rest i l m n h k e =
     let first : i + 1 ≤ m = omega arith in
     omega (arith, row_end-le l m m k, nat.mul-le-mul_right (m * m) first)
 
+-- the m items from row l·m on of the rows from row k on end within them
+pub column_end-le_rest : (k l m n : ℕ) → k < m → l < m → n ≡ m * m * m → l * (m * m) + m ≤ n - k * m
+column_end-le_rest k l m n h below e =
+    let next : l + 1 ≤ m = omega arith in
+    omega (arith, row_end-le k m m h, nat.mul-le-mul_right (m * m) next)
+
 -- the places of the constants in a part of their list
 module _ {E : Type 0} (o : Ops E) (m : ℕ) (cs : List E) where
   pub constant-row : (i j k : ℕ) → constant o m cs i j k ≡ at o (drop (i * m * m) cs) (j * m + k)

@@ -1,9 +1,9 @@
 // Basis elements and their products, by structure constants.
-ghost use Rattle.std.specs.Prelude.{◌≡◌, ◌*◌, ◌^◌, ◌<◌, ◌↔◌, IfOk, IsTrue};
+ghost use Rattle.std.specs.Prelude.{◌≡◌, ◌≢◌, ◌*◌, ◌^◌, ◌<◌, ◌↔◌, IfOk, IsTrue};
 ghost use Rattle.theory_rings.specs.Ops.{IsElem};
 ghost use Rattle.theory_spaces.specs.Tuples.{IsTuple, basis, product};
 
-use crate::products::{combination, same};
+use crate::products::{combination, first_of_combination, same};
 use spl_field::field::{Field, NoMemory};
 use spl_field::vector::Vector;
 use std::alloc::Global;
@@ -50,8 +50,40 @@ pub(crate) fn row_of<'a, F: Field>(
     &constants[start..start + m]
 }
 
-/// Whether (b_i·b_j)·b_k and b_i·(b_j·b_k) are the same.
-pub(crate) fn associates<F: Field>(
+/// Whether the first items of (b_i·b_j)·b_k and b_i·(b_j·b_k) differ.
+fn first_items_differ<F: Field>(
+    alloc: Global,
+    f: &F,
+    m: usize,
+    constants: &[F::Elem],
+    i: usize,
+    j: usize,
+    k: usize,
+) -> Result<bool, NoMemory>
+    requires fits { m * m * m < 2 ^ 64 }
+    requires over { IsTuple (F.ops f.now) (m * m * m) constants.now }
+    requires first { i < m }
+    requires second { j < m }
+    requires third { k < m }
+    ensures { IfOk result (λ b. IsTrue b →
+        product (F.ops f.now) m constants.now
+        (product (F.ops f.now) m constants.now (basis (F.ops f.now) m i) (basis (F.ops f.now) m j))
+        (basis (F.ops f.now) m k)
+        ≢ product (F.ops f.now) m constants.now
+        (basis (F.ops f.now) m i)
+        (product (F.ops f.now) m constants.now (basis (F.ops f.now) m j) (basis (F.ops f.now) m k))) }
+{
+    let first = row_of(f, m, constants, i, j);
+    let second = row_of(f, m, constants, j, k);
+    let by_k = &constants[k * m..];
+    let by_i = &constants[i * m * m..];
+    let left = first_of_combination(alloc, f, m, first, by_k, m * m)?;
+    let right = first_of_combination(alloc, f, m, second, by_i, m)?;
+    Ok(!f.eq(&left, &right))
+}
+
+/// The same, by all items.
+fn all_items_agree<F: Field>(
     alloc: Global,
     f: &F,
     m: usize,
@@ -90,4 +122,34 @@ pub(crate) fn associates<F: Field>(
         m,
     )?;
     Ok(same(f, left.as_slice(), right.as_slice()))
+}
+
+/// Whether (b_i·b_j)·b_k and b_i·(b_j·b_k) are the same. The first items are compared first, as where the products differ
+/// they mostly do.
+pub(crate) fn associates<F: Field>(
+    alloc: Global,
+    f: &F,
+    m: usize,
+    constants: &[F::Elem],
+    i: usize,
+    j: usize,
+    k: usize,
+) -> Result<bool, NoMemory>
+    requires fits { m * m * m < 2 ^ 64 }
+    requires over { IsTuple (F.ops f.now) (m * m * m) constants.now }
+    requires first { i < m }
+    requires second { j < m }
+    requires third { k < m }
+    ensures { IfOk result (λ b. IsTrue b ↔
+        (product (F.ops f.now) m constants.now
+        (product (F.ops f.now) m constants.now (basis (F.ops f.now) m i) (basis (F.ops f.now) m j))
+        (basis (F.ops f.now) m k)
+        ≡ product (F.ops f.now) m constants.now
+        (basis (F.ops f.now) m i)
+        (product (F.ops f.now) m constants.now (basis (F.ops f.now) m j) (basis (F.ops f.now) m k)))) }
+{
+    if first_items_differ(alloc, f, m, constants, i, j, k)? {
+        return Ok(false);
+    }
+    all_items_agree(alloc, f, m, constants, i, j, k)
 }

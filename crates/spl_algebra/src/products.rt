@@ -135,6 +135,34 @@ pub(crate) fn combination<F: Field>(
     Ok(sums)
 }
 
+/// The sum over l of b_l times the first item of row l, where a row begins each stride items. A zero of b costs no
+/// multiplication.
+pub(crate) fn first_of_combination<F: Field>(
+    alloc: Global,
+    f: &F,
+    m: usize,
+    b: &[F::Elem],
+    rows: &[F::Elem],
+    stride: usize,
+) -> Result<F::Elem, NoMemory>
+    requires coordinates { IsTuple (F.ops f.now) m b.now }
+    requires rows { All (IsElem (F.ops f.now)) rows.now }
+    requires within { (l : ℕ) → l < m → l * stride + m ≤ length rows.now }
+    requires positive { 1 ≤ m }
+    ensures elem { IfOk result (IsElem (F.ops f.now)) }
+    ensures value { IfOk result (λ r. r ≡ sum_of_rows (F.ops f.now) m b.now rows.now stride 0) }
+{
+    let zero = f.zero(alloc)?;
+    let mut total = f.zero(alloc)?;
+    for l in 0..m {
+        if !f.eq(&b[l], &zero) {
+            let term = f.mul(alloc, &b[l], &rows[l * stride])?;
+            total = f.add(alloc, &total, &term)?;
+        }
+    }
+    Ok(total)
+}
+
 /// Whether the lists are the same.
 pub(crate) fn same<F: Field>(f: &F, a: &[F::Elem], b: &[F::Elem]) -> bool
     requires left { All (IsElem (F.ops f.now)) a.now }

@@ -5,7 +5,7 @@ use Rattle.theory_spaces.specs.Tuples.{product, basis}
 use Rattle.spl_algebra.specs.Products.{sum_of_rows}
 use Rattle.spl_algebra.proofs.Rows.{row_end-le_rest}
 use Rattle.spl_algebra.proofs.BasisRows.{product-basis, basis-product}
-use Rattle.spl_algebra.proofs.basis.associates.Goals as goal
+use Rattle.spl_algebra.proofs.basis.all_items_agree.Goals as goal
 
 pub combination-requires-2-clause-within : goal.combination-requires-2-clause-within
 combination-requires-2-clause-within g c =
