@@ -1,0 +1,75 @@
+// What is measured: products and divisions of polynomials, kernels and linear systems, each computed as often as asked.
+//
+// It prints what it computed last, and never a time: that is taken from outside, at a large count, as by
+// `time spl_bench mul 256 100000`. The words are in `USAGE`; `bench/README.md` says how to compare it with plain Rust.
+#![tactic(auto)]
+
+mod entries;
+mod matrices;
+mod polynomials;
+
+use anyhow::Result;
+use spl_field::small::SmallField;
+use std::alloc::Global;
+use std::env;
+
+/// What is printed where the words are others.
+const USAGE: &str =
+    "usage: mul Q COUNT | divide Q COUNT | kernel COUNT | solve COUNT, Q = 5 or 256";
+
+/// The field with as many elements as the word says; None where it is none that is measured.
+fn field(alloc: Global, size: &str) -> Result<Option<SmallField>> {
+    match size {
+        "5" => Ok(Some(SmallField::new(alloc, 5, &[0])?)),
+        "256" => Ok(Some(SmallField::new(alloc, 2, &[1, 1, 0, 1, 1, 0, 0, 0])?)),
+        _ => Ok(None),
+    }
+}
+
+/// The line on what the word names, computed count times over f; None where the word is another.
+fn line(alloc: Global, word: &str, f: &SmallField, count: u64) -> Result<Option<String>> {
+    match word {
+        "mul" => Ok(Some(polynomials::multiply(alloc, f, count)?)),
+        "divide" => Ok(Some(polynomials::divide(alloc, f, count)?)),
+        "kernel" => Ok(Some(matrices::kernel(alloc, f, count)?)),
+        "solve" => Ok(Some(matrices::solve(alloc, f, count)?)),
+        _ => Ok(None),
+    }
+}
+
+/// The line for a word, a field and a count, which is at least 1.
+fn answer(alloc: Global, word: &str, size: &str, count: &str) -> Result<Option<String>> {
+    let Ok(count) = count.parse::<u64>() else {
+        return Ok(None);
+    };
+    match field(alloc, size)? {
+        Some(f) if count > 0 => line(alloc, word, &f, count),
+        _ => Ok(None),
+    }
+}
+
+/// The line for these words; None where they are of no form.
+fn report(alloc: Global, words: &[String]) -> Result<Option<String>> {
+    match words {
+        [word, size, count] if word.as_str() == "mul" || word.as_str() == "divide" => {
+            answer(alloc, word.as_str(), size.as_str(), count.as_str())
+        }
+        [word, count] if word.as_str() == "kernel" || word.as_str() == "solve" => {
+            answer(alloc, word.as_str(), "256", count.as_str())
+        }
+        _ => Ok(None),
+    }
+}
+
+fn main(rt: HostRuntime) -> Result<()> {
+    let alloc = rt.alloc();
+    let mut words = Vec::new(alloc);
+    for word in env::args(&rt)?.skip(1) {
+        words.push(String::from_str(alloc, word.as_str())?)?;
+    }
+    match report(alloc, &words)? {
+        Some(line) => println!(rt; "{line}")?,
+        None => println!(rt; "{USAGE}")?,
+    }
+    Ok(())
+}
