@@ -1,0 +1,2 @@
+pub mod FixedPoints
+pub mod Connected
