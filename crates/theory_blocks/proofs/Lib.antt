@@ -1,2 +1,5 @@
 pub mod FixedPoints
 pub mod Connected
+pub mod Newton
+pub mod Annihilation
+pub mod ZeroDivisors

@@ -1,1 +1,2 @@
 pub mod FixedPoints
+pub mod Splitting

@@ -3,7 +3,8 @@
 // theory_spaces and, for Fitting's lemma, theory_radical, and has no code: each public function does nothing, and its contract
 // is a theorem.
 //
-// Read specs/FixedPoints first, then the contracts in frobenius_laws.
+// Read specs/FixedPoints and specs/Splitting first, then the contracts in frobenius_laws and splitting_laws.
 #![tactic(auto)]
 
 pub mod frobenius_laws;
+pub mod splitting_laws;
