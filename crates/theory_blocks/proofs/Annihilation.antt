@@ -75,7 +75,7 @@ module _ {K : Type 0} (F : FieldOn K) (E : Enumerated K) where
             (λ (b : m < i). ap (λ t. F.◌⊗◌ (d i) t) (newton-root m i b) ∙ mul-zero F.ring (d i))
             (lt_or_gt i m q)
 
-    weights_below : (m : ℕ) → m ≤ n → m ≤ E.size → (j : ℕ) → j < m → d j ≡ F.zero
+    pub weights_below : (m : ℕ) → m ≤ n → m ≤ E.size → (j : ℕ) → j < m → d j ≡ F.zero
     weights_below zero l g j h = absurd (omega arith)
     weights_below (suc m) l g j h =
         let before = λ (i : ℕ) (b : i < m). weights_below m (omega arith) (omega arith) i b in

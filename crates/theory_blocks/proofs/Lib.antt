@@ -3,3 +3,4 @@ pub mod Connected
 pub mod Newton
 pub mod Annihilation
 pub mod ZeroDivisors
+pub mod Lagrange

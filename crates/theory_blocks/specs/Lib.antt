@@ -1,2 +1,3 @@
 pub mod FixedPoints
 pub mod Splitting
+pub mod Lagrange

@@ -3,7 +3,7 @@
 // theory_spaces and, for Fitting's lemma, theory_radical, and has no code: each public function does nothing, and its contract
 // is a theorem.
 //
-// Read specs/FixedPoints and specs/Splitting first, then the contracts in frobenius_laws and splitting_laws.
+// Read specs/FixedPoints, specs/Splitting and specs/Lagrange first, then the contracts in frobenius_laws and splitting_laws.
 #![tactic(auto)]
 
 pub mod frobenius_laws;

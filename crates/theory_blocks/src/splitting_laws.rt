@@ -2,6 +2,7 @@
 ghost use Rattle.std.specs.Prelude.{ℕ};
 ghost use Rattle.theory_rings.specs.Enumerated.{Enumerated};
 ghost use Rattle.theory_blocks.specs.Splitting.{ScalarFactorsVanish, ZeroDivisorsExist};
+ghost use Rattle.theory_blocks.specs.Lagrange.{LagrangeIdempotents};
 
 use theory_spaces::algebra_laws::BasedAlgebra;
 
@@ -13,4 +14,10 @@ pub fn scalar_factors_vanish<A: BasedAlgebra>()
 /// Where z^q = z and z is no multiple of one, z − c is a zero divisor other than 0 for some c of the field.
 pub fn zero_divisors<A: BasedAlgebra>()
     ensures { (E : Enumerated A.Scalar) → ZeroDivisorsExist A.field E A.algebra }
+{}
+
+/// Where z^q = z, the products of (z − d)/(c − d) over the d other than c are orthogonal idempotents with the sum 1, and z is the
+/// sum of their multiples by c.
+pub fn lagrange_idempotents<A: BasedAlgebra>()
+    ensures { (E : Enumerated A.Scalar) → LagrangeIdempotents A.field E A.algebra }
 {}
