@@ -191,6 +191,13 @@ module _ {K V : Type 0} (F : FieldOn K) (E : Enumerated K) (A : AlgebraOn F.ring
       sum_to_one = sum_congr A.monoid E.size (lagrange F E A z) (λ k. A.◌•◌ F.one (lagrange F E A z k))
           (λ k _. sym (A.one-scale (lagrange F E A z k)))
           ∙ interpolates (λ _. F.one) (λ i. (P i).one) poly_one (λ k l. refl);
+      scalar_on = λ k l. agree (λ i. (P i).◌⊗◌ (x i) (e k i)) (λ i. (P i).◌•◌ (E.member k) (e k i))
+          (poly_mul (e k) (poly_lagrange k)) (poly_scale (E.member k) (e k) (poly_lagrange k))
+          (λ m g. let y = e k (element (E.member m)) in ⊎_elim
+          (λ (q : m ≡ k). ap (λ t. F.◌⊗◌ (E.member t) y) q)
+          (λ (n : m ≡ k → ⊥). let none = lagrange_zero k m g n in
+          ap (λ t. F.◌⊗◌ (E.member m) t) none ∙ mul-zero F.ring (E.member m) ∙ sym (ap (λ t. F.◌⊗◌ (E.member k) t) none ∙ mul-zero F.ring (E.member k)))
+          (cases_eq m k));
       combines = sym (interpolates E.member x poly_variable (λ k l. refl));
     }
 

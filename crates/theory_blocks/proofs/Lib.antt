@@ -4,3 +4,4 @@ pub mod Newton
 pub mod Annihilation
 pub mod ZeroDivisors
 pub mod Lagrange
+pub mod SplitIdempotents

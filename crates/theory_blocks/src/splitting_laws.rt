@@ -2,7 +2,7 @@
 ghost use Rattle.std.specs.Prelude.{ℕ};
 ghost use Rattle.theory_rings.specs.Enumerated.{Enumerated};
 ghost use Rattle.theory_blocks.specs.Splitting.{ScalarFactorsVanish, ZeroDivisorsExist};
-ghost use Rattle.theory_blocks.specs.Lagrange.{LagrangeIdempotents};
+ghost use Rattle.theory_blocks.specs.Lagrange.{LagrangeIdempotents, SplitIdempotentsExist};
 
 use theory_spaces::algebra_laws::BasedAlgebra;
 
@@ -16,8 +16,13 @@ pub fn zero_divisors<A: BasedAlgebra>()
     ensures { (E : Enumerated A.Scalar) → ZeroDivisorsExist A.field E A.algebra }
 {}
 
-/// Where z^q = z, the products of (z − d)/(c − d) over the d other than c are orthogonal idempotents with the sum 1, and z is the
-/// sum of their multiples by c.
+/// Where z^q = z, the products of (z − d)/(c − d) over the d other than c are orthogonal idempotents with the sum 1; z is the
+/// scalar c on each, and the sum of their multiples by c.
 pub fn lagrange_idempotents<A: BasedAlgebra>()
     ensures { (E : Enumerated A.Scalar) → LagrangeIdempotents A.field E A.algebra }
+{}
+
+/// Where z^q = z and z is no multiple of one, one of these idempotents is neither 0 nor 1.
+pub fn split_idempotent<A: BasedAlgebra>()
+    ensures { (E : Enumerated A.Scalar) → SplitIdempotentsExist A.field E A.algebra }
 {}
