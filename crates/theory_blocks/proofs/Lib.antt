@@ -5,3 +5,4 @@ pub mod Annihilation
 pub mod ZeroDivisors
 pub mod Lagrange
 pub mod SplitIdempotents
+pub mod ConnectedFields

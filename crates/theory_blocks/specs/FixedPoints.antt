@@ -46,3 +46,8 @@ module _ {K V : Type 0} (F : FieldOn K) (E : Enumerated K) (A : AlgebraOn F.ring
   -- a commutative algebra in which 0 alone is nilpotent, and multiples of one alone solve z^q = z, has inverses
   abbrev pub FieldCriterion : Type 0
   FieldCriterion = IsCommutative A.ring → IsReduced A.ring → ((z : V) → IsFixed A.ring E.size z → IsScalar A z) → HasInverses A.ring
+
+  -- so where 1 is not 0 it is a field, with the same operations
+  abbrev pub ConnectedIsField : Type 0
+  ConnectedIsField = IsCommutative A.ring → IsReduced A.ring → ((z : V) → IsFixed A.ring E.size z → IsScalar A z)
+      → (A.one ≡ A.zero → ⊥) → (G : FieldOn V) × (G.ring ≡ A.ring)

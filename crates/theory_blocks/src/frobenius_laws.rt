@@ -1,7 +1,7 @@
 // Theorems on the solutions of z^q = z in a commutative algebra over a field of q elements.
 ghost use Rattle.std.specs.Prelude.{ℕ};
 ghost use Rattle.theory_rings.specs.Enumerated.{Enumerated};
-ghost use Rattle.theory_blocks.specs.FixedPoints.{FixedPointsLaw, FieldCriterion};
+ghost use Rattle.theory_blocks.specs.FixedPoints.{FixedPointsLaw, FieldCriterion, ConnectedIsField};
 
 use theory_spaces::algebra_laws::BasedAlgebra;
 
@@ -10,7 +10,13 @@ pub fn fixed_points_are_a_subalgebra<A: BasedAlgebra>()
     ensures { (E : Enumerated A.Scalar) → FixedPointsLaw A.field E A.algebra }
 {}
 
-/// A commutative algebra without nilpotent elements but 0, in which only the multiples of one solve z^q = z, is a field.
+/// In a commutative algebra without nilpotent elements but 0, in which only the multiples of one solve z^q = z, each element but 0
+/// has an inverse.
 pub fn field_criterion<A: BasedAlgebra>()
     ensures { (E : Enumerated A.Scalar) → FieldCriterion A.field E A.algebra }
+{}
+
+/// So with 1 other than 0 it is a field.
+pub fn connected_algebra_is_field<A: BasedAlgebra>()
+    ensures { (E : Enumerated A.Scalar) → ConnectedIsField A.field E A.algebra }
 {}
