@@ -13,6 +13,7 @@ use Rattle.theory_spaces.specs.Algebra.{IsNilpotent}
 use Rattle.theory_spaces.proofs.Modules.{zero-scale}
 use Rattle.theory_spaces.proofs.Spaces.{coords_of}
 use Rattle.theory_radical.specs.Ideal.{FittingIdempotent}
+use Rattle.theory_radical.proofs.Cores.{power-idempotent}
 use Rattle.theory_radical.proofs.Fitting.{fitting}
 use Rattle.theory_blocks.specs.FixedPoints.{IsReduced, IsScalar, FieldCriterion}
 use Rattle.theory_blocks.proofs.FixedPoints.{size_pos}
@@ -21,8 +22,7 @@ module _ {V : Type 0} (R : RingOn V) where
   -- the powers of an idempotent, but the first, are itself
   pub power_idempotent : (u : V) → R.◌⊗◌ u u ≡ u → (n : ℕ) → 0 < n → power R u n ≡ u
   power_idempotent u e zero l = absurd (omega arith)
-  power_idempotent u e (suc zero) l = R.mul-one u
-  power_idempotent u e (suc (suc n)) l = ap (λ y. R.◌⊗◌ u y) (power_idempotent u e (suc n) (omega arith)) ∙ e
+  power_idempotent u e (suc n) l = power-idempotent R u e n
 
   -- the idempotent is 0 only where a is nilpotent
   pub nilpotent_of_fitting : (a : V) (f : FittingIdempotent R a) → R.◌⊗◌ a f.cofactor ≡ R.zero → IsNilpotent R a
