@@ -1,0 +1,3 @@
+pub mod FixedPoints
+pub mod Splitting
+pub mod Lagrange
