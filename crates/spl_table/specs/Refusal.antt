@@ -22,6 +22,7 @@ abbrev pub IsWithinLimit : Extent → List ℕ → Type 0
 IsWithinLimit whole bytes = length bytes ≤ table_limit
 IsWithinLimit front bytes = Unit {0}
 
+-- the input has more bytes than the limit, which the front form doesn't have
 abbrev pub IsTooLong : Extent → List ℕ → Type 0
 IsTooLong whole bytes = table_limit < length bytes
 IsTooLong front bytes = ⊥
@@ -162,3 +163,9 @@ IsFirstFault extent bytes at kind = IsWithinLimit extent bytes × IsText bytes �
 
 abbrev pub IsRefusal : Extent → List ℕ → Refusal → Type 0
 IsRefusal extent bytes r = IsFirstFault extent bytes r.line r.kind
+
+-- Each byte string is the text of a table or has a refusal. No contract names this yet; `read_table` shows it of the whole
+-- form wherever memory suffices.
+abbrev pub EachIsTextOrRefused : Extent → Type 0
+EachIsTextOrRefused extent =
+    (bytes : List ℕ) → ((t : TableText) × (rest : List ℕ) × IsTableText extent bytes t rest) ⊎ ((f : Refusal) × IsRefusal extent bytes f)
