@@ -79,7 +79,7 @@ fn last_kernel(
 }
 
 /// Takes the kernel count times, and answers the line on the last.
-pub fn kernel(alloc: Global, f: &SmallField, count: u64) -> Result<String> {
+pub(crate) fn kernel(alloc: Global, f: &SmallField, count: u64) -> Result<String> {
     let m = matrix(alloc, f, KERNEL_HEIGHT, WIDTH)?;
     let dimension = last_kernel(alloc, f, &m, count)?.dim();
     Ok(format!(in alloc; "dimension {dimension}")?)
@@ -127,7 +127,7 @@ fn line(alloc: Global, solution: &Solution<SmallField>) -> Result<String> {
 }
 
 /// Solves the system count times, and answers the line on the last solution.
-pub fn solve(alloc: Global, f: &SmallField, count: u64) -> Result<String> {
+pub(crate) fn solve(alloc: Global, f: &SmallField, count: u64) -> Result<String> {
     let m = matrix(alloc, f, SYSTEM_HEIGHT, WIDTH)?;
     let right = vector(alloc, f, SYSTEM_HEIGHT, 5)?;
     let last = last_solution(alloc, f, &m, right.as_slice(), count)?;

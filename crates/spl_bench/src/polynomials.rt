@@ -68,7 +68,7 @@ fn last_product(
 }
 
 /// Multiplies count times, and answers the line on the last product.
-pub fn multiply(alloc: Global, f: &SmallField, count: u64) -> Result<String> {
+pub(crate) fn multiply(alloc: Global, f: &SmallField, count: u64) -> Result<String> {
     let a = poly(alloc, f, SHORT, 1)?;
     let b = poly(alloc, f, SHORT, 2)?;
     let last = last_product(alloc, f, &a, &b, count)?;
@@ -94,7 +94,7 @@ fn last_division(
 }
 
 /// Divides count times, and answers the line on the last remainder.
-pub fn divide(alloc: Global, f: &SmallField, count: u64) -> Result<String> {
+pub(crate) fn divide(alloc: Global, f: &SmallField, count: u64) -> Result<String> {
     let a = poly(alloc, f, LONG, 1)?;
     let b = poly(alloc, f, SHORT, 2)?;
     if b.is_zero() {
