@@ -11,4 +11,6 @@ mod fractions;
 #[cfg(test)]
 mod rows;
 #[cfg(test)]
+mod tables;
+#[cfg(test)]
 mod texts;
