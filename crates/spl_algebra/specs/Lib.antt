@@ -1,2 +1,4 @@
 pub mod Algebra
 pub mod Products
+pub mod Identity
+pub mod Subspaces

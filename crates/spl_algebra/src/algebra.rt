@@ -60,6 +60,18 @@ impl<F: Field> Algebra<F> {
         self.dim
     }
 
+    /// An equal algebra over f. The one fault is want of memory.
+    pub fn copy(&self, alloc: Global, f: &F) -> Result<Self, NoMemory>
+        requires { IsOver (F.ops f.now) self.now }
+        ensures { IfOk result (λ a. a ≡ self.now) }
+    {
+        let constants = self.constants.copy(alloc, f)?;
+        Ok(Algebra {
+            dim: self.dim,
+            constants,
+        })
+    }
+
     /// The product of a and b.
     pub fn mul(
         &self,

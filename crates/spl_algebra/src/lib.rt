@@ -1,11 +1,16 @@
 // Algebras of finite dimension over any field, by their structure constants.
 //
-// It stands on spl_field, and on theory_spaces for the definition of the product. Read the type `Algebra` first.
+// It stands on spl_field, on spl_matrix for the linear systems, on theory_spaces for the definition of the product, and on
+// spl_claims for what an identity, the centre and an ideal are. Read the type `Algebra` first.
 #![tactic(auto)]
 
 pub mod algebra;
 mod basis;
+pub mod centre;
+pub mod ideal;
+pub mod identity;
 pub mod laws;
 mod products;
 #[cfg(test)]
 mod tests;
+pub mod trace;

@@ -13,4 +13,5 @@ mod reading;
 mod reduction;
 #[cfg(test)]
 mod tests;
+pub mod tuples;
 mod writing;

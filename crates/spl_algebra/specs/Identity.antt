@@ -1,0 +1,15 @@
+-- What the answer to the question for an identity shows.
+use Rattle.std.specs.Prelude.{◌≡◌, ◌↔◌, ◌<◌, ℕ, List}
+use Rattle.theory_rings.specs.Ops.{Ops}
+use Rattle.theory_spaces.specs.Tuples.{IsTuple, IsTableOne}
+use Rattle.spl_matrix.specs.Subspace.{Rows, InSpan}
+use Rattle.spl_claims.specs.Algebras.{IsCentral, SpansIdeal}
+use Rattle.spl_claims.specs.Claims.{NoIdentityClaim}
+use Rattle.spl_algebra.specs.Algebra.{Structure}
+use Rattle.spl_algebra.specs.declared.identity.One.{One}
+use Rattle.spl_algebra.specs.declared.identity.One.TheVariants.{Here, Refuted}
+
+-- the tuple is an identity, or the multipliers refute that there is one
+abbrev pub IsOne : {F E : Type 0} → Ops E → Structure E → One F E → Type 0
+IsOne o A (Here tuple) = IsTableOne o A.dim A.constants tuple
+IsOne o A (Refuted left right) = NoIdentityClaim o A.dim A.constants left right

@@ -1,0 +1,20 @@
+-- The centre of an algebra as a subspace, and the ideal that a subspace generates.
+use Rattle.std.specs.Prelude.{◌≡◌, ◌↔◌, ◌<◌, ℕ, List}
+use Rattle.theory_rings.specs.Ops.{Ops}
+use Rattle.theory_spaces.specs.Tuples.{IsTuple}
+use Rattle.spl_matrix.specs.Subspace.{InSpan}
+use Rattle.spl_claims.specs.Algebras.{IsCentral, SpansIdeal}
+use Rattle.spl_algebra.specs.Algebra.{Structure}
+
+module _ {E : Type 0} (o : Ops E) (A : Structure E) where
+  -- the combinations of the rows are the central elements
+  abbrev pub SpansCentre : List (List E) → Type 0
+  SpansCentre rows = (v : List E) → IsTuple o A.dim v → (InSpan o A.dim rows v ↔ IsCentral o A.dim A.constants v)
+
+  -- the rows span an ideal that holds the combinations of `by`, and lies in each ideal that does
+  pub record GeneratesIdeal (by rows : List (List E)) : Type 0 where
+    pub ideal : SpansIdeal o A.dim A.constants rows
+    pub holds : (v : List E) → IsTuple o A.dim v → InSpan o A.dim by v → InSpan o A.dim rows v
+    pub least : (other : List (List E)) → SpansIdeal o A.dim A.constants other
+        → ((v : List E) → IsTuple o A.dim v → InSpan o A.dim by v → InSpan o A.dim other v)
+        → (v : List E) → IsTuple o A.dim v → InSpan o A.dim rows v → InSpan o A.dim other v

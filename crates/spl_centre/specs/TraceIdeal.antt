@@ -1,0 +1,13 @@
+-- A basis of the radical of the trace form, as evidence.
+use Rattle.std.specs.Prelude.{◌↔◌, ℕ, List}
+use Rattle.theory_rings.specs.Ops.{Ops}
+use Rattle.theory_spaces.specs.Tuples.{IsTuple}
+use Rattle.spl_matrix.specs.Subspace.{InSpan}
+use Rattle.spl_algebra.specs.Algebra.{Structure}
+use Rattle.spl_claims.specs.Traces.{InTraceRadical}
+use Rattle.spl_claims.specs.Claims.{IdealClaim}
+
+-- the tuples are a basis of an ideal, neither 0 nor everything, and it is the radical of the trace form
+pub record IsTraceIdeal {E : Type 0} (o : Ops E) (A : Structure E) (tuples : List (List E)) : Type 0 where
+  pub claim : IdealClaim o A.dim A.constants tuples
+  pub spans : (a : List E) → IsTuple o A.dim a → (InSpan o A.dim tuples a ↔ InTraceRadical o A.dim A.constants a)

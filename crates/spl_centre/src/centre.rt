@@ -1,0 +1,70 @@
+// Identity, centre and trace form.
+ghost use Rattle.std.specs.Prelude.{◌≡◌, ◌≢◌, ◌%◌, IfOk, MatchOption};
+ghost use Rattle.spl_field.specs.SmallField.{characteristic};
+ghost use Rattle.spl_fraction.specs.Fractions.{field_of};
+ghost use Rattle.spl_fraction.specs.FractionsOver.{fractions_over};
+ghost use Rattle.spl_algebra.specs.Algebra.{IsOver, IsAssociative};
+ghost use Rattle.spl_algebra.specs.Identity.{IsOne};
+ghost use Rattle.spl_claims.specs.Algebras.{HasIdentity, HasSmallCentre};
+ghost use Rattle.spl_claims.specs.Traces.{IsNondegenerate};
+ghost use Rattle.spl_claims.specs.Claims.{CentralClaim};
+ghost use Rattle.spl_centre.specs.TraceIdeal.{IsTraceIdeal};
+
+use spl_algebra::algebra::Algebra;
+use spl_algebra::identity::One;
+use spl_field::field::NoMemory;
+use spl_fraction::field::Fractions;
+use spl_fraction::tuples::{Tuple, Tuples};
+use std::alloc::{AllocError, Global};
+
+/// An algebra over the rational functions.
+pub type KAlgebra = Algebra<Fractions>;
+
+/// The identity, or what refutes that there is one. The one fault is want of memory.
+pub fn identity_or_refutation(
+    alloc: Global,
+    f: &Fractions,
+    a: &KAlgebra,
+) -> Result<One<Fractions>, NoMemory>
+    requires { IsOver (fractions_over (field_of f.now)) a.now }
+    ensures { IfOk result (IsOne (fractions_over (field_of f.now)) a.now) }
+{
+    a.identity(alloc, f)
+}
+
+/// A central element that is no multiple of the identity; None exactly where the centre is the multiples of the
+/// identity. The one fault is want of memory.
+pub fn centre_fault(
+    alloc: Global,
+    f: &Fractions,
+    a: &KAlgebra,
+) -> Result<Option<Tuple>, NoMemory>
+    requires over { IsOver (fractions_over (field_of f.now)) a.now }
+    requires associative { IsAssociative (fractions_over (field_of f.now)) a.now }
+    requires identity { HasIdentity (fractions_over (field_of f.now)) a.now.dim a.now.constants }
+    ensures { IfOk result (λ r. MatchOption r
+        (HasSmallCentre (fractions_over (field_of f.now)) a.now.dim a.now.constants)
+        (CentralClaim (fractions_over (field_of f.now)) a.now.dim a.now.constants)) }
+{
+    let _ = (alloc, f, a);
+    Err(NoMemory::from(AllocError))
+}
+
+/// A basis of the radical of the trace form, the set of all a with tr(a·b) = 0 for each b; None exactly where it is 0. The
+/// characteristic doesn't divide the dimension, so that the trace of the identity isn't 0. The one fault is want of memory.
+pub fn trace_ideal(
+    alloc: Global,
+    f: &Fractions,
+    a: &KAlgebra,
+) -> Result<Option<Tuples>, NoMemory>
+    requires over { IsOver (fractions_over (field_of f.now)) a.now }
+    requires associative { IsAssociative (fractions_over (field_of f.now)) a.now }
+    requires identity { HasIdentity (fractions_over (field_of f.now)) a.now.dim a.now.constants }
+    requires apart { a.now.dim % characteristic (field_of f.now) ≢ 0 }
+    ensures { IfOk result (λ r. MatchOption r
+        (IsNondegenerate (fractions_over (field_of f.now)) a.now.dim a.now.constants)
+        (IsTraceIdeal (fractions_over (field_of f.now)) a.now)) }
+{
+    let _ = (alloc, f, a);
+    Err(NoMemory::from(AllocError))
+}

@@ -1,0 +1,5 @@
+pub mod Algebras
+pub mod Traces
+pub mod Split
+pub mod Claims
+pub mod Laws

@@ -1,0 +1,52 @@
+-- Which kind of evidence a table has: the first that fits of a failed triple, no identity, a large centre, a degenerate
+-- trace form.
+use Rattle.std.specs.Prelude.{◌≡◌, ◌↔◌, ◌≤◌, ℕ, List}
+use Rattle.theory_rings.specs.Ops.{Ops}
+use Rattle.theory_spaces.specs.Tuples.{IsTuple}
+use Rattle.spl_matrix.specs.Subspace.{InSpan}
+use Rattle.spl_algebra.specs.Algebra.{Structure, IsAssociative}
+use Rattle.spl_fraction.specs.Fraction.{Pair}
+use Rattle.spl_claims.specs.Algebras.{HasIdentity, HasSmallCentre, IsCentralSimple}
+use Rattle.spl_claims.specs.Traces.{InTraceRadical, IsNondegenerate}
+use Rattle.spl_claims.specs.Split.{IsSplit}
+use Rattle.spl_evidence.specs.declared.evidence.Evidence.{Evidence}
+use Rattle.spl_evidence.specs.declared.evidence.Evidence.TheVariants.{Triple, NoIdentity, Central, Ideal}
+use Rattle.spl_evidence.specs.Claim.{Claim}
+use Rattle.spl_table.specs.Triple.{IsFirstFailed}
+
+module _ (o : Ops (Pair ℕ)) (A : Structure (Pair ℕ)) where
+  -- an associative algebra with identity whose centre is larger than the multiples of it
+  pub record HasLargeCentre : Type 0 where
+    pub associative : IsAssociative o A
+    pub identity : HasIdentity o A.dim A.constants
+    pub large : HasSmallCentre o A.dim A.constants → ⊥
+
+  -- an associative algebra with identity and a small centre, whose trace form has the combinations of the tuples as its
+  -- radical, and not 0 alone
+  pub record HasDegenerateForm (tuples : List (List (Pair ℕ))) : Type 0 where
+    pub associative : IsAssociative o A
+    pub centre : HasSmallCentre o A.dim A.constants
+    pub degenerate : IsNondegenerate o A.dim A.constants → ⊥
+    pub radical : (a : List (Pair ℕ)) → IsTuple o A.dim a → (InSpan o A.dim tuples a ↔ InTraceRadical o A.dim A.constants a)
+
+  -- the evidence is of the kind that the algebra has
+  abbrev pub IsOfKind : Evidence → Type 0
+  IsOfKind (Triple i j k) = IsFirstFailed o A (record { i = i; j = j; k = k })
+  IsOfKind (NoIdentity left right) = IsAssociative o A × (HasIdentity o A.dim A.constants → ⊥)
+  IsOfKind (Central tuple) = HasLargeCentre
+  IsOfKind (Ideal tuples) = HasDegenerateForm tuples
+
+  -- evidence of the right kind, whose claim holds, so that the algebra isn't central simple, and no matrices of any size
+  -- n ≥ 1 split it
+  pub record IsEvidence (e : Evidence) : Type 0 where
+    pub kind : IsOfKind e
+    pub claim : Claim o A e
+    pub not_central_simple : IsCentralSimple o A.dim A.constants → ⊥
+    pub not_split : (n : ℕ) → 1 ≤ n → IsSplit o A.dim A.constants n → ⊥
+
+  -- no kind fits, so that the algebra is central simple
+  pub record HasNoFault : Type 0 where
+    pub associative : IsAssociative o A
+    pub centre : HasSmallCentre o A.dim A.constants
+    pub nondegenerate : IsNondegenerate o A.dim A.constants
+    pub central_simple : IsCentralSimple o A.dim A.constants

@@ -1,0 +1,14 @@
+-- What each evidence claims of an algebra over the fractions.
+use Rattle.std.specs.Prelude.{ℕ}
+use Rattle.theory_rings.specs.Ops.{Ops}
+use Rattle.spl_fraction.specs.Fraction.{Pair}
+use Rattle.spl_algebra.specs.Algebra.{Structure}
+use Rattle.spl_claims.specs.Claims.{TripleClaim, NoIdentityClaim, CentralClaim, IdealClaim}
+use Rattle.spl_evidence.specs.declared.evidence.Evidence.{Evidence}
+use Rattle.spl_evidence.specs.declared.evidence.Evidence.TheVariants.{Triple, NoIdentity, Central, Ideal}
+
+abbrev pub Claim : Ops (Pair ℕ) → Structure (Pair ℕ) → Evidence → Type 0
+Claim o A (Triple i j k) = TripleClaim o A.dim A.constants i j k
+Claim o A (NoIdentity left right) = NoIdentityClaim o A.dim A.constants left right
+Claim o A (Central tuple) = CentralClaim o A.dim A.constants tuple
+Claim o A (Ideal tuples) = IdealClaim o A.dim A.constants tuples

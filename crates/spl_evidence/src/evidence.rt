@@ -1,0 +1,21 @@
+// Evidence.
+use spl_fraction::field::Fractions;
+use spl_fraction::tuples::{Tuple, Tuples};
+use spl_matrix::lists::Multipliers;
+
+/// Why an algebra isn't central simple. Basis elements are counted from 1.
+#[derive(Drop)]
+pub enum Evidence {
+    /// The products (b_i·b_j)·b_k and b_i·(b_j·b_k) differ.
+    Triple { i: usize, j: usize, k: usize },
+    /// Multipliers by which the equations of an identity give 0 = 1: `left` those of Σ_i e_i·γ_ijk = δ_jk at (j, k), and
+    /// `right` those of Σ_i e_i·γ_jik = δ_jk.
+    NoIdentity {
+        left: Multipliers<Fractions>,
+        right: Multipliers<Fractions>,
+    },
+    /// A central element that is no multiple of an identity.
+    Central { tuple: Tuple },
+    /// A basis of an ideal that is neither 0 nor everything.
+    Ideal { tuples: Tuples },
+}
