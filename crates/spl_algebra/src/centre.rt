@@ -17,7 +17,8 @@ impl<F: Field> Algebra<F> {
         ensures width { IfOk result (λ s. s.width ≡ self.now.dim) }
         ensures members { IfOk result (λ s. SpansCentre (F.ops f.now) self.now s.rows) }
     {
-        let _ = (alloc, f);
+        let _ = alloc;
+        let _ = f;
         Err(NoMemory::from(AllocError))
     }
 }

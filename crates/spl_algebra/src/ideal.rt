@@ -24,7 +24,9 @@ impl<F: Field> Algebra<F> {
         ensures width { IfOk result (λ s. s.width ≡ self.now.dim) }
         ensures members { IfOk result (λ s. GeneratesIdeal (F.ops f.now) self.now by.now.rows s.rows) }
     {
-        let _ = (alloc, f, by);
+        let _ = alloc;
+        let _ = f;
+        let _ = by;
         Err(NoMemory::from(AllocError))
     }
 }

@@ -29,7 +29,8 @@ impl<F: Field> Algebra<F> {
         requires { IsOver (F.ops f.now) self.now }
         ensures { IfOk result (IsOne (F.ops f.now) self.now) }
     {
-        let _ = (alloc, f);
+        let _ = alloc;
+        let _ = f;
         Err(NoMemory::from(AllocError))
     }
 }

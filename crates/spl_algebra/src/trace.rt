@@ -18,7 +18,9 @@ impl<F: Field> Algebra<F> {
         ensures shape { IfOk result (IsMatrix (F.ops f.now) self.now.dim) }
         ensures value { IfOk result (λ r. r ≡ left_matrix (F.ops f.now) self.now.dim self.now.constants a.now) }
     {
-        let _ = (alloc, f, a);
+        let _ = alloc;
+        let _ = f;
+        let _ = a;
         Err(NoMemory::from(AllocError))
     }
 
@@ -29,7 +31,8 @@ impl<F: Field> Algebra<F> {
         ensures shape { IfOk result (IsMatrix (F.ops f.now) self.now.dim) }
         ensures value { IfOk result (λ r. r ≡ trace_form (F.ops f.now) self.now.dim self.now.constants) }
     {
-        let _ = (alloc, f);
+        let _ = alloc;
+        let _ = f;
         Err(NoMemory::from(AllocError))
     }
 }

@@ -46,7 +46,9 @@ pub fn centre_fault(
         (HasSmallCentre (fractions_over (field_of f.now)) a.now.dim a.now.constants)
         (CentralClaim (fractions_over (field_of f.now)) a.now.dim a.now.constants)) }
 {
-    let _ = (alloc, f, a);
+    let _ = alloc;
+    let _ = f;
+    let _ = a;
     Err(NoMemory::from(AllocError))
 }
 
@@ -65,6 +67,8 @@ pub fn trace_ideal(
         (IsNondegenerate (fractions_over (field_of f.now)) a.now.dim a.now.constants)
         (IsTraceIdeal (fractions_over (field_of f.now)) a.now)) }
 {
-    let _ = (alloc, f, a);
+    let _ = alloc;
+    let _ = f;
+    let _ = a;
     Err(NoMemory::from(AllocError))
 }

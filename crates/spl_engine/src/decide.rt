@@ -17,6 +17,7 @@ pub fn decide(alloc: Global, table: &Table) -> Result<Option<Evidence>, NoMemory
     ensures { IfOk result (λ r. MatchOption r (HasNoFault (ops_of table.now) (algebra_of table.now))
         (IsEvidence (ops_of table.now) (algebra_of table.now))) }
 {
-    let _ = (alloc, table);
+    let _ = alloc;
+    let _ = table;
     Err(NoMemory::from(AllocError))
 }

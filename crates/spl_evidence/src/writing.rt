@@ -21,6 +21,9 @@ pub fn write_evidence(
     requires fits { Fits (fractions_over (field_of f.now)) (n * n) e.now }
     ensures { IfOk result (λ text. IsEvidenceText (fractions_over (field_of f.now)) (n * n) text.items e.now) }
 {
-    let _ = (alloc, f, n, e);
+    let _ = alloc;
+    let _ = f;
+    let _ = n;
+    let _ = e;
     Err(NoMemory::from(AllocError))
 }
