@@ -158,6 +158,6 @@ module _ {E : Type 0} (o : Ops E) (L : FieldLaws o) (m : ℕ) (cs : List E) wher
             let rows = form_row o L m cs g assoc h.one h.is_one x in (
               λ k i i_in. rows i i_in ∙ ap (λ (c : Elem o). c.0) (to x k (B.vec i)),
               λ k. from x a refl (orthogonal_of_basis o L m cs g assoc h.one h.is_one x (λ i i_in.
-              Elem-path o (tr (A.◌⊗◌ x (B.vec i))) K.zero (sym (rows i i_in) ∙ k i i_in))),
+                  Elem-path o (tr (A.◌⊗◌ x (B.vec i))) K.zero (sym (rows i i_in) ∙ k i i_in))),
             );
       }
