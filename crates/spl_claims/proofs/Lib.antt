@@ -1,1 +1,3 @@
+pub mod Bridge
+pub mod Exclusions
 pub mod Splittings
