@@ -1,3 +1,5 @@
 pub mod Bridge
 pub mod Exclusions
+pub mod TableAlgebras
 pub mod Splittings
+pub mod SplitCentralSimple

@@ -10,7 +10,7 @@ use Rattle.theory_rings.specs.Ops.{Ops, IsElem, FieldLaws}
 use Rattle.theory_rings.specs.Elements.{Elem, Elem-path, elements}
 use Rattle.theory_rings.specs.Sum.{sum, sum_of, table, at}
 use Rattle.theory_rings.proofs.Rings.Fields.{field_set}
-use Rattle.theory_rings.proofs.Rings.Elements.{sum_of-elements, sum_of_congr}
+use Rattle.theory_rings.proofs.Rings.Elements.{sum_of-elements}
 use Rattle.theory_rings.proofs.Sums.Sums.{sum_congr, sum-add, mul-sum}
 use Rattle.theory_rings.proofs.Sums.Lists.{length-table}
 use Rattle.theory_spaces.specs.Module.{ModuleOn, AlgebraOn, module_of}
@@ -18,16 +18,16 @@ use Rattle.theory_spaces.specs.Linear.{IsLinear}
 use Rattle.theory_spaces.specs.Matrix.{Matrix, Mat, delta, mat_mul}
 use Rattle.theory_spaces.specs.Space.{SpaceOn}
 use Rattle.theory_spaces.specs.AlgebraMap.{IsAlgebraIso}
-use Rattle.theory_spaces.specs.Tuples.{IsTuple, Tuple, tuple_zero, tuple_add, tuple_scale, basis, constant, product, AssociativeTable, IsTableOne, IsTableAlgebra}
+use Rattle.theory_spaces.specs.Tuples.{Tuple, basis, product, AssociativeTable, IsTableOne}
 use Rattle.theory_spaces.proofs.Modules.{linear_ext, linear_comp, left_linear, right_linear}
 use Rattle.theory_spaces.proofs.Matrices.{sum-delta_mul, delta_comm, mat, mat-entry, Mat-ext}
 use Rattle.theory_spaces.proofs.MatrixAlgebra.{matrix_algebra}
 use Rattle.theory_spaces.proofs.Isomorphisms.{map-one_of_surjective}
 use Rattle.theory_spaces.proofs.Tables.{unit, coord-unit, in_units, table_mul, coord-unit_mul, product_left, product_right}
-use Rattle.theory_spaces.proofs.Tuples.{IsTuple-is_tuple, is_tuple-IsTuple, Tuple-path, entry, tuples, tuple_space, plus-at}
+use Rattle.theory_spaces.proofs.Tuples.{IsTuple-is_tuple, is_tuple-IsTuple, Tuple-path, entry, tuples, tuple_space}
 use Rattle.theory_spaces.proofs.TupleProducts.{element_constant, tuple_product, tuple_product-list, IsTuple-basis, tuple_algebra}
 use Rattle.theory_orders.specs.Split.{mat_comb}
-use Rattle.spl_matrix.specs.Matrix.{IsMatrix, entry as at_entry}
+use Rattle.spl_matrix.specs.Matrix.{entry as at_entry}
 use Rattle.spl_matrix.proofs.Sums.{entry-elem, table_matrix, entry_table}
 use Rattle.spl_claims.specs.Split.{IsSquare, map_entry, IsCombination, IsSplitBy}
 
