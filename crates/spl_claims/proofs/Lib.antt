@@ -3,3 +3,4 @@ pub mod Exclusions
 pub mod TableAlgebras
 pub mod Splittings
 pub mod SplitCentralSimple
+pub mod Examples
