@@ -1,6 +1,6 @@
 -- The table of the 2 by 2 matrices: it is split by the matrices with one entry 1 and else 0, and changed in one constant
 -- it isn't associative. Maps that are 0 split nothing.
-use Rattle.std.specs.Prelude.{◌≡◌, ◌≢◌, ℕ, ◌+◌, ◌*◌, ◌/◌, ◌%◌, ◌<◌, ◌≤◌, ◌==◌, ◌&&◌, Bool, true, false, cond, eqb, List, [], ◌∷◌, length, get_or}
+use Rattle.std.specs.Prelude.{◌≡◌, ◌≢◌, ℕ, ◌+◌, ◌*◌, ◌/◌, ◌%◌, ◌<◌, ◌≤◌, ◌==◌, ◌&&◌, Bool, true, false, cond, eqb, List, [], get_or}
 use Rattle.std.specs.List.{All}
 use Rattle.std.proofs.Common.{refl, sym, ◌∙◌, ap, ap₂, arith, ⊎_elim}
 use Rattle.std.proofs.lemmas.Bool.{cases_eq, eq-eqb, ne_eqb}
@@ -8,9 +8,8 @@ use Rattle.std.proofs.lemmas.Nat.{div-mul-add, mod-mul-add, div-add-mod'}
 use Rattle.theory_rings.specs.Ring.{FieldOn, RingOn}
 use Rattle.theory_rings.specs.Ops.{Ops, IsElem, FieldLaws}
 use Rattle.theory_rings.specs.Elements.{Elem, Elem-path, elements}
-use Rattle.theory_rings.specs.Sum.{sum, sum_of, table, at}
+use Rattle.theory_rings.specs.Sum.{sum_of, table, at}
 use Rattle.theory_rings.proofs.Rings.RingLaws.{add-neg}
-use Rattle.theory_rings.proofs.Rings.Semirings.{semiring, mul_left_comm}
 use Rattle.theory_rings.proofs.Rings.Solver.{unit, ◌⊞◌, ◌⊠◌, minus, ring1, ring4}
 use Rattle.theory_rings.proofs.Rings.Elements.{at-elem, sum_of-elements, sum_of_congr}
 use Rattle.theory_rings.proofs.Sums.Sums.{sum_congr}
@@ -24,7 +23,7 @@ use Rattle.theory_spaces.proofs.TupleProducts.{product_basis, product-scale, IsT
 use Rattle.spl_matrix.specs.Matrix.{IsMatrix, entry}
 use Rattle.spl_matrix.proofs.Terms.{mul-zero, zero-mul, mul-one, cond_either}
 use Rattle.spl_matrix.proofs.Sums.{sum_of_zeros, entry-elem, table_matrix, entry_table}
-use Rattle.spl_claims.specs.Split.{IsSquare, map_entry, IsCombination, IsSplitBy}
+use Rattle.spl_claims.specs.Split.{IsSquare, map_entry, IsSplitBy}
 use Rattle.spl_claims.specs.Claims.{TripleClaim, SplitClaim}
 use Rattle.spl_claims.specs.Examples.{matrix_table, matrix_table_with, matrix_basis, unit_maps, row_12}
 
@@ -134,10 +133,13 @@ module _ {E : Type 0} (o : Ops E) (L : FieldLaws o) where
     multiplies = maps_multiply;
     onto = λ x h.
         let c : List E = table 4 (λ k. entry o x (k / 2) (k % 2)) in
-        let t = IsTuple-table o 4 (λ k. entry o x (k / 2) (k % 2)) (λ k _. entry-elem o L 2 x h.shape (k / 2) (k % 2)) in
-        (c, t, λ r s hr hs. sym (list_combination-at c t.of_elements r s hr hs
-            ∙ at-table o 4 (λ k. entry o x (k / 2) (k % 2)) (r * 2 + s) (pair-lt 2 2 r s hr hs)
-            ∙ ap₂ (entry o x) (div-mul-add r 2 s hs) (mod-mul-add r 2 s hs)));
+        let t = IsTuple-table o 4 (λ k. entry o x (k / 2) (k % 2)) (λ k _. entry-elem o L 2 x h.shape (k / 2) (k % 2)) in (
+          c,
+          t,
+          λ r s hr hs. sym (list_combination-at c t.of_elements r s hr hs
+              ∙ at-table o 4 (λ k. entry o x (k / 2) (k % 2)) (r * 2 + s) (pair-lt 2 2 r s hr hs)
+              ∙ ap₂ (entry o x) (div-mul-add r 2 s hs) (mod-mul-add r 2 s hs)),
+        );
     once = λ x c d h hc hd ec ed. IsTuple-ext o 4 c d hc hd (λ k hk.
         let same : (r s : ℕ) → r < 2 → s < 2 → at o c (r * 2 + s) ≡ at o d (r * 2 + s) = λ r s hr hs.
         sym (list_combination-at c hc.of_elements r s hr hs) ∙ sym (ec r s hr hs) ∙ ed r s hr hs ∙ list_combination-at d hd.of_elements r s hr hs in
