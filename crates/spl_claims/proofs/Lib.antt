@@ -5,3 +5,5 @@ pub mod CentralSimple
 pub mod Splittings
 pub mod SplitCentralSimple
 pub mod Examples
+pub mod TableSets
+pub mod TableOrders
