@@ -7,3 +7,4 @@ pub mod SplitCentralSimple
 pub mod Examples
 pub mod TableSets
 pub mod TableOrders
+pub mod RamifiedTables
