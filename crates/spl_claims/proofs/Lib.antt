@@ -8,3 +8,4 @@ pub mod Examples
 pub mod TableSets
 pub mod TableOrders
 pub mod RamifiedTables
+pub mod RamifiedExample

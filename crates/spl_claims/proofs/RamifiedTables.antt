@@ -1,21 +1,16 @@
--- A ramified place of a table is one of its algebra. So a table with a ramified place is not split by matrices, and a field
--- with a square root of p has a ramified place at p.
-use Rattle.std.specs.Prelude.{◌≡◌, ◌↔◌, ℕ, zero, suc, ◌<◌, ◌≤◌, ◌*◌, Bool, IsTrue, List, [], ◌∷◌, length, get_or}
+-- A ramified place of a table is one of its algebra, so a table with a ramified place is not split by matrices.
+use Rattle.std.specs.Prelude.{◌≡◌, ◌↔◌, ℕ, ◌<◌, ◌≤◌, ◌*◌, IsTrue, List, [], length, get_or}
 use Rattle.std.specs.List.{All}
-use Rattle.std.proofs.Common.{refl, sym, ◌∙◌, ap, ap₂, subst, arith}
-use Rattle.std.proofs.lemmas.List.Elements.{All-nil, All-cons}
+use Rattle.std.proofs.Common.{refl, sym, subst}
 use Rattle.theory_rings.specs.Ring.{FieldOn}
 use Rattle.theory_rings.specs.Ops.{Ops, IsElem, FieldLaws}
-use Rattle.theory_rings.specs.Elements.{Elem, Elem-path, elements}
-use Rattle.theory_rings.specs.Sum.{table, at}
-use Rattle.theory_rings.proofs.Rings.Elements.{at-elem}
-use Rattle.theory_rings.proofs.Rings.Solver.{var, v0, v1, v2, v3, v4, nil, unit, ◌⊞◌, ◌⊠◌, by_sorted}
+use Rattle.theory_rings.specs.Elements.{Elem, elements}
 use Rattle.theory_spaces.specs.Module.{AlgebraOn, module_of}
 use Rattle.theory_spaces.specs.Linear.{Independent}
 use Rattle.theory_spaces.specs.Valuation.{ValuationOn}
-use Rattle.theory_spaces.specs.Tuples.{IsTuple, Tuple, tuple_zero, tuple_add, tuple_scale, product, AssociativeTable, IsTableOne}
+use Rattle.theory_spaces.specs.Tuples.{IsTuple, Tuple, AssociativeTable, IsTableOne}
 use Rattle.theory_spaces.proofs.Families.{choose_each}
-use Rattle.theory_spaces.proofs.Tuples.{IsTuple-is_tuple, is_tuple-IsTuple, IsTuple-ext, Tuple-path}
+use Rattle.theory_spaces.proofs.Tuples.{IsTuple-is_tuple, is_tuple-IsTuple, Tuple-path}
 use Rattle.theory_spaces.proofs.MatrixAlgebra.{matrix_algebra_is}
 use Rattle.theory_rings.proofs.Rings.Fields.{field_set}
 use Rattle.theory_orders.specs.Uniformizer.{UniformizerOn}
@@ -23,11 +18,9 @@ use Rattle.theory_orders.specs.Orders as orders
 use Rattle.theory_orders.specs.Lattices as lattices
 use Rattle.theory_orders.specs.Ramified.{IsRamified}
 use Rattle.theory_orders.proofs.Ramified.{not_isomorphic}
-use Rattle.theory_orders.proofs.Example.{root_algebra, order_vectors, radical_vectors, ramified_example}
 use Rattle.spl_matrix.specs.Matrix.{IsMatrix}
 use Rattle.spl_claims.specs.Split.{IsSplit}
-use Rattle.spl_claims.specs.Ramified.{IsIntegralBy, Lattice, Multiple, LeftOrder, IsLatticeBasis, RamifiedClaim}
-use Rattle.spl_claims.specs.Examples.{pair, root_table, root_order, root_radical}
+use Rattle.spl_claims.specs.Ramified.{Lattice, Multiple, LeftOrder, IsLatticeBasis, RamifiedClaim}
 use Rattle.spl_claims.proofs.Bridge.{algebra, algebra_is, table_basis}
 use Rattle.spl_claims.proofs.Splittings.{split_one, split_one_is, split_associative, rep, split_isomorphism, B}
 use Rattle.spl_claims.proofs.TableSets.{IsWritten, within_to, within_from, multiple_matches, left_order_matches}

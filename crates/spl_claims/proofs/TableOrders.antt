@@ -1,17 +1,17 @@
 -- Orders, ideals, radicals, simple quotients and lattices of an algebra whose vectors are written as tuples are those of
 -- its tuples.
-use Rattle.std.specs.Prelude.{◌≡◌, ◌↔◌, ℕ, zero, suc, ◌<◌, ◌⊎◌, Bool, IsTrue, List, [], length, get_or}
+use Rattle.std.specs.Prelude.{◌≡◌, ◌↔◌, ℕ, zero, suc, ◌<◌, Bool, IsTrue, List, [], length, get_or}
 use Rattle.std.specs.List.{All}
 use Rattle.std.proofs.Common.{refl, sym, ◌∙◌, ap, ap₂, subst, inl, inr, ⊎_elim}
 use Rattle.theory_rings.specs.Ring.{FieldOn}
 use Rattle.theory_rings.specs.Ops.{Ops, IsElem, FieldLaws}
 use Rattle.theory_rings.specs.Elements.{Elem, Elem-path, elements}
-use Rattle.theory_rings.specs.Sum.{sum, sum_of, table, at}
+use Rattle.theory_rings.specs.Sum.{sum_of, table, at}
 use Rattle.theory_rings.proofs.Rings.Elements.{at-elem, sum_of_congr}
 use Rattle.theory_spaces.specs.Module.{AlgebraOn, module_of}
-use Rattle.theory_spaces.specs.Linear.{comb, InSpan, Independent}
-use Rattle.theory_spaces.specs.Valuation.{ValuationOn, Integer, restrict}
-use Rattle.theory_spaces.specs.Tuples.{IsTuple, tuple_zero, tuple_add, tuple_scale, basis, product, IsTableOne}
+use Rattle.theory_spaces.specs.Linear.{comb, Independent}
+use Rattle.theory_spaces.specs.Valuation.{ValuationOn, Integer}
+use Rattle.theory_spaces.specs.Tuples.{tuple_add, basis, product, IsTableOne}
 use Rattle.theory_spaces.proofs.Families.{choose_each}
 use Rattle.theory_spaces.proofs.Tuples.{at-table, IsTuple-table, IsTuple-ext}
 use Rattle.theory_spaces.proofs.TupleProducts.{one-product, IsTuple-basis}
@@ -20,9 +20,8 @@ use Rattle.theory_orders.specs.Orders.{Within, Same, Test}
 use Rattle.theory_orders.specs.Lattices as lattices
 use Rattle.spl_matrix.specs.Matrix.{IsMatrix, entry}
 use Rattle.spl_matrix.specs.Subspace.{AreIndependent}
-use Rattle.spl_matrix.proofs.Sums.{entry-elem}
 use Rattle.spl_claims.specs.Ramified.{IsOrder, IsIdeal, Power, Multiple, Radical, SimpleQuotient, Lattice}
-use Rattle.spl_claims.proofs.TableSets.{IsWritten, Matches, from, each_member, each_two, within_to, within_from, multiple_matches, power_matches, list_test, test_matches, vector_test_matches}
+use Rattle.spl_claims.proofs.TableSets.{IsWritten, Matches, from, each_two, within_to, within_from, multiple_matches, power_matches, list_test, test_matches, vector_test_matches}
 
 module _ {E V : Type 0} (o : Ops E) (L : FieldLaws o) (m : ℕ) (cs : List E) (constants : All (IsElem o) cs)
     (A : AlgebraOn (elements o L).ring V) (g : V → List E) (G : IsWritten o L m cs A g) where

@@ -1,22 +1,20 @@
 -- An algebra whose vectors can be written as tuples, with the product of a table: sets of its vectors and the sets of their
 -- tuples, with what the notions of orders make of both.
-use Rattle.std.specs.Prelude.{◌≡◌, ℕ, zero, suc, ◌<◌, ◌⊎◌, Bool, true, false, IsTrue, List, [], length, get_or}
+use Rattle.std.specs.Prelude.{◌≡◌, ℕ, zero, suc, Bool, true, false, List}
 use Rattle.std.specs.List.{All}
-use Rattle.std.proofs.Common.{refl, sym, ◌∙◌, ap, ap₂, subst, inl, inr, arith, ⊎_elim}
+use Rattle.std.proofs.Common.{refl, sym, ◌∙◌, ap, ap₂, subst}
 use Rattle.std.proofs.lemmas.Bool.{false≢true}
-use Rattle.theory_rings.specs.Ring.{FieldOn}
 use Rattle.theory_rings.specs.Ops.{Ops, IsElem, FieldLaws}
-use Rattle.theory_rings.specs.Elements.{Elem, Elem-path, elements}
-use Rattle.theory_rings.specs.Sum.{sum, sum_by_ops, sum_of, table, at}
+use Rattle.theory_rings.specs.Elements.{Elem, elements}
+use Rattle.theory_rings.specs.Sum.{sum, sum_by_ops}
 use Rattle.theory_rings.proofs.Sums.Sums.{sum_by_ops_congr}
-use Rattle.theory_spaces.specs.Module.{AlgebraOn, module_of}
-use Rattle.theory_spaces.specs.Tuples.{IsTuple, is_tuple, tuple_zero, tuple_add, tuple_scale, basis, product, IsTableOne}
+use Rattle.theory_spaces.specs.Module.{AlgebraOn}
+use Rattle.theory_spaces.specs.Tuples.{IsTuple, is_tuple, tuple_zero, tuple_add, tuple_scale, product}
 use Rattle.theory_spaces.proofs.Families.{choose_each}
 use Rattle.theory_spaces.proofs.Tuples.{is_tuple-IsTuple, IsTuple-is_tuple}
-use Rattle.theory_spaces.proofs.TupleProducts.{one-product, IsTuple-basis}
 use Rattle.theory_orders.specs.Orders as orders
 use Rattle.theory_orders.specs.Orders.{Within, Same, Test}
-use Rattle.spl_claims.specs.Ramified.{IsOrder, IsIdeal, SumOf, Product, Products, Power, Multiple, Radical, LeftOrder, SimpleQuotient}
+use Rattle.spl_claims.specs.Ramified.{SumOf, Product, Power, Multiple, LeftOrder}
 
 module _ {E V : Type 0} (o : Ops E) (L : FieldLaws o) (m : ℕ) (cs : List E) (A : AlgebraOn (elements o L).ring V) where
   -- g writes each vector as a tuple: a bijection that keeps the operations

@@ -50,10 +50,10 @@ module _ {E : Type 0} (o : Ops E) where
 
 -- the field with a square root of p: the basis 1 and w with w·w = p. The integral combinations of 1 and w are an order, and
 -- those of p and w its radical
-module _ {E : Type 0} (o : Ops E) (p : E) where
-  abbrev pub pair : E → E → List E
-  pair a b = a ∷ (b ∷ [])
+abbrev pub pair : {E : Type 0} → E → E → List E
+pair a b = a ∷ (b ∷ [])
 
+module _ {E : Type 0} (o : Ops E) (p : E) where
   abbrev pub root_table : List E
   root_table = pair o.one o.zero ++ (pair o.zero o.one ++ (pair o.zero o.one ++ pair p o.zero))
 

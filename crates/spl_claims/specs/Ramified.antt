@@ -1,7 +1,7 @@
 -- Orders at a place of an algebra of dimension m by its structure constants cs, over a program's field: lattices, two-sided
 -- ideals with their products and powers, the radical, left orders, simple quotients, and ramified places. A set is a fact
 -- about a tuple. (Reiner, Maximal Orders, sections 4, 6, 8, 22 and 39.)
-use Rattle.std.specs.Prelude.{◌≡◌, ℕ, zero, suc, ◌<◌, ◌⊎◌, Bool, IsTrue, List, length, get_or}
+use Rattle.std.specs.Prelude.{◌≡◌, ℕ, zero, suc, ◌<◌, ◌⊎◌, Bool, IsTrue, List, length}
 use Rattle.theory_rings.specs.Ops.{Ops, IsElem, FieldLaws}
 use Rattle.theory_rings.specs.Elements.{elements}
 use Rattle.theory_rings.specs.Sum.{sum_by_ops, sum_of, at}
