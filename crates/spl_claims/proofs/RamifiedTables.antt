@@ -38,17 +38,17 @@ module _ {E V : Type 0} (o : Ops E) (L : FieldLaws o) (m : ℕ) (cs : List E) (c
     pub count : length rows ≡ m
     pub item : (i : ℕ) → i < length rows → g (vec i) ≡ get_or rows i []
 
-  matches : (rows : List (List E)) (vec : ℕ → V) → AreRows rows vec → Sets o L m cs constants A g G (lattices.Lattice K Z A m vec) (Lattice o m cs Integral rows)
+  matches : (rows : List (List E)) (vec : ℕ → V) → AreRows rows vec → Sets o L m cs constants A g G (lattices.Lattice K Z A m vec) (Lattice o m Integral rows)
   matches rows vec r =
-      let S : ℕ → Type 0 = λ n. Sets o L m cs constants A g G (lattices.Lattice K Z A n vec) (Lattice o m cs Integral rows) in
+      let S : ℕ → Type 0 = λ n. Sets o L m cs constants A g G (lattices.Lattice K Z A n vec) (Lattice o m Integral rows) in
       subst S r.count (lattice_matches o L m cs constants A g G rows r.shape vec r.item Z Integral same)
 
-  independent : (rows : List (List E)) (vec : ℕ → V) (r : AreRows rows vec) → IsLatticeBasis o m cs Integral rows → Independent (module_of A) m vec
+  independent : (rows : List (List E)) (vec : ℕ → V) (r : AreRows rows vec) → IsLatticeBasis o m rows → Independent (module_of A) m vec
   independent rows vec r b =
       let S : ℕ → Type 0 = λ n. Independent (module_of A) n vec in
       subst S r.count (independent_from o L m cs constants A g G rows r.shape vec r.item b.independent)
 
-  basis_to : (rows : List (List E)) (vec : ℕ → V) → AreRows rows vec → Independent (module_of A) m vec → IsLatticeBasis o m cs Integral rows
+  basis_to : (rows : List (List E)) (vec : ℕ → V) → AreRows rows vec → Independent (module_of A) m vec → IsLatticeBasis o m rows
   basis_to rows vec r h = record {
     shape = r.shape;
     count = r.count;
@@ -65,10 +65,10 @@ module _ {E V : Type 0} (o : Ops E) (L : FieldLaws o) (m : ℕ) (cs : List E) (c
     J = lattices.Lattice K Z A m w
 
     abbrev I' : List E → Type 0
-    I' = Lattice o m cs Integral os
+    I' = Lattice o m Integral os
 
     abbrev J' : List E → Type 0
-    J' = Lattice o m cs Integral js
+    J' = Lattice o m Integral js
 
     MI : Sets o L m cs constants A g G I I'
     MI = matches os v ov
@@ -77,10 +77,10 @@ module _ {E V : Type 0} (o : Ops E) (L : FieldLaws o) (m : ℕ) (cs : List E) (c
     MJ = matches js w jw
 
     MO : Sets o L m cs constants A g G (orders.LeftOrder A J) (LeftOrder o m cs J')
-    MO = left_order_matches o L m cs constants A g G J J' MJ
+    MO = left_order_matches o L m cs A g G J J' MJ
 
-    MP : Sets o L m cs constants A g G (orders.Multiple A p I) (Multiple o m cs p.0 I')
-    MP = multiple_matches o L m cs constants A g G I I' MI p
+    MP : Sets o L m cs constants A g G (orders.Multiple A p I) (Multiple o m p.0 I')
+    MP = multiple_matches o L m cs A g G I I' MI p
 
     pub ramified_from : RamifiedClaim o m cs Integral p.0 os js → IsRamified K Z p A m v w
     ramified_from h = record {
@@ -89,10 +89,10 @@ module _ {E V : Type 0} (o : Ops E) (L : FieldLaws o) (m : ℕ) (cs : List E) (c
       radical = radical_from o L m cs constants A g G I J I' J' MI MJ p h.radical;
       simple = simple_from o L m cs constants A g G I J I' J' MI MJ h.simple;
       left_order = (
-        within_from o L m cs constants A g G (orders.LeftOrder A J) I (LeftOrder o m cs J') I' MO MI h.left_order.0,
-        within_from o L m cs constants A g G I (orders.LeftOrder A J) I' (LeftOrder o m cs J') MI MO h.left_order.1,
+        within_from o L m cs A g G (orders.LeftOrder A J) I (LeftOrder o m cs J') I' MO MI h.left_order.0,
+        within_from o L m cs A g G I (orders.LeftOrder A J) I' (LeftOrder o m cs J') MI MO h.left_order.1,
       );
-      not_multiple = λ u. h.not_multiple (within_to o L m cs constants A g G J (orders.Multiple A p I) J' (Multiple o m cs p.0 I') MJ MP u);
+      not_multiple = λ u. h.not_multiple (within_to o L m cs A g G J (orders.Multiple A p I) J' (Multiple o m p.0 I') MJ MP u);
     }
 
     pub ramified_to : IsRamified K Z p A m v w → RamifiedClaim o m cs Integral p.0 os js
@@ -103,14 +103,14 @@ module _ {E V : Type 0} (o : Ops E) (L : FieldLaws o) (m : ℕ) (cs : List E) (c
       radical = radical_to o L m cs constants A g G I J I' J' MI MJ p h.radical;
       simple = simple_to o L m cs constants A g G I J I' J' MI MJ h.simple;
       left_order = (
-        within_to o L m cs constants A g G (orders.LeftOrder A J) I (LeftOrder o m cs J') I' MO MI h.left_order.0,
-        within_to o L m cs constants A g G I (orders.LeftOrder A J) I' (LeftOrder o m cs J') MI MO h.left_order.1,
+        within_to o L m cs A g G (orders.LeftOrder A J) I (LeftOrder o m cs J') I' MO MI h.left_order.0,
+        within_to o L m cs A g G I (orders.LeftOrder A J) I' (LeftOrder o m cs J') MI MO h.left_order.1,
       );
-      not_multiple = λ u. h.not_multiple (within_from o L m cs constants A g G J (orders.Multiple A p I) J' (Multiple o m cs p.0 I') MJ MP u);
+      not_multiple = λ u. h.not_multiple (within_from o L m cs A g G J (orders.Multiple A p I) J' (Multiple o m p.0 I') MJ MP u);
     }
 
   -- rows are written by some vectors
-  pub rows_written : (rows : List (List E)) → IsLatticeBasis o m cs Integral rows → (vec : ℕ → V) × AreRows rows vec
+  pub rows_written : (rows : List (List E)) → IsLatticeBasis o m rows → (vec : ℕ → V) × AreRows rows vec
   rows_written rows b =
       let c = choose_each (length rows) (λ i x. g x ≡ get_or rows i []) A.zero (λ i l. G.onto (get_or rows i []) (b.shape i [] l)) in
       (c.0, record { shape = b.shape; count = b.count; item = c.1 })

@@ -34,7 +34,7 @@ module _ {E V : Type 0} (o : Ops E) (L : FieldLaws o) (m : ℕ) (cs : List E) (c
   K = elements o L
 
   abbrev pub Sets : (V → Type 0) → (List E → Type 0) → Type 0
-  Sets P Q = Matches o L m cs constants A g G P Q
+  Sets P Q = Matches o L m cs A g G P Q
 
   -- an identity of the table is that of the algebra
   one-is : (one : List E) → IsTableOne o m cs one → g A.one ≡ one
@@ -57,10 +57,10 @@ module _ {E V : Type 0} (o : Ops E) (L : FieldLaws o) (m : ℕ) (cs : List E) (c
   module _ (P : V → Type 0) (Q : List E → Type 0) (M : Sets P Q) where
     pub order_from : IsOrder o m cs Q → orders.IsOrder A P
     order_from h = record {
-      one_in = from o L m cs constants A g G P Q M A.one (subst Q (sym (one-is h.one h.is_one)) h.one_in);
-      zero_in = from o L m cs constants A g G P Q M A.zero (subst Q (sym G.zero-is) h.zero_in);
-      add_in = λ x y p q. from o L m cs constants A g G P Q M (x ⊕ y) (subst Q (sym (G.add-is x y)) (h.add_in (g x) (g y) (M.to x p) (M.to y q)));
-      mul_in = λ x y p q. from o L m cs constants A g G P Q M (x ⊗ y) (subst Q (sym (G.mul-is x y)) (h.mul_in (g x) (g y) (M.to x p) (M.to y q)));
+      one_in = from o L m cs A g G P Q M A.one (subst Q (sym (one-is h.one h.is_one)) h.one_in);
+      zero_in = from o L m cs A g G P Q M A.zero (subst Q (sym G.zero-is) h.zero_in);
+      add_in = λ x y p q. from o L m cs A g G P Q M (x ⊕ y) (subst Q (sym (G.add-is x y)) (h.add_in (g x) (g y) (M.to x p) (M.to y q)));
+      mul_in = λ x y p q. from o L m cs A g G P Q M (x ⊗ y) (subst Q (sym (G.mul-is x y)) (h.mul_in (g x) (g y) (M.to x p) (M.to y q)));
     }
 
     pub order_to : orders.IsOrder A P → IsOrder o m cs Q
@@ -69,93 +69,93 @@ module _ {E V : Type 0} (o : Ops E) (L : FieldLaws o) (m : ℕ) (cs : List E) (c
       is_one = one_is;
       one_in = M.to A.one h.one_in;
       zero_in = subst Q G.zero-is (M.to A.zero h.zero_in);
-      add_in = each_two o L m cs constants A g G P P Q Q M M (λ v w. Q (tuple_add o m v w)) (λ x y p q. subst Q (G.add-is x y) (M.to (x ⊕ y) (h.add_in x y p q)));
-      mul_in = each_two o L m cs constants A g G P P Q Q M M (λ v w. Q (product o m cs v w)) (λ x y p q. subst Q (G.mul-is x y) (M.to (x ⊗ y) (h.mul_in x y p q)));
+      add_in = each_two o L m cs A g G P P Q Q M M (λ v w. Q (tuple_add o m v w)) (λ x y p q. subst Q (G.add-is x y) (M.to (x ⊕ y) (h.add_in x y p q)));
+      mul_in = each_two o L m cs A g G P P Q Q M M (λ v w. Q (product o m cs v w)) (λ x y p q. subst Q (G.mul-is x y) (M.to (x ⊗ y) (h.mul_in x y p q)));
     }
 
     module _ (P' : V → Type 0) (Q' : List E → Type 0) (M' : Sets P' Q') where
       pub ideal_from : IsIdeal o m cs Q Q' → orders.IsIdeal A P P'
       ideal_from h = record {
-        inside = within_from o L m cs constants A g G P' P Q' Q M' M h.inside;
-        zero_in = from o L m cs constants A g G P' Q' M' A.zero (subst Q' (sym G.zero-is) h.zero_in);
-        add_in = λ x y p q. from o L m cs constants A g G P' Q' M' (x ⊕ y) (subst Q' (sym (G.add-is x y)) (h.add_in (g x) (g y) (M'.to x p) (M'.to y q)));
-        left = λ a x p q. from o L m cs constants A g G P' Q' M' (a ⊗ x) (subst Q' (sym (G.mul-is a x)) (h.left (g a) (g x) (M.to a p) (M'.to x q)));
-        right = λ a x p q. from o L m cs constants A g G P' Q' M' (x ⊗ a) (subst Q' (sym (G.mul-is x a)) (h.right (g a) (g x) (M.to a p) (M'.to x q)));
+        inside = within_from o L m cs A g G P' P Q' Q M' M h.inside;
+        zero_in = from o L m cs A g G P' Q' M' A.zero (subst Q' (sym G.zero-is) h.zero_in);
+        add_in = λ x y p q. from o L m cs A g G P' Q' M' (x ⊕ y) (subst Q' (sym (G.add-is x y)) (h.add_in (g x) (g y) (M'.to x p) (M'.to y q)));
+        left = λ a x p q. from o L m cs A g G P' Q' M' (a ⊗ x) (subst Q' (sym (G.mul-is a x)) (h.left (g a) (g x) (M.to a p) (M'.to x q)));
+        right = λ a x p q. from o L m cs A g G P' Q' M' (x ⊗ a) (subst Q' (sym (G.mul-is x a)) (h.right (g a) (g x) (M.to a p) (M'.to x q)));
       }
 
       pub ideal_to : orders.IsIdeal A P P' → IsIdeal o m cs Q Q'
       ideal_to h = record {
-        inside = within_to o L m cs constants A g G P' P Q' Q M' M h.inside;
+        inside = within_to o L m cs A g G P' P Q' Q M' M h.inside;
         zero_in = subst Q' G.zero-is (M'.to A.zero h.zero_in);
-        add_in = each_two o L m cs constants A g G P' P' Q' Q' M' M' (λ v w. Q' (tuple_add o m v w)) (λ x y p q. subst Q' (G.add-is x y) (M'.to (x ⊕ y) (h.add_in x y p q)));
-        left = each_two o L m cs constants A g G P P' Q Q' M M' (λ v w. Q' (product o m cs v w)) (λ a x p q. subst Q' (G.mul-is a x) (M'.to (a ⊗ x) (h.left a x p q)));
-        right = each_two o L m cs constants A g G P P' Q Q' M M' (λ v w. Q' (product o m cs w v)) (λ a x p q. subst Q' (G.mul-is x a) (M'.to (x ⊗ a) (h.right a x p q)));
+        add_in = each_two o L m cs A g G P' P' Q' Q' M' M' (λ v w. Q' (tuple_add o m v w)) (λ x y p q. subst Q' (G.add-is x y) (M'.to (x ⊕ y) (h.add_in x y p q)));
+        left = each_two o L m cs A g G P P' Q Q' M M' (λ v w. Q' (product o m cs v w)) (λ a x p q. subst Q' (G.mul-is a x) (M'.to (a ⊗ x) (h.left a x p q)));
+        right = each_two o L m cs A g G P P' Q Q' M M' (λ v w. Q' (product o m cs w v)) (λ a x p q. subst Q' (G.mul-is x a) (M'.to (x ⊗ a) (h.right a x p q)));
       }
 
   module _ (P P' : V → Type 0) (Q Q' : List E → Type 0) (M : Sets P Q) (M' : Sets P' Q') where
     -- tests of vectors as tests of lists, and the other way round
-    abbrev T : (t : V → Bool) → Sets (Test t) (Test (list_test o L m cs constants A g G t))
-    T t = test_matches o L m cs constants A g G t
+    abbrev T : (t : V → Bool) → Sets (Test t) (Test (list_test o L m cs A g G t))
+    T t = test_matches o L m cs A g G t
 
     abbrev U : (s : List E → Bool) → Within (Test s) Q → Sets (Test (λ x. s (g x))) (Test s)
-    U s inside = vector_test_matches o L m cs constants A g G P Q M s inside
+    U s inside = vector_test_matches o L m cs A g G P Q M s inside
 
     pub simple_from : SimpleQuotient o m cs Q Q' → orders.SimpleQuotient A P P'
     simple_from h = record {
-      proper = λ w. h.proper (within_to o L m cs constants A g G P P' Q Q' M M' w);
+      proper = λ w. h.proper (within_to o L m cs A g G P P' Q Q' M M' w);
       nothing_between = λ t i w.
-          let s = list_test o L m cs constants A g G t in
+          let s = list_test o L m cs A g G t in
           ⊎_elim
-          (λ (l : Within (Test s) Q'). inl (within_from o L m cs constants A g G (Test t) P' (Test s) Q' (T t) M' l))
-          (λ (r : Within Q (Test s)). inr (within_from o L m cs constants A g G P (Test t) Q (Test s) M (T t) r))
-          (h.nothing_between s (ideal_to P Q M (Test t) (Test s) (T t) i) (within_to o L m cs constants A g G P' (Test t) Q' (Test s) M' (T t) w));
+          (λ (l : Within (Test s) Q'). inl (within_from o L m cs A g G (Test t) P' (Test s) Q' (T t) M' l))
+          (λ (r : Within Q (Test s)). inr (within_from o L m cs A g G P (Test t) Q (Test s) M (T t) r))
+          (h.nothing_between s (ideal_to P Q M (Test t) (Test s) (T t) i) (within_to o L m cs A g G P' (Test t) Q' (Test s) M' (T t) w));
     }
 
     pub simple_to : orders.SimpleQuotient A P P' → SimpleQuotient o m cs Q Q'
     simple_to h = record {
-      proper = λ w. h.proper (within_from o L m cs constants A g G P P' Q Q' M M' w);
+      proper = λ w. h.proper (within_from o L m cs A g G P P' Q Q' M M' w);
       nothing_between = λ s i w.
           let t : V → Bool = λ x. s (g x) in
           let N = U s i.inside in
           ⊎_elim
-          (λ (l : Within (Test t) P'). inl (within_to o L m cs constants A g G (Test t) P' (Test s) Q' N M' l))
-          (λ (r : Within P (Test t)). inr (within_to o L m cs constants A g G P (Test t) Q (Test s) M N r))
-          (h.nothing_between t (ideal_from P Q M (Test t) (Test s) N i) (within_from o L m cs constants A g G P' (Test t) Q' (Test s) M' N w));
+          (λ (l : Within (Test t) P'). inl (within_to o L m cs A g G (Test t) P' (Test s) Q' N M' l))
+          (λ (r : Within P (Test t)). inr (within_to o L m cs A g G P (Test t) Q (Test s) M N r))
+          (h.nothing_between t (ideal_from P Q M (Test t) (Test s) N i) (within_from o L m cs A g G P' (Test t) Q' (Test s) M' N w));
     }
 
     module _ (p : Elem o) where
-      abbrev times_p : Sets (orders.Multiple A p P) (Multiple o m cs p.0 Q)
-      times_p = multiple_matches o L m cs constants A g G P Q M p
+      abbrev times_p : Sets (orders.Multiple A p P) (Multiple o m p.0 Q)
+      times_p = multiple_matches o L m cs A g G P Q M p
 
       pub radical_from : Radical o m cs p.0 Q Q' → orders.Radical A p P P'
       radical_from h = record {
         ideal = ideal_from P Q M P' Q' M' h.ideal;
-        over = within_from o L m cs constants A g G (orders.Multiple A p P) P' (Multiple o m cs p.0 Q) Q' times_p M' h.over;
+        over = within_from o L m cs A g G (orders.Multiple A p P) P' (Multiple o m p.0 Q) Q' times_p M' h.over;
         exponent = h.exponent;
-        falls = within_from o L m cs constants A g G (orders.Power A P' h.exponent) (orders.Multiple A p P) (Power o m cs Q' h.exponent) (Multiple o m cs p.0 Q)
-            (power_matches o L m cs constants A g G P' Q' M' h.exponent) times_p h.falls;
+        falls = within_from o L m cs A g G (orders.Power A P' h.exponent) (orders.Multiple A p P) (Power o m cs Q' h.exponent) (Multiple o m p.0 Q)
+            (power_matches o L m cs A g G P' Q' M' h.exponent) times_p h.falls;
         largest = λ t e i over falls.
-            let s = list_test o L m cs constants A g G t in
-            within_from o L m cs constants A g G (Test t) P' (Test s) Q' (T t) M' (h.largest s e (ideal_to P Q M (Test t) (Test s) (T t) i)
-            (within_to o L m cs constants A g G (orders.Multiple A p P) (Test t) (Multiple o m cs p.0 Q) (Test s) times_p (T t) over)
-            (within_to o L m cs constants A g G (orders.Power A (Test t) e) (orders.Multiple A p P) (Power o m cs (Test s) e) (Multiple o m cs p.0 Q)
-            (power_matches o L m cs constants A g G (Test t) (Test s) (T t) e) times_p falls));
+            let s = list_test o L m cs A g G t in
+            within_from o L m cs A g G (Test t) P' (Test s) Q' (T t) M' (h.largest s e (ideal_to P Q M (Test t) (Test s) (T t) i)
+            (within_to o L m cs A g G (orders.Multiple A p P) (Test t) (Multiple o m p.0 Q) (Test s) times_p (T t) over)
+            (within_to o L m cs A g G (orders.Power A (Test t) e) (orders.Multiple A p P) (Power o m cs (Test s) e) (Multiple o m p.0 Q)
+            (power_matches o L m cs A g G (Test t) (Test s) (T t) e) times_p falls));
       }
 
       pub radical_to : orders.Radical A p P P' → Radical o m cs p.0 Q Q'
       radical_to h = record {
         ideal = ideal_to P Q M P' Q' M' h.ideal;
-        over = within_to o L m cs constants A g G (orders.Multiple A p P) P' (Multiple o m cs p.0 Q) Q' times_p M' h.over;
+        over = within_to o L m cs A g G (orders.Multiple A p P) P' (Multiple o m p.0 Q) Q' times_p M' h.over;
         exponent = h.exponent;
-        falls = within_to o L m cs constants A g G (orders.Power A P' h.exponent) (orders.Multiple A p P) (Power o m cs Q' h.exponent) (Multiple o m cs p.0 Q)
-            (power_matches o L m cs constants A g G P' Q' M' h.exponent) times_p h.falls;
+        falls = within_to o L m cs A g G (orders.Power A P' h.exponent) (orders.Multiple A p P) (Power o m cs Q' h.exponent) (Multiple o m p.0 Q)
+            (power_matches o L m cs A g G P' Q' M' h.exponent) times_p h.falls;
         largest = λ s e i over falls.
             let t : V → Bool = λ x. s (g x) in
             let N = U s i.inside in
-            within_to o L m cs constants A g G (Test t) P' (Test s) Q' N M' (h.largest t e (ideal_from P Q M (Test t) (Test s) N i)
-            (within_from o L m cs constants A g G (orders.Multiple A p P) (Test t) (Multiple o m cs p.0 Q) (Test s) times_p N over)
-            (within_from o L m cs constants A g G (orders.Power A (Test t) e) (orders.Multiple A p P) (Power o m cs (Test s) e) (Multiple o m cs p.0 Q)
-            (power_matches o L m cs constants A g G (Test t) (Test s) N e) times_p falls));
+            within_to o L m cs A g G (Test t) P' (Test s) Q' N M' (h.largest t e (ideal_from P Q M (Test t) (Test s) N i)
+            (within_from o L m cs A g G (orders.Multiple A p P) (Test t) (Multiple o m p.0 Q) (Test s) times_p N over)
+            (within_from o L m cs A g G (orders.Power A (Test t) e) (orders.Multiple A p P) (Power o m cs (Test s) e) (Multiple o m p.0 Q)
+            (power_matches o L m cs A g G (Test t) (Test s) N e) times_p falls));
       }
 
   -- the items of a combination
@@ -195,7 +195,7 @@ module _ {E V : Type 0} (o : Ops E) (L : FieldLaws o) (m : ℕ) (cs : List E) (c
         row-comb d j j_in ∙ z j j_in ∙ sym (ap (λ xs. at o xs j) G.zero-is ∙ at-table o m (λ _. o.zero) j j_in)))) i l)
 
     module _ (Z : ValuationOn K) (Integral : E → Type 0) (same : (x : Elem o) → (Integral x.0 ↔ IsTrue (Z.integral x))) where
-      pub lattice_matches : Sets (lattices.Lattice K Z A (length rows) vec) (Lattice o m cs Integral rows)
+      pub lattice_matches : Sets (lattices.Lattice K Z A (length rows) vec) (Lattice o m Integral rows)
       lattice_matches = record {
         to = λ x s.
             let w : ℕ → E = λ i. (s.weights i).0.0 in

@@ -1,10 +1,9 @@
 -- An algebra whose vectors can be written as tuples, with the product of a table: sets of its vectors and the sets of their
 -- tuples, with what the notions of orders make of both.
 use Rattle.std.specs.Prelude.{◌≡◌, ℕ, zero, suc, Bool, true, false, List}
-use Rattle.std.specs.List.{All}
 use Rattle.std.proofs.Common.{refl, sym, ◌∙◌, ap, ap₂, subst}
 use Rattle.std.proofs.lemmas.Bool.{false≢true}
-use Rattle.theory_rings.specs.Ops.{Ops, IsElem, FieldLaws}
+use Rattle.theory_rings.specs.Ops.{Ops, FieldLaws}
 use Rattle.theory_rings.specs.Elements.{Elem, elements}
 use Rattle.theory_rings.specs.Sum.{sum, sum_by_ops}
 use Rattle.theory_rings.proofs.Sums.Sums.{sum_by_ops_congr}
@@ -27,7 +26,7 @@ module _ {E V : Type 0} (o : Ops E) (L : FieldLaws o) (m : ℕ) (cs : List E) (A
     pub scale-is : (c : Elem o) (x : V) → g (A.◌•◌ c x) ≡ tuple_scale o m c.0 (g x)
     pub mul-is : (x y : V) → g (A.◌⊗◌ x y) ≡ product o m cs (g x) (g y)
 
-module _ {E V : Type 0} (o : Ops E) (L : FieldLaws o) (m : ℕ) (cs : List E) (constants : All (IsElem o) cs)
+module _ {E V : Type 0} (o : Ops E) (L : FieldLaws o) (m : ℕ) (cs : List E)
     (A : AlgebraOn (elements o L).ring V) (g : V → List E) (G : IsWritten o L m cs A g) where
   infixl 65 ◌⊕◌
   infixl 70 ◌⊗◌
@@ -71,7 +70,7 @@ module _ {E V : Type 0} (o : Ops E) (L : FieldLaws o) (m : ℕ) (cs : List E) (c
     g-sum zero f = G.zero-is
     g-sum (suc n) f = G.add-is (sum A.monoid n f) (f n) ∙ ap (λ v. tuple_add o m v (g (f n))) (g-sum n f)
 
-    sum_matches : Matches (orders.SumOf A P) (SumOf o m cs Q)
+    sum_matches : Matches (orders.SumOf A P) (SumOf o m Q)
     sum_matches = record {
       to = λ x s. record { size = s.size; term = λ i. g (s.term i); each = λ i l. M.to (s.term i) (s.each i l); gives = ap g s.gives ∙ g-sum s.size s.term };
       member = λ v s.
@@ -83,7 +82,7 @@ module _ {E V : Type 0} (o : Ops E) (L : FieldLaws o) (m : ℕ) (cs : List E) (c
           );
     }
 
-    pub multiple_matches : (p : Elem o) → Matches (orders.Multiple A p P) (Multiple o m cs p.0 Q)
+    pub multiple_matches : (p : Elem o) → Matches (orders.Multiple A p P) (Multiple o m p.0 Q)
     multiple_matches p = record {
       to = λ x h. (g h.0, M.to h.0 h.1, ap g h.2 ∙ G.scale-is p h.0);
       member = λ v h.
