@@ -2,3 +2,5 @@ pub mod Algebra
 pub mod Products
 pub mod Identity
 pub mod Subspaces
+pub mod Contractions
+pub mod Multiples
