@@ -4,3 +4,5 @@ pub mod Rows
 pub mod BasisRows
 pub mod Contractions
 pub mod Commutators
+pub mod Inclusions
+pub mod Multiples
