@@ -1,5 +1,5 @@
 -- Products with a basis element item by item; left multiplications and the trace form as sums of constants.
-use Rattle.std.specs.Prelude.{◌≡◌, ℕ, ◌+◌, ◌*◌, ◌<◌, ◌≤◌, List, drop, All}
+use Rattle.std.specs.Prelude.{◌≡◌, ℕ, ◌+◌, ◌*◌, ◌<◌, List, drop, All}
 use Rattle.std.proofs.Common.{refl, sym, ◌∙◌, ap, ap₂, subst, arith}
 use Rattle.std.proofs.Math.Nat as nat
 use Rattle.theory_rings.specs.Ops.{Ops, IsElem, FieldLaws}
@@ -28,14 +28,14 @@ pub first_place : (r j l m : ℕ) → r * (m * m) + j * m + l * 1 ≡ (r * m + j
 first_place r j l m = omega (arith, nat.add-mul (r * m) j m, nat.mul_assoc r m m)
 
 -- so all places of the two matrices are within the constants; n, d and m are the same number
-pub last_within : (n d m k : ℕ) → n ≡ m → d ≡ m → k ≡ m * m * m → (r j l : ℕ) → r < n → j < n → l < n → r * 1 + j * n + l * (d * d) < k
+pub last_within : (n d m k : ℕ) → n ≡ m → d ≡ m → k ≡ m * m * m → (r j l : ℕ) → r < n → j < n → l < n → r * 1 + j * d + l * (d * d) < k
 last_within n d m k en ed long r j l r_in j_in l_in =
-    let e : r * 1 + j * n + l * (d * d) ≡ (l * m + j) * m + r = ap₂ (λ x y. r * 1 + j * x + l * (y * y)) en ed ∙ last_place r j l m in
+    let e : r * 1 + j * d + l * (d * d) ≡ (l * m + j) * m + r = ap (λ x. r * 1 + j * x + l * (x * x)) ed ∙ last_place r j l m in
     subst (λ p. p < k) (sym e) (constant_within l j r m k (omega arith) (omega arith) (omega arith) long)
 
-pub first_within : (n d m k : ℕ) → n ≡ m → d ≡ m → k ≡ m * m * m → (r j l : ℕ) → r < n → j < n → l < n → r * (d * d) + j * n + l * 1 < k
+pub first_within : (n d m k : ℕ) → n ≡ m → d ≡ m → k ≡ m * m * m → (r j l : ℕ) → r < n → j < n → l < n → r * (d * d) + j * d + l * 1 < k
 first_within n d m k en ed long r j l r_in j_in l_in =
-    let e : r * (d * d) + j * n + l * 1 ≡ (r * m + j) * m + l = ap₂ (λ x y. r * (y * y) + j * x + l * 1) en ed ∙ first_place r j l m in
+    let e : r * (d * d) + j * d + l * 1 ≡ (r * m + j) * m + l = ap (λ x. r * (x * x) + j * x + l * 1) ed ∙ first_place r j l m in
     subst (λ p. p < k) (sym e) (constant_within r j l m k (omega arith) (omega arith) (omega arith) long)
 
 module _ {E : Type 0} (o : Ops E) (L : FieldLaws o) (m : ℕ) (cs : List E) (constants : All (IsElem o) cs) where
@@ -60,7 +60,7 @@ module _ {E : Type 0} (o : Ops E) (L : FieldLaws o) (m : ℕ) (cs : List E) (con
       ∙ sum_of_congr o m (λ l. o.mul (at o a l) (at o (drop (i * m * m) cs) (l * m + k))) (λ l. o.mul (at o a l) (constant o m cs i l k))
       (λ l _. ap (o.mul (at o a l)) (sym (constant-row o m cs i l k)))
 
-  pub contraction-left : (a : List E) → All (IsElem o) a → contraction o m a cs 1 (m * m) ≡ left_matrix o m cs a
+  pub contraction-left : (a : List E) → All (IsElem o) a → contraction o m a cs 1 m (m * m) ≡ left_matrix o m cs a
   contraction-left a ha = table_congr m
       (λ r. table m (λ j. contracted o m a cs (r * 1 + j * m) (m * m)))
       (λ k. table m (λ j. at o (product o m cs a (basis o m j)) k))
@@ -73,9 +73,9 @@ module _ {E : Type 0} (o : Ops E) (L : FieldLaws o) (m : ℕ) (cs : List E) (con
       ∙ sym (at-product_basis a j r ha j_in r_in)))
 
   -- the same of what a program has read
-  pub contraction-left_of : (n d : ℕ) (s a k : List E) → n ≡ m → d ≡ m → s ≡ a → k ≡ cs → All (IsElem o) a → contraction o n s k 1 (d * d) ≡ left_matrix o m cs a
+  pub contraction-left_of : (n d : ℕ) (s a k : List E) → n ≡ m → d ≡ m → s ≡ a → k ≡ cs → All (IsElem o) a → contraction o n s k 1 d (d * d) ≡ left_matrix o m cs a
   contraction-left_of n d s a k en ed es ek ha =
-      ap₂ (λ x y. contraction o x s k 1 (y * y)) en ed ∙ ap₂ (λ x y. contraction o m x y 1 (m * m)) es ek ∙ contraction-left a ha
+      ap₂ (λ x y. contraction o x s k 1 y (y * y)) en ed ∙ ap₂ (λ x y. contraction o m x y 1 m (m * m)) es ek ∙ contraction-left a ha
 
   -- the trace is linear: that of a is the sum over l of a_l times that of b_l
   pub trace-by_basis : (a : List E) → All (IsElem o) a → trace o m cs a ≡ sum_of o m (λ l. o.mul (at o a l) (basis_trace o m cs l))
@@ -90,7 +90,7 @@ module _ {E : Type 0} (o : Ops E) (L : FieldLaws o) (m : ℕ) (cs : List E) (con
   basis_trace-elem : (i : ℕ) → IsElem o (basis_trace o m cs i)
   basis_trace-elem i = sum_of-elem o L m (λ j. constant o m cs i j j) (λ j _. constant-elem i j j)
 
-  pub contraction-form : (traces : List E) → traces ≡ table m (basis_trace o m cs) → contraction o m traces cs (m * m) 1 ≡ trace_form o m cs
+  pub contraction-form : (traces : List E) → traces ≡ table m (basis_trace o m cs) → contraction o m traces cs (m * m) m 1 ≡ trace_form o m cs
   contraction-form traces e = table_congr m
       (λ r. table m (λ j. contracted o m traces cs (r * (m * m) + j * m) 1))
       (λ i. table m (λ j. trace o m cs (product o m cs (basis o m i) (basis o m j))))
@@ -110,6 +110,6 @@ module _ {E : Type 0} (o : Ops E) (L : FieldLaws o) (m : ℕ) (cs : List E) (con
       row-elems : (r j : ℕ) → All (IsElem o) (table m (λ l. constant o m cs r j l))
       row-elems r j = All-table (IsElem o) m (λ l. constant o m cs r j l) (λ l _. constant-elem r j l)
 
-  pub contraction-form_of : (n d : ℕ) (s k : List E) → n ≡ m → d ≡ m → s ≡ table m (basis_trace o m cs) → k ≡ cs → contraction o n s k (d * d) 1 ≡ trace_form o m cs
+  pub contraction-form_of : (n d : ℕ) (s k : List E) → n ≡ m → d ≡ m → s ≡ table m (basis_trace o m cs) → k ≡ cs → contraction o n s k (d * d) d 1 ≡ trace_form o m cs
   contraction-form_of n d s k en ed es ek =
-      ap₂ (λ x y. contraction o x s k (y * y) 1) en ed ∙ ap (λ y. contraction o m s y (m * m) 1) ek ∙ contraction-form s es
+      ap₂ (λ x y. contraction o x s k (y * y) y 1) en ed ∙ ap (λ y. contraction o m s y (m * m) m 1) ek ∙ contraction-form s es

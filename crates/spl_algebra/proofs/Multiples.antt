@@ -13,7 +13,6 @@ use Rattle.spl_matrix.specs.Subspace.{InSpan, SameSpan, IsReducedBasis}
 use Rattle.spl_matrix.proofs.Sums.{sums_assoc, entry-elem, All_step}
 use Rattle.spl_matrix.proofs.Spans.{InSpan-by, InSpan-member, InSpan_trans, rows_in, grow_at}
 use Rattle.spl_claims.specs.Algebras.{SpansIdeal}
-use Rattle.spl_algebra.specs.Algebra.{Structure}
 use Rattle.spl_algebra.specs.Multiples.{RowsIn, AddsMultiples, HoldsMultiples, IsBetween}
 use Rattle.spl_algebra.specs.Subspaces.{GeneratesIdeal}
 use Rattle.spl_algebra.proofs.Contractions.{constant-elem, at-product_basis, at-basis_product}

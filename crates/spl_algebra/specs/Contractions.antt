@@ -9,13 +9,13 @@ module _ {E : Type 0} (o : Ops E) (m : ℕ) where
   abbrev pub contracted : List E → List E → ℕ → ℕ → E
   contracted a cs start stride = sum_of o m (λ l. o.mul (at o a l) (at o cs (start + l * stride)))
 
-  -- the items of a row are m places apart
-  abbrev pub contracted_row : List E → List E → ℕ → ℕ → List E
-  contracted_row a cs start stride = table m (λ j. contracted a cs (start + j * m) stride)
+  -- the items of a row begin `along` places apart
+  abbrev pub contracted_row : List E → List E → ℕ → ℕ → ℕ → List E
+  contracted_row a cs start along stride = table m (λ j. contracted a cs (start + j * along) stride)
 
-  -- the rows are `across` places apart
-  abbrev pub contraction : List E → List E → ℕ → ℕ → List (List E)
-  contraction a cs across stride = table m (λ r. contracted_row a cs (r * across) stride)
+  -- the rows begin `down` places apart
+  abbrev pub contraction : List E → List E → ℕ → ℕ → ℕ → List (List E)
+  contraction a cs down along stride = table m (λ r. contracted_row a cs (r * down) along stride)
 
   module _ (cs : List E) where
     -- the trace of the multiplication by the basis element i from the left

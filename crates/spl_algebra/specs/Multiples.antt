@@ -1,5 +1,5 @@
 -- What the steps to a generated ideal add to a list of rows.
-use Rattle.std.specs.Prelude.{◌≡◌, ◌<◌, ℕ, List, [], length, get_or}
+use Rattle.std.specs.Prelude.{◌<◌, ℕ, List, [], length, get_or}
 use Rattle.theory_rings.specs.Ops.{Ops}
 use Rattle.theory_spaces.specs.Tuples.{basis, product}
 use Rattle.spl_matrix.specs.Matrix.{IsMatrix}

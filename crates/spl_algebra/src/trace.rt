@@ -64,7 +64,7 @@ fn contracted_item<F: Field>(
     Ok(sum)
 }
 
-/// The row of these sums whose places begin m after one another, where a has m items.
+/// The row of these sums that begin `along` places after one another, as many as a has items.
 fn contracted_row_of<F: Field>(
     alloc: Global,
     f: &F,
@@ -72,43 +72,44 @@ fn contracted_row_of<F: Field>(
     a: &[F::Elem],
     constants: &[F::Elem],
     start: usize,
+    along: usize,
     stride: usize,
 ) -> Result<Vector<F>, NoMemory>
     requires zero { zero.now ≡ (F.ops f.now).zero }
     requires coordinates { All (IsElem (F.ops f.now)) a.now }
     requires constants { All (IsElem (F.ops f.now)) constants.now }
-    requires within { (j l : ℕ) → j < length a.now → l < length a.now → start + j * length a.now + l * stride < length constants.now }
+    requires within { (j l : ℕ) → j < length a.now → l < length a.now → start + j * along + l * stride < length constants.now }
     ensures elem { IfOk result (IsTuple (F.ops f.now) (length a.now)) }
-    ensures value { IfOk result (λ r. r ≡ contracted_row (F.ops f.now) (length a.now) a.now constants.now start stride) }
+    ensures value { IfOk result (λ r. r ≡ contracted_row (F.ops f.now) (length a.now) a.now constants.now start along stride) }
 {
-    let m = a.len();
     let mut row = Vector::new(alloc);
-    for j in 0..m {
-        row.push(contracted_item(alloc, f, zero, a, constants, start + j * m, stride)?)?;
+    for j in 0..a.len() {
+        row.push(contracted_item(alloc, f, zero, a, constants, start + j * along, stride)?)?;
     }
     Ok(row)
 }
 
-/// The matrix of m rows of these sums, whose places begin `across` after one another.
+/// The matrix of as many rows of these sums, which begin `down` places after one another.
 fn contraction_of<F: Field>(
     alloc: Global,
     f: &F,
     a: &[F::Elem],
     constants: &[F::Elem],
-    across: usize,
+    down: usize,
+    along: usize,
     stride: usize,
 ) -> Result<Matrix<F>, NoMemory>
     requires coordinates { All (IsElem (F.ops f.now)) a.now }
     requires constants { All (IsElem (F.ops f.now)) constants.now }
     requires within { (r j l : ℕ) → r < length a.now → j < length a.now → l < length a.now →
-        r * across + j * length a.now + l * stride < length constants.now }
+        r * down + j * along + l * stride < length constants.now }
     ensures shape { IfOk result (IsMatrix (F.ops f.now) (length a.now)) }
-    ensures value { IfOk result (λ r. r ≡ contraction (F.ops f.now) (length a.now) a.now constants.now across stride) }
+    ensures value { IfOk result (λ r. r ≡ contraction (F.ops f.now) (length a.now) a.now constants.now down along stride) }
 {
     let zero = f.zero(alloc)?;
     let mut rows = Matrix::new(alloc);
     for r in 0..a.len() {
-        let row = contracted_row_of(alloc, f, &zero, a, constants, r * across, stride)?;
+        let row = contracted_row_of(alloc, f, &zero, a, constants, r * down, along, stride)?;
         rows.push(row)?;
     }
     Ok(rows)
@@ -164,7 +165,7 @@ impl<F: Field> Algebra<F> {
     {
         let m = self.dim();
         let constants = self.constants();
-        contraction_of(alloc, f, a.as_slice(), constants, 1, m * m)
+        contraction_of(alloc, f, a.as_slice(), constants, 1, m, m * m)
     }
 
     /// The matrix of the trace form, m by m: tr(b_i·b_j) stands in row i and column j, where tr(a) is the trace of the
@@ -177,6 +178,6 @@ impl<F: Field> Algebra<F> {
         let m = self.dim();
         let constants = self.constants();
         let traces = basis_traces_of(alloc, f, m, constants)?;
-        contraction_of(alloc, f, traces.as_slice(), constants, m * m, 1)
+        contraction_of(alloc, f, traces.as_slice(), constants, m * m, m, 1)
     }
 }

@@ -1,4 +1,4 @@
-use Rattle.std.proofs.Common.{◌+◌, ◌*◌, ◌<◌, length, ◌∙◌, ap₂}
+use Rattle.std.proofs.Common.{◌+◌, ◌*◌, length, ◌∙◌, ap₂}
 use Rattle.spl_matrix.proofs.Sums.{table_step, read_at}
 use Rattle.spl_algebra.specs.Contractions.{commutator_item}
 use Rattle.spl_algebra.proofs.Steps.{IsTuple-push}

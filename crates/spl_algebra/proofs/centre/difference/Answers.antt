@@ -1,6 +1,5 @@
 use Rattle.std.proofs.Common.{◌≡◌, refl, sym, ◌∙◌, ap}
 use Rattle.std.proofs.lemmas.Result.{IfOk-weaker}
-use Rattle.theory_rings.specs.Ops.{Ops}
 use Rattle.spl_matrix.proofs.Terms.{neg-zero}
 use Rattle.spl_algebra.proofs.Terms.{add-zero}
 use Rattle.spl_algebra.proofs.centre.difference.Goals as goal

@@ -24,6 +24,6 @@ loop-j-preserved g c =
     let item = c.in_ok-contracted_item.field-0 in
     record {
       elem = IsTuple-push o j c.loop-j.row c.push.new.self item c.loop-j.invariant.elem c.in_ok-contracted_item.ensures.elem c.in_ok-push.ensures.ok;
-      value = table_step j (λ j. contracted o (length a) a c.args.constants.now (c.args.start + j * length a) c.args.stride) c.loop-j.row c.push.new.self item
+      value = table_step j (λ j. contracted o (length a) a c.args.constants.now (c.args.start + j * c.args.along) c.args.stride) c.loop-j.row c.push.new.self item
           c.loop-j.invariant.value c.in_ok-contracted_item.ensures.value c.in_ok-push.ensures.ok;
     }

@@ -17,6 +17,6 @@ loop-r-preserved g c =
     let item = c.in_ok-row.row in
     record {
       shape = All_step (IsTuple o (length a)) c.loop-r.rows c.push.new.self item c.loop-r.invariant.shape c.in_ok-row.ensures.elem c.in_ok-push.ensures.ok;
-      value = table_step c.loop-r.r (λ r. contracted_row o (length a) a c.args.constants.now (r * c.args.across) c.args.stride) c.loop-r.rows c.push.new.self item
+      value = table_step c.loop-r.r (λ r. contracted_row o (length a) a c.args.constants.now (r * c.args.down) c.args.along c.args.stride) c.loop-r.rows c.push.new.self item
           c.loop-r.invariant.value c.in_ok-row.ensures.value c.in_ok-push.ensures.ok;
     }

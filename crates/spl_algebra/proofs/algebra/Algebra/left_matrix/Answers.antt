@@ -21,7 +21,7 @@ returns-clause-value g c =
     let constants = c.constants-constants.result.now in
     let A = c.args.self.now in
     let a = c.args.a.now in
-    let P : List (List g.row.F-Elem.Denot) → Type 0 = λ r. r ≡ contraction o (length items) items constants 1 (d * d) in
+    let P : List (List g.row.F-Elem.Denot) → Type 0 = λ r. r ≡ contraction o (length items) items constants 1 d (d * d) in
     let Q : List (List g.row.F-Elem.Denot) → Type 0 = λ r. r ≡ left_matrix o A.dim A.constants a in
     IfOk-weaker c.contraction_of.result P Q
     (λ r e. e ∙ contraction-left_of o L A.dim A.constants c.requires.over.of_elements (length items) d items a constants (ap length c.as_slice.ensures ∙ c.requires.element.right_length)

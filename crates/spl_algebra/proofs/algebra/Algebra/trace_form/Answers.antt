@@ -21,7 +21,7 @@ returns-clause-value g c =
     let items = c.as_slice.result.now in
     let constants = c.constants-constants.result.now in
     let A = c.args.self.now in
-    let P : List (List g.row.F-Elem.Denot) → Type 0 = λ r. r ≡ contraction o (length items) items constants (d * d) 1 in
+    let P : List (List g.row.F-Elem.Denot) → Type 0 = λ r. r ≡ contraction o (length items) items constants (d * d) d 1 in
     let Q : List (List g.row.F-Elem.Denot) → Type 0 = λ r. r ≡ trace_form o A.dim A.constants in
     IfOk-weaker c.contraction_of.result P Q
     (λ r e. e ∙ contraction-form_of o L A.dim A.constants c.requires.of_elements (length items) d items constants
