@@ -1,4 +1,5 @@
 pub mod Algebra
 pub mod Products
 pub mod Identity
+pub mod IdentitySystem
 pub mod Subspaces

@@ -60,6 +60,16 @@ impl<F: Field> Algebra<F> {
         self.dim
     }
 
+    /// The constants.
+    pub(crate) fn constants(&self) -> &[F::Elem]
+        ensures value { result.now ≡ self.now.constants }
+        ensures count { length result.now ≡ self.now.dim * self.now.dim * self.now.dim }
+        ensures fits { self.now.dim * self.now.dim * self.now.dim < 2 ^ 64 }
+    {
+        let _ = self.dim;
+        self.constants.as_slice()
+    }
+
     /// An equal algebra over f. The one fault is want of memory.
     pub fn copy(&self, alloc: Global, f: &F) -> Result<Self, NoMemory>
         requires { IsOver (F.ops f.now) self.now }

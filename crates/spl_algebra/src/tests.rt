@@ -5,6 +5,7 @@ ghost use Rattle.theory_spaces.specs.Tuples.{IsTuple};
 ghost use Rattle.spl_algebra.specs.Algebra.{IsOver};
 
 mod boxed;
+mod identities;
 
 use crate::algebra::Algebra;
 use crate::laws::associative_everywhere;
