@@ -6,4 +6,6 @@
 
 pub mod evidence;
 mod lines;
+#[cfg(test)]
+mod tests;
 pub mod writing;
