@@ -16,7 +16,7 @@ use Rattle.theory_blocks.specs.FixedPoints.{IsFixed}
 use Rattle.theory_blocks.specs.Splitting.{less_scalar, ScalarFactorsVanish}
 use Rattle.theory_blocks.proofs.Newton.{newton, newton_vanishes, Newton, Newton_congr, Newton-one, Newton-widen, Newton-add, Newton-scale, Newton-mul, power_form}
 
-lt_or_gt : (i m : ℕ) → (i ≡ m → ⊥) → (i < m) ⊎ (m < i)
+pub lt_or_gt : (i m : ℕ) → (i ≡ m → ⊥) → (i < m) ⊎ (m < i)
 lt_or_gt i m q = ⊎_elim (λ (b : i < m). inl b) (λ (b : m ≤ i). inr (above b)) (cases_lt i m)
   where
     above : m ≤ i → m < i

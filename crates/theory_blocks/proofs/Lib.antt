@@ -6,3 +6,7 @@ pub mod ZeroDivisors
 pub mod Lagrange
 pub mod SplitIdempotents
 pub mod ConnectedFields
+pub mod CommutingPowers
+pub mod FieldFactorsFamilies
+pub mod FieldFactors
+pub mod FieldFactorsSolutions

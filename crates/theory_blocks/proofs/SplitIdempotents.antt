@@ -16,12 +16,12 @@ use Rattle.theory_blocks.proofs.ZeroDivisors.{vector_eq_zero_or}
 use Rattle.theory_blocks.proofs.Lagrange.{lagrange_idempotents}
 
 -- one of n vectors that is not 0
-record Nonzero {V : Type 0} (origin : V) (n : ℕ) (v : ℕ → V) : Type 0 where
+pub record Nonzero {V : Type 0} (origin : V) (n : ℕ) (v : ℕ → V) : Type 0 where
   pub place : ℕ
   pub within : place < n
   pub nonzero : v place ≡ origin → ⊥
 
-nonzero_or : {V : Type 0} (origin : V) → ((x : V) → (x ≡ origin) ⊎ (x ≡ origin → ⊥)) → (n : ℕ) (v : ℕ → V)
+pub nonzero_or : {V : Type 0} (origin : V) → ((x : V) → (x ≡ origin) ⊎ (x ≡ origin → ⊥)) → (n : ℕ) (v : ℕ → V)
     → Nonzero origin n v ⊎ ((k : ℕ) → k < n → v k ≡ origin)
 nonzero_or origin dec zero v = inr (λ k l. absurd (omega arith))
 nonzero_or origin dec (suc n) v = ⊎_elim

@@ -2,3 +2,4 @@ pub mod FixedPoints
 pub mod Splitting
 pub mod Lagrange
 pub mod FieldFactors
+pub mod FactorLaws

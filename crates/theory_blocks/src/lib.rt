@@ -6,5 +6,6 @@
 // Read specs/FixedPoints, specs/Splitting and specs/Lagrange first, then the contracts in frobenius_laws and splitting_laws.
 #![tactic(auto)]
 
+pub mod factor_laws;
 pub mod frobenius_laws;
 pub mod splitting_laws;

@@ -1,0 +1,205 @@
+-- Orthogonal idempotents of a commutative subalgebra with the sum one, on each of which given solutions of z^q = z are scalars: each
+-- solution refines them by its Lagrange idempotents. Those that are 0 are left out in the end.
+use Rattle.std.specs.Prelude.{◌≡◌, ℕ, zero, suc, ◌+◌, ◌*◌, ◌/◌, ◌%◌, ◌<◌, ◌≤◌, ◌⊎◌, Bool, true, false, cond, eqb}
+use Rattle.std.proofs.Common.{refl, sym, ◌∙◌, ap, ap₂, subst, arith, ⊎_elim}
+use Rattle.std.proofs.Math.Nat.{div-add-mod}
+use Rattle.std.proofs.lemmas.Nat.{div-mul-add, mod-mul-add}
+use Rattle.std.proofs.lemmas.Bool.{cases_lt, cases_eq}
+use Rattle.theory_rings.specs.Ring.{AddCommMonoidOn, RingOn, FieldOn}
+use Rattle.theory_rings.specs.Sum.{sum}
+use Rattle.theory_rings.specs.Enumerated.{Enumerated}
+use Rattle.theory_rings.proofs.Rings.RingLaws.{add-zero, mul-zero, zero-mul}
+use Rattle.theory_rings.proofs.Sums.Sums.{sum_congr, sum-split, mul-sum}
+use Rattle.theory_spaces.specs.Module.{AlgebraOn, module_of}
+use Rattle.theory_spaces.proofs.Families.{push, push-below, push-above, push-at, below_suc}
+use Rattle.theory_spaces.proofs.PairIndex.{row-lt, column-lt}
+use Rattle.theory_spaces.proofs.Subspaces.{neg_in}
+use Rattle.theory_radical.specs.Ideal.{product}
+use Rattle.theory_blocks.specs.FixedPoints.{IsFixed, IsSubalgebra}
+use Rattle.theory_blocks.specs.Splitting.{less_scalar}
+use Rattle.theory_blocks.specs.Lagrange.{lagrange_factor, lagrange, LagrangeSplits}
+use Rattle.theory_blocks.specs.FieldFactors.{IsCommutativeIn}
+use Rattle.theory_blocks.proofs.Annihilation.{lt_or_gt}
+use Rattle.theory_blocks.proofs.Lagrange.{lagrange_idempotents}
+
+-- a sum over the pairs of numbers below n and q, numbered row by row
+pub sum_pairs : {V : Type 0} (M : AddCommMonoidOn V) (n q : ℕ) (f : ℕ → ℕ → V)
+    → sum M (n * q) (λ u. f (u / q) (u % q)) ≡ sum M n (λ i. sum M q (λ j. f i j))
+sum_pairs M zero q f = let e : zero * q ≡ zero = omega arith in ap (λ t. sum M t (λ u. f (u / q) (u % q))) e
+sum_pairs M (suc n) q f =
+    let e : suc n * q ≡ n * q + q = omega arith in
+    let g = λ (u : ℕ). f (u / q) (u % q) in
+    ap (λ t. sum M t g) e ∙ sum-split M (n * q) q g
+    ∙ ap₂ (λ x y. M.◌⊕◌ x y) (sum_pairs M n q f)
+    (sum_congr M q (λ j. g (n * q + j)) (f n) (λ j l. ap₂ f (div-mul-add n q j l) (mod-mul-add n q j l)))
+
+-- the inner factors of a product of two change places, where they commute
+pub mul_mul_mul_comm : {V : Type 0} (R : RingOn V) (x y z w : V) → R.◌⊗◌ y z ≡ R.◌⊗◌ z y
+    → R.◌⊗◌ (R.◌⊗◌ x y) (R.◌⊗◌ z w) ≡ R.◌⊗◌ (R.◌⊗◌ x z) (R.◌⊗◌ y w)
+mul_mul_mul_comm R x y z w e =
+    R.mul_assoc x y (R.◌⊗◌ z w)
+    ∙ ap (R.◌⊗◌ x) (sym (R.mul_assoc y z w) ∙ ap (λ t. R.◌⊗◌ t w) e ∙ R.mul_assoc z y w)
+    ∙ sym (R.mul_assoc x z (R.◌⊗◌ y w))
+
+module _ {V : Type 0} (M : AddCommMonoidOn V) where
+  infixl 65 ◌⊕◌
+  open M use {◌⊕◌}
+
+  -- the members of a family that are not 0, in their order
+  pub record Kept (n : ℕ) (v : ℕ → V) : Type 0 where
+    pub size : ℕ
+    pub index : ℕ → ℕ
+    pub within : (j : ℕ) → j < size → index j < n
+    pub increasing : (i j : ℕ) → i < j → j < size → index i < index j
+    pub nonzero : (j : ℕ) → j < size → v (index j) ≡ M.zero → ⊥
+    pub total : sum M size (λ j. v (index j)) ≡ sum M n v
+
+  kept_drop : (n : ℕ) (v : ℕ → V) → Kept n v → v n ≡ M.zero → Kept (suc n) v
+  kept_drop n v p e = record {
+    size = p.size;
+    index = p.index;
+    within = λ j l. let w = p.within j l in omega arith;
+    increasing = p.increasing;
+    nonzero = p.nonzero;
+    total = p.total ∙ sym (ap (λ y. sum M n v ⊕ y) e ∙ add-zero M (sum M n v));
+  }
+
+  kept_more : (n : ℕ) (v : ℕ → V) → Kept n v → (v n ≡ M.zero → ⊥) → Kept (suc n) v
+  kept_more n v p d =
+      let below = push-below p.size n p.index in
+      let last = push-at p.size n p.index in
+      let P : ℕ → Type 0 = λ k. v k ≡ M.zero → ⊥ in
+      record {
+        size = suc p.size;
+        index = push p.size n p.index;
+        within = below_suc p.size (λ j. push p.size n p.index j < suc n)
+            (λ j l. let e = below j l in let w = p.within j l in omega arith) (omega arith);
+        increasing = λ i j g l. let e = below i (omega arith) in ⊎_elim
+            (λ (b : j < p.size). let e' = below j b in let w = p.increasing i j g b in omega arith)
+            (λ (b : p.size ≤ j). let e' = push-above p.size n p.index j b in let w = p.within i (omega arith) in omega arith)
+            (cases_lt j p.size);
+        nonzero = below_suc p.size (λ j. P (push p.size n p.index j)) (λ j l. subst P (sym (below j l)) (p.nonzero j l)) (subst P (sym last) d);
+        total = ap₂ (λ x y. x ⊕ y)
+            (sum_congr M p.size (λ j. v (push p.size n p.index j)) (λ j. v (p.index j)) (λ j l. ap v (below j l)) ∙ p.total) (ap v last);
+      }
+
+  pub kept : ((x : V) → (x ≡ M.zero) ⊎ (x ≡ M.zero → ⊥)) → (n : ℕ) (v : ℕ → V) → Kept n v
+  kept dec zero v = record {
+    size = zero;
+    index = λ j. j;
+    within = λ j l. absurd (omega arith);
+    increasing = λ i j g l. absurd (omega arith);
+    nonzero = λ j l. absurd (omega arith);
+    total = refl;
+  }
+  kept dec (suc n) v = let p = kept dec n v in ⊎_elim (kept_drop n v p) (kept_more n v p) (dec (v n))
+
+  pub kept_apart : (n : ℕ) (v : ℕ → V) (p : Kept n v) (i j : ℕ) → i < p.size → j < p.size → (i ≡ j → ⊥) → p.index i ≡ p.index j → ⊥
+  kept_apart n v p i j li lj d e = ⊎_elim
+      (λ (b : i < j). let w = p.increasing i j b lj in absurd (omega arith))
+      (λ (b : j < i). let w = p.increasing j i b li in absurd (omega arith))
+      (lt_or_gt i j d)
+
+module _ {K V : Type 0} (F : FieldOn K) (E : Enumerated K) (A : AlgebraOn F.ring V) (S : V → Type 0) (h : IsSubalgebra A S) where
+  infixl 70 ◌⊗◌
+  infixl 70 ◌•◌
+  open A use {ring, one, ◌⊗◌, ◌•◌, neg}
+
+  -- what is made of members of S lies in S
+  product_in : (f : ℕ → V) → ((j : ℕ) → S (f j)) → (n : ℕ) → S (product ring f n)
+  product_in f g zero = h.one-in
+  product_in f g (suc n) = h.mul-in (f n) (product ring f n) (g n) (product_in f g n)
+
+  pub less_scalar_in : (z : V) → S z → (c : K) → S (less_scalar A z c)
+  less_scalar_in z s c = h.subspace.add-in z (neg (c • one)) s (neg_in (module_of A) S h.subspace (c • one) (h.subspace.scale-in c one h.one-in))
+
+  pub factors_in : (c : ℕ → K) (z : V) → S z → (n : ℕ) → S (product ring (λ j. less_scalar A z (c j)) n)
+  factors_in c z s n = product_in (λ j. less_scalar A z (c j)) (λ j. less_scalar_in z s (c j)) n
+
+  choice_in : (b : Bool) (x y : V) → S x → S y → S (cond b x y)
+  choice_in true x y p q = p
+  choice_in false x y p q = q
+
+  lagrange_in : (z : V) → S z → (k : ℕ) → S (lagrange F E A z k)
+  lagrange_in z s k = product_in (lagrange_factor F E A z k)
+      (λ j. let a = F.inv (F.◌⊕◌ (E.member k) (F.neg (E.member j))) in let x = less_scalar A z (E.member j) in
+      choice_in (eqb j k) one (a • x) h.one-in (h.subspace.scale-in a x (less_scalar_in z s (E.member j)))) E.size
+
+  -- orthogonal idempotents of S with the sum one, on each of which b 0, .., b (t − 1) are scalars
+  pub record ScalarFamily (b : ℕ → V) (t : ℕ) : Type 0 where
+    pub count : ℕ
+    pub idempotent : ℕ → V
+    pub inside : (i : ℕ) → i < count → S (idempotent i)
+    pub idempotents : (i : ℕ) → i < count → idempotent i ⊗ idempotent i ≡ idempotent i
+    pub orthogonal : (i j : ℕ) → i < count → j < count → (i ≡ j → ⊥) → idempotent i ⊗ idempotent j ≡ A.zero
+    pub sum_to_one : sum A.monoid count idempotent ≡ one
+    pub scalars : (i : ℕ) → i < count → (j : ℕ) → j < t → (c : K) × (b j ⊗ idempotent i ≡ c • idempotent i)
+
+  one_alone : (b : ℕ → V) → ScalarFamily b zero
+  one_alone b = record {
+    count = 1;
+    idempotent = λ i. one;
+    inside = λ i l. h.one-in;
+    idempotents = λ i l. A.one-mul one;
+    orthogonal = λ i j li lj d. absurd (d (let e : i ≡ j = omega arith in e));
+    sum_to_one = A.zero-add one;
+    scalars = λ i l j g. absurd (omega arith);
+  }
+
+  module _ (comm : IsCommutativeIn F A S) (b : ℕ → V) (t : ℕ) (b_in : S (b t)) (fixed : IsFixed ring E.size (b t)) (P : ScalarFamily b t) where
+    abbrev q : ℕ
+    q = E.size
+
+    abbrev e : ℕ → V
+    e = P.idempotent
+
+    abbrev l : ℕ → V
+    l = lagrange F E A (b t)
+
+    splits : LagrangeSplits F E A (b t)
+    splits = lagrange_idempotents F E A (b t) fixed
+
+    products : (i j k m : ℕ) → j < P.count → (e i ⊗ l k) ⊗ (e j ⊗ l m) ≡ (e i ⊗ e j) ⊗ (l k ⊗ l m)
+    products i j k m g = mul_mul_mul_comm ring (e i) (l k) (e j) (l m) (comm (l k) (e j) (lagrange_in (b t) b_in k) (P.inside j g))
+
+    products_orthogonal : (u v : ℕ) → u < P.count * q → v < P.count * q → (u ≡ v → ⊥)
+        → (e (u / q) ⊗ l (u % q)) ⊗ (e (v / q) ⊗ l (v % q)) ≡ A.zero
+    products_orthogonal u v hu hv d =
+        let lu = row-lt P.count q u hu in
+        let lv = row-lt P.count q v hv in
+        products (u / q) (v / q) (u % q) (v % q) lv ∙ ⊎_elim
+        (λ (same : u / q ≡ v / q). ap (λ w. (e (u / q) ⊗ e (v / q)) ⊗ w)
+        (splits.orthogonal (u % q) (v % q) (column-lt P.count q u hu) (column-lt P.count q v hv)
+        (λ r. d (sym (div-add-mod u q) ∙ ap₂ (λ x y. q * x + y) same r ∙ div-add-mod v q)))
+        ∙ mul-zero ring (e (u / q) ⊗ e (v / q)))
+        (λ (other : u / q ≡ v / q → ⊥). ap (λ w. w ⊗ (l (u % q) ⊗ l (v % q))) (P.orthogonal (u / q) (v / q) lu lv other)
+        ∙ zero-mul ring (l (u % q) ⊗ l (v % q)))
+        (cases_eq (u / q) (v / q))
+
+    -- the products of the idempotents and those of b t
+    refine : ScalarFamily b (suc t)
+    refine = record {
+      count = P.count * q;
+      idempotent = λ u. e (u / q) ⊗ l (u % q);
+      inside = λ u g. h.mul-in (e (u / q)) (l (u % q)) (P.inside (u / q) (row-lt P.count q u g)) (lagrange_in (b t) b_in (u % q));
+      idempotents = λ u g. let r = row-lt P.count q u g in
+          products (u / q) (u / q) (u % q) (u % q) r
+          ∙ ap₂ (λ x y. x ⊗ y) (P.idempotents (u / q) r) (splits.idempotent (u % q) (column-lt P.count q u g));
+      orthogonal = products_orthogonal;
+      sum_to_one = sum_pairs A.monoid P.count q (λ i k. e i ⊗ l k)
+          ∙ sum_congr A.monoid P.count (λ i. sum A.monoid q (λ k. e i ⊗ l k)) e
+          (λ i g. sym (mul-sum ring q (e i) l) ∙ ap (λ w. e i ⊗ w) splits.sum_to_one ∙ A.mul-one (e i)) ∙ P.sum_to_one;
+      scalars = λ u g. let i = u / q in let k = u % q in let r = row-lt P.count q u g in
+          below_suc t (λ j. (c : K) × (b j ⊗ (e i ⊗ l k) ≡ c • (e i ⊗ l k)))
+          (λ j f. let s = P.scalars i r j f in
+          (s.0, sym (A.mul_assoc (b j) (e i) (l k)) ∙ ap (λ w. w ⊗ l k) s.1 ∙ A.scale-left s.0 (e i) (l k)))
+          (E.member k,
+              sym (A.mul_assoc (b t) (e i) (l k)) ∙ ap (λ w. w ⊗ l k) (comm (b t) (e i) b_in (P.inside i r)) ∙ A.mul_assoc (e i) (b t) (l k)
+              ∙ ap (λ w. e i ⊗ w) (splits.scalar_on k (column-lt P.count q u g)) ∙ A.scale-right (E.member k) (e i) (l k));
+    }
+
+  pub scalar_family : IsCommutativeIn F A S → (b : ℕ → V) (t : ℕ) → ((j : ℕ) → j < t → S (b j) × IsFixed ring E.size (b j)) → ScalarFamily b t
+  scalar_family comm b zero g = one_alone b
+  scalar_family comm b (suc t) g =
+      let last = g t (omega arith) in
+      refine comm b t last.0 last.1 (scalar_family comm b t (λ j l. g j (omega arith)))
