@@ -40,8 +40,11 @@ module _ {V : Type 0} (R : RingOn V) (set : IsSet V) (a b : V) (comm : R.◌⊗�
     one = (R.one, λ y h. R.one-mul y ∙ sym (R.mul-one y));
     add = λ x z. (x.0 ⊕ z.0, λ y h. R.add-mul x.0 z.0 y ∙ ap₂ (λ u v. u ⊕ v) (x.1 y h) (z.1 y h) ∙ sym (R.mul-add y x.0 z.0));
     neg = λ x. (neg x.0, λ y h. neg-mul R x.0 y ∙ ap neg (x.1 y h) ∙ sym (mul-neg R y x.0));
-    mul = λ x z. (x.0 ⊗ z.0, λ y h. R.mul_assoc x.0 z.0 y ∙ ap (λ w. x.0 ⊗ w) (z.1 y h) ∙ sym (R.mul_assoc x.0 y z.0)
-        ∙ ap (λ w. w ⊗ z.0) (x.1 y h) ∙ R.mul_assoc y x.0 z.0);
+    mul = λ x z. (
+      x.0 ⊗ z.0,
+      λ y h. R.mul_assoc x.0 z.0 y ∙ ap (λ w. x.0 ⊗ w) (z.1 y h) ∙ sym (R.mul_assoc x.0 y z.0)
+          ∙ ap (λ w. w ⊗ z.0) (x.1 y h) ∙ R.mul_assoc y x.0 z.0,
+    );
     map = λ x. x.0;
     injective = Member-path;
     map-zero = refl;

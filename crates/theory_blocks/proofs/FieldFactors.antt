@@ -16,7 +16,7 @@ use Rattle.theory_rings.proofs.Powers.Powers.{power-zero}
 use Rattle.theory_rings.proofs.FiniteFields.FiniteFields.{power_size}
 use Rattle.theory_spaces.specs.Module.{ModuleOn, AlgebraOn, module_of}
 use Rattle.theory_spaces.specs.Linear.{comb, InSpan, Independent, Coords, Basis, BasisOf, Extension, IsSubmodule, IsLinear}
-use Rattle.theory_spaces.specs.Subspaces.{Kernel, Image, RankNullity}
+use Rattle.theory_spaces.specs.Subspaces.{Kernel, Image}
 use Rattle.theory_spaces.proofs.Families.{push, push-below, push-at, below_suc}
 use Rattle.theory_spaces.proofs.Modules.{zero-scale, scale-neg, comb_congr, comb_congr_right, comb-add, comb-scale, comb-push_zero, comb_in, span_in, map-zero, left_linear, linear_comp}
 use Rattle.theory_spaces.proofs.Dimension.{exchange}
@@ -29,7 +29,7 @@ use Rattle.theory_blocks.proofs.FixedPoints.{power-scale, times-scale, size_pos}
 use Rattle.theory_blocks.proofs.Connected.{power_idempotent}
 use Rattle.theory_blocks.proofs.ZeroDivisors.{vector_eq_zero_or}
 use Rattle.theory_blocks.proofs.CommutingPowers.{add-power_of_commute}
-use Rattle.theory_blocks.proofs.FieldFactorsFamilies.{kept, kept_apart, ScalarFamily, scalar_family}
+use Rattle.theory_blocks.proofs.FieldFactorsFamilies.{kept, kept_apart, scalar_family}
 
 -- a space with coordinates is a set
 space_set : {K V : Type 0} (F : FieldOn K) (M : ModuleOn F.ring V) (m : ℕ) → Coords M m → IsSet V

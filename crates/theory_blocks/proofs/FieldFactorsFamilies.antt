@@ -192,10 +192,11 @@ module _ {K V : Type 0} (F : FieldOn K) (E : Enumerated K) (A : AlgebraOn F.ring
       scalars = λ u g. let i = u / q in let k = u % q in let r = row-lt P.count q u g in
           below_suc t (λ j. (c : K) × (b j ⊗ (e i ⊗ l k) ≡ c • (e i ⊗ l k)))
           (λ j f. let s = P.scalars i r j f in
-          (s.0, sym (A.mul_assoc (b j) (e i) (l k)) ∙ ap (λ w. w ⊗ l k) s.1 ∙ A.scale-left s.0 (e i) (l k)))
-          (E.member k,
-              sym (A.mul_assoc (b t) (e i) (l k)) ∙ ap (λ w. w ⊗ l k) (comm (b t) (e i) b_in (P.inside i r)) ∙ A.mul_assoc (e i) (b t) (l k)
-              ∙ ap (λ w. e i ⊗ w) (splits.scalar_on k (column-lt P.count q u g)) ∙ A.scale-right (E.member k) (e i) (l k));
+          (s.0, sym (A.mul_assoc (b j) (e i) (l k)) ∙ ap (λ w. w ⊗ l k) s.1 ∙ A.scale-left s.0 (e i) (l k))) (
+            E.member k,
+            sym (A.mul_assoc (b t) (e i) (l k)) ∙ ap (λ w. w ⊗ l k) (comm (b t) (e i) b_in (P.inside i r)) ∙ A.mul_assoc (e i) (b t) (l k)
+                ∙ ap (λ w. e i ⊗ w) (splits.scalar_on k (column-lt P.count q u g)) ∙ A.scale-right (E.member k) (e i) (l k),
+          );
     }
 
   pub scalar_family : IsCommutativeIn F A S → (b : ℕ → V) (t : ℕ) → ((j : ℕ) → j < t → S (b j) × IsFixed ring E.size (b j)) → ScalarFamily b t

@@ -1,7 +1,7 @@
 -- The solutions of z^q = z in a commutative subalgebra that is a direct product of fields are the combinations of its idempotents:
 -- on the idempotent e of one of the fields the product of z − c over the q scalars c is 0, so one of the factors is. And two such
 -- products have the same idempotents: a product of one of each is an idempotent of both fields, so it is 0 or both.
-use Rattle.std.specs.Prelude.{◌≡◌, ℕ, zero, suc, ◌<◌, ◌≤◌, ◌^◌, ◌⊎◌}
+use Rattle.std.specs.Prelude.{◌≡◌, ℕ, zero, suc, ◌<◌, ◌≤◌, ◌⊎◌}
 use Rattle.std.proofs.Common.{sym, ◌∙◌, ap, ap₂, subst, arith, ⊎_elim}
 use Rattle.theory_rings.specs.Ring.{FieldOn}
 use Rattle.theory_rings.specs.Power.{power}
@@ -14,12 +14,12 @@ use Rattle.theory_spaces.specs.Module.{ModuleOn, AlgebraOn, module_of}
 use Rattle.theory_spaces.specs.Linear.{comb, InSpan, Independent, Basis}
 use Rattle.theory_spaces.specs.Subspaces.{Whole}
 use Rattle.theory_spaces.proofs.Families.{choose_each}
-use Rattle.theory_spaces.proofs.Modules.{scale-zero, comb_congr, comb_congr_right, InSpan-member, span_in, map-comb, left_linear, right_linear}
+use Rattle.theory_spaces.proofs.Modules.{scale-zero, comb_congr, InSpan-member, span_in, map-comb, left_linear, right_linear}
 use Rattle.theory_spaces.proofs.Dimension.{exchange}
 use Rattle.theory_spaces.proofs.Spaces.{coords_of}
 use Rattle.theory_spaces.proofs.Subspaces.{whole_submodule, whole_basis}
 use Rattle.theory_radical.specs.Ideal.{product}
-use Rattle.theory_blocks.specs.FixedPoints.{IsFixed, IsSubalgebra}
+use Rattle.theory_blocks.specs.FixedPoints.{IsSubalgebra}
 use Rattle.theory_blocks.specs.Splitting.{less_scalar}
 use Rattle.theory_blocks.specs.FieldFactors.{IsCommutativeIn, FieldFactors}
 use Rattle.theory_blocks.specs.FactorLaws.{SameFactors, FactorsAreUnique, SolutionsArePower, FixedPointsByFactors, FieldFactorsExist, SolutionsArePowerOfField}
