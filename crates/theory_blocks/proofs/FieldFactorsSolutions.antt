@@ -1,40 +1,36 @@
--- The solutions of z^q = z in a commutative subalgebra that is a direct product of fields are the combinations of its idempotents:
--- on the idempotent e of one of the fields the product of z − c over the q scalars c is 0, so one of the factors is. And two such
--- products have the same idempotents: a product of one of each is an idempotent of both fields, so it is 0 or both.
-use Rattle.std.specs.Prelude.{◌≡◌, ℕ, zero, suc, ◌<◌, ◌≤◌, ◌⊎◌}
-use Rattle.std.proofs.Common.{sym, ◌∙◌, ap, ap₂, subst, arith, ⊎_elim}
+-- The solutions of z^q = z in a commutative subalgebra that is a direct product of fields are the combinations of its idempotents: on
+-- the unit e of one of the fields the product of the z − c over the q scalars c is 0, so one of the factors is.
+use Rattle.std.specs.Prelude.{◌≡◌, ℕ, zero, suc, ◌<◌, ◌⊎◌}
+use Rattle.std.proofs.Common.{sym, ◌∙◌, ap, ⊎_elim}
 use Rattle.theory_rings.specs.Ring.{FieldOn}
 use Rattle.theory_rings.specs.Power.{power}
 use Rattle.theory_rings.specs.Enumerated.{Enumerated}
 use Rattle.theory_rings.proofs.Rings.RingLaws.{mul-zero, zero-mul}
 use Rattle.theory_rings.proofs.Rings.ZeroTests.{eq_zero_or, eq_of_sub_eq_zero}
-use Rattle.theory_rings.proofs.Sums.Sums.{sum_congr, sum_eq_zero, sum_eq_single, mul-sum}
+use Rattle.theory_rings.proofs.Sums.Sums.{sum_congr, sum_eq_single, mul-sum}
 use Rattle.theory_rings.proofs.FiniteFields.FiniteFields.{power_size}
 use Rattle.theory_spaces.specs.Module.{ModuleOn, AlgebraOn, module_of}
 use Rattle.theory_spaces.specs.Linear.{comb, InSpan, Independent, Basis}
 use Rattle.theory_spaces.specs.Subspaces.{Whole}
 use Rattle.theory_spaces.proofs.Families.{choose_each}
-use Rattle.theory_spaces.proofs.Modules.{scale-zero, comb_congr, InSpan-member, span_in, map-comb, left_linear, right_linear}
-use Rattle.theory_spaces.proofs.Dimension.{exchange}
+use Rattle.theory_spaces.proofs.Modules.{scale-zero, comb_congr, span_in, map-comb, left_linear, right_linear}
 use Rattle.theory_spaces.proofs.Spaces.{coords_of}
 use Rattle.theory_spaces.proofs.Subspaces.{whole_submodule, whole_basis}
 use Rattle.theory_radical.specs.Ideal.{product}
 use Rattle.theory_blocks.specs.FixedPoints.{IsSubalgebra}
 use Rattle.theory_blocks.specs.Splitting.{less_scalar}
 use Rattle.theory_blocks.specs.FieldFactors.{IsCommutativeIn, FieldFactors}
-use Rattle.theory_blocks.specs.FactorLaws.{SameFactors, FactorsAreUnique, SolutionsArePower, FixedPointsByFactors, FieldFactorsExist, SolutionsArePowerOfField}
+use Rattle.theory_blocks.specs.FactorLaws.{SolutionsArePower, FixedPointsByFactors, SolutionsArePowerOfField}
 use Rattle.theory_blocks.proofs.Newton.{less_scalar-mul}
 use Rattle.theory_blocks.proofs.Annihilation.{scalar_factors}
 use Rattle.theory_blocks.proofs.ZeroDivisors.{vector_eq_zero_or}
-use Rattle.theory_blocks.proofs.SplitIdempotents.{Nonzero, nonzero_or}
-use Rattle.theory_blocks.proofs.FieldFactorsFamilies.{mul_mul_mul_comm, less_scalar_in, factors_in}
+use Rattle.theory_blocks.proofs.FieldFactorsFamilies.{less_scalar_in, factors_in}
 use Rattle.theory_blocks.proofs.FieldFactors.{field_factors}
 
 module _ {K V : Type 0} (F : FieldOn K) (A : AlgebraOn F.ring V) (S : V → Type 0) where
-  infixl 65 ◌⊕◌
   infixl 70 ◌⊗◌
   infixl 70 ◌•◌
-  open A use {ring, one, ◌⊕◌, ◌⊗◌, ◌•◌, neg}
+  open A use {ring, one, ◌⊗◌, ◌•◌}
 
   abbrev M : ModuleOn F.ring V
   M = module_of A
@@ -79,12 +75,6 @@ module _ {K V : Type 0} (F : FieldOn K) (A : AlgebraOn F.ring V) (S : V → Type
     factors_map-power c zero = sym factors_map-one
     factors_map-power c (suc t) = ap (λ x. comb M n c e ⊗ x) (factors_map-power c t) ∙ sym (factors_map-mul c (λ i. power F.ring (c i) t))
 
-    -- an idempotent other than 0 on one of the fields is that of the field
-    factor_unit : IsCommutativeIn F A S → (i : ℕ) → i < n → (x : V) → S x → e i ⊗ x ≡ x → x ⊗ x ≡ x → (x ≡ A.zero → ⊥) → x ≡ e i
-    factor_unit comm i l x s keeps square d =
-        let y = D.field i l x s keeps d in
-        sym keeps ∙ comm (e i) x (D.inside i l) s ∙ ap (λ w. x ⊗ w) (sym y.3) ∙ sym (A.mul_assoc x x y.0) ∙ ap (λ w. w ⊗ y.0) square ∙ y.3
-
     -- a combination of all, where each product with one of them is a multiple of it
     sum_of_parts : (z : V) → ((i : ℕ) → i < n → (c : K) × (z ⊗ e i ≡ c • e i)) → InSpan M n e z
     sum_of_parts z g =
@@ -95,102 +85,55 @@ module _ {K V : Type 0} (F : FieldOn K) (A : AlgebraOn F.ring V) (S : V → Type
               ∙ sum_congr A.monoid n (λ i. z ⊗ e i) (λ i. c.0 i • e i) c.1;
         }
 
-  module _ (h : IsSubalgebra A S) (comm : IsCommutativeIn F A S) (dec : (x : V) → (x ≡ A.zero) ⊎ (x ≡ A.zero → ⊥)) where
-    -- the product of two idempotents that is not 0 is both
-    both : (D G : FieldFactors F A S) (i j : ℕ) → i < D.count → j < G.count → (D.idempotent i ⊗ G.idempotent j ≡ A.zero → ⊥) → D.idempotent i ≡ G.idempotent j
-    both D G i j li lj d =
+  module _ (h : IsSubalgebra A S) (comm : IsCommutativeIn F A S) (dec : (x : V) → (x ≡ A.zero) ⊎ (x ≡ A.zero → ⊥)) (E : Enumerated K)
+      (D : FieldFactors F A S) where
+    -- a factor z − c of a product that is 0 on one of the fields is 0 there
+    scalar_of_product : (z : V) → S z → (i : ℕ) → i < D.count → (t : ℕ)
+        → D.idempotent i ⊗ product ring (λ j. less_scalar A z (E.member j)) t ≡ A.zero → (c : K) × (z ⊗ D.idempotent i ≡ c • D.idempotent i)
+    scalar_of_product z s i l zero g = absurd (D.nonzero i l (sym (A.mul-one (D.idempotent i)) ∙ g))
+    scalar_of_product z s i l (suc t) g =
         let a = D.idempotent i in
-        let b = G.idempotent j in
-        let sa = D.inside i li in
-        let sb = G.inside j lj in
-        let x = a ⊗ b in
-        let sx : S x = h.mul-in a b sa sb in
-        let left : a ⊗ x ≡ x = sym (A.mul_assoc a a b) ∙ ap (λ w. w ⊗ b) (D.idempotents i li) in
-        let right : b ⊗ x ≡ x = comm b x sb sx ∙ A.mul_assoc a b b ∙ ap (λ w. a ⊗ w) (G.idempotents j lj) in
-        let square : x ⊗ x ≡ x =
-        mul_mul_mul_comm ring a b a b (comm b a sb sa) ∙ ap₂ (λ u v. u ⊗ v) (D.idempotents i li) (G.idempotents j lj) in
-        sym (factor_unit D comm i li x sx left square d) ∙ factor_unit G comm j lj x sx right square d
-
-    same_idempotent : (D G : FieldFactors F A S) (i : ℕ) → i < D.count → (j : ℕ) × (j < G.count) × (D.idempotent i ≡ G.idempotent j)
-    same_idempotent D G i l =
-        let a = D.idempotent i in
+        let c = E.member t in
+        let f = less_scalar A z c in
+        let p = product ring (λ j. less_scalar A z (E.member j)) t in
+        let x = a ⊗ p in
+        let sa = D.inside i l in
+        let sp : S p = factors_in F E A S h E.member z s t in
         ⊎_elim
-        (λ (p : Nonzero A.zero G.count (λ j. a ⊗ G.idempotent j)). (p.place, p.within, both D G i p.place l p.within p.nonzero))
-        (λ (z : (j : ℕ) → j < G.count → a ⊗ G.idempotent j ≡ A.zero). absurd (D.nonzero i l (
-        sym (A.mul-one a) ∙ ap (λ y. a ⊗ y) (sym G.sum_to_one) ∙ mul-sum ring G.count a G.idempotent
-        ∙ sum_eq_zero A.monoid G.count (λ j. a ⊗ G.idempotent j) z)))
-        (nonzero_or A.zero dec G.count (λ j. a ⊗ G.idempotent j))
+        (λ (w : x ≡ A.zero). scalar_of_product z s i l t w)
+        (λ (d : x ≡ A.zero → ⊥).
+        let y = D.field i l x (h.mul-in a p sa sp) (sym (A.mul_assoc a a p) ∙ ap (λ w. w ⊗ p) (D.idempotents i l)) d in
+        let none : f ⊗ x ≡ A.zero =
+        sym (A.mul_assoc f a p) ∙ ap (λ w. w ⊗ p) (sym (comm a f sa (less_scalar_in F E A S h z s c))) ∙ A.mul_assoc a f p ∙ g in
+        let gone : f ⊗ a ≡ A.zero = ap (λ w. f ⊗ w) (sym y.3) ∙ sym (A.mul_assoc f x y.0) ∙ ap (λ w. w ⊗ y.0) none ∙ zero-mul ring y.0 in
+        (c, eq_of_sub_eq_zero A.additive (z ⊗ a) (c • a) (sym (less_scalar-mul A z c a) ∙ gone)))
+        (dec x)
 
-    count_le : (D G : FieldFactors F A S) → D.count ≤ G.count
-    count_le D G = exchange F M D.count G.count D.idempotent G.idempotent (factors_independent D)
-        (λ i l. let t = same_idempotent D G i l in
-        let In : V → Type 0 = InSpan M G.count G.idempotent in subst In (sym t.2) (InSpan-member M G.count t.0 G.idempotent t.1))
-
-    same_factors : (D G : FieldFactors F A S) → SameFactors F A S D G
-    same_factors D G = record {
-      count = let a = count_le D G in let b = count_le G D in omega arith;
-      left = same_idempotent D G;
-      right = same_idempotent G D;
+    solutions_are_power : SolutionsArePower F E A S D.count D.idempotent
+    solutions_are_power = record {
+      independent = factors_independent D;
+      solutions = λ z. (
+        λ t. sum_of_parts D z (λ i l. scalar_of_product z t.0 i l E.size
+            (ap (λ y. D.idempotent i ⊗ y) (scalar_factors F E A z t.1) ∙ mul-zero ring (D.idempotent i))),
+        λ t. let c = t.weights in (
+          span_in M S h.subspace D.count D.idempotent D.inside z t,
+          ap (λ y. power ring y E.size) t.combines ∙ factors_map-power D c E.size
+              ∙ comb_congr M D.count (λ i. power F.ring (c i) E.size) c D.idempotent (λ i _. power_size F E (c i)) ∙ sym t.combines,
+        ),
+      );
+      map-mul = factors_map-mul D;
+      map-one = factors_map-one D;
     }
 
-    module _ (E : Enumerated K) (D : FieldFactors F A S) where
-      -- a factor z − c of a product that is 0 on one of the fields is 0 there
-      scalar_of_product : (z : V) → S z → (i : ℕ) → i < D.count → (t : ℕ)
-          → D.idempotent i ⊗ product ring (λ j. less_scalar A z (E.member j)) t ≡ A.zero → (c : K) × (z ⊗ D.idempotent i ≡ c • D.idempotent i)
-      scalar_of_product z s i l zero g = absurd (D.nonzero i l (sym (A.mul-one (D.idempotent i)) ∙ g))
-      scalar_of_product z s i l (suc t) g =
-          let a = D.idempotent i in
-          let c = E.member t in
-          let f = less_scalar A z c in
-          let p = product ring (λ j. less_scalar A z (E.member j)) t in
-          let x = a ⊗ p in
-          let sa = D.inside i l in
-          let sp : S p = factors_in F E A S h E.member z s t in
-          ⊎_elim
-          (λ (w : x ≡ A.zero). scalar_of_product z s i l t w)
-          (λ (d : x ≡ A.zero → ⊥).
-          let y = D.field i l x (h.mul-in a p sa sp) (sym (A.mul_assoc a a p) ∙ ap (λ w. w ⊗ p) (D.idempotents i l)) d in
-          let none : f ⊗ x ≡ A.zero =
-          sym (A.mul_assoc f a p) ∙ ap (λ w. w ⊗ p) (sym (comm a f sa (less_scalar_in F E A S h z s c))) ∙ A.mul_assoc a f p ∙ g in
-          let gone : f ⊗ a ≡ A.zero = ap (λ w. f ⊗ w) (sym y.3) ∙ sym (A.mul_assoc f x y.0) ∙ ap (λ w. w ⊗ y.0) none ∙ zero-mul ring y.0 in
-          (c, eq_of_sub_eq_zero A.additive (z ⊗ a) (c • a) (sym (less_scalar-mul A z c a) ∙ gone)))
-          (dec x)
-
-      solutions_are_power : SolutionsArePower F E A S D.count D.idempotent
-      solutions_are_power = record {
-        independent = factors_independent D;
-        solutions = λ z. (
-          λ t. sum_of_parts D z (λ i l. scalar_of_product z t.0 i l E.size
-              (ap (λ y. D.idempotent i ⊗ y) (scalar_factors F E A z t.1) ∙ mul-zero ring (D.idempotent i))),
-          λ t. let c = t.weights in (
-            span_in M S h.subspace D.count D.idempotent D.inside z t,
-            ap (λ y. power ring y E.size) t.combines ∙ factors_map-power D c E.size
-                ∙ comb_congr M D.count (λ i. power F.ring (c i) E.size) c D.idempotent (λ i _. power_size F E (c i)) ∙ sym t.combines,
-          ),
-        );
-        map-mul = factors_map-mul D;
-        map-one = factors_map-one D;
-      }
-
-module _ {K V : Type 0} (F : FieldOn K) (A : AlgebraOn F.ring V) (m : ℕ) (B : Basis (module_of A) m) (S : V → Type 0) where
-  abbrev decide_zero : (x : V) → (x ≡ A.zero) ⊎ (x ≡ A.zero → ⊥)
-  decide_zero = vector_eq_zero_or F (module_of A) m (coords_of (module_of A) m B)
-
-  pub factors_are_unique : FactorsAreUnique F A S
-  factors_are_unique h comm = same_factors F A S h comm decide_zero
-
-  module _ (E : Enumerated K) where
-    pub fixed_points_by_factors : FixedPointsByFactors F E A S
-    fixed_points_by_factors h comm D = solutions_are_power F A S h comm decide_zero E D
-
-    pub field_factors_exist : FieldFactorsExist F E A S
-    field_factors_exist p i prime char size h comm reduced k basis = field_factors F E A m B S h comm p i prime char size reduced k basis
-
 module _ {K V : Type 0} (F : FieldOn K) (E : Enumerated K) (A : AlgebraOn F.ring V) (m : ℕ) (B : Basis (module_of A) m) where
+  pub fixed_points_by_factors : (S : V → Type 0) → FixedPointsByFactors F E A S
+  fixed_points_by_factors S h comm = solutions_are_power F A S h comm (vector_eq_zero_or F (module_of A) m (coords_of (module_of A) m B)) E
+
   whole_subalgebra : IsSubalgebra A Whole
   whole_subalgebra = record { subspace = whole_submodule (module_of A); one-in = tt; mul-in = λ x y s t. tt }
 
   pub solutions_power_of_field : SolutionsArePowerOfField F E A
   solutions_power_of_field p i prime char size comm reduced =
-      let D = field_factors_exist F A m B Whole E p i prime char size whole_subalgebra (λ x y s t. comm x y) (λ x s. reduced x) m (whole_basis (module_of A) m B) in
-      record { factors = D; solutions = fixed_points_by_factors F A m B Whole E whole_subalgebra (λ x y s t. comm x y) D }
+      let all : IsCommutativeIn F A Whole = λ x y s t. comm x y in
+      let D = field_factors F E A m B Whole p i prime char size whole_subalgebra all (λ x s. reduced x) m (whole_basis (module_of A) m B) in
+      record { factors = D; solutions = fixed_points_by_factors Whole whole_subalgebra all D }

@@ -8,5 +8,8 @@ pub mod SplitIdempotents
 pub mod ConnectedFields
 pub mod CommutingPowers
 pub mod FieldFactorsFamilies
+pub mod FieldFactorsInverses
+pub mod FieldFactorsBasis
 pub mod FieldFactors
 pub mod FieldFactorsSolutions
+pub mod FieldFactorsUnique
