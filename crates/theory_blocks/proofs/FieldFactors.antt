@@ -12,7 +12,8 @@ use Rattle.theory_spaces.proofs.Modules.{zero-scale, span_in}
 use Rattle.theory_spaces.proofs.Spaces.{coords_of}
 use Rattle.theory_blocks.specs.FactorLaws.{FieldFactorsExist}
 use Rattle.theory_blocks.proofs.ZeroDivisors.{vector_eq_zero_or}
-use Rattle.theory_blocks.proofs.FieldFactorsFamilies.{kept, kept_apart, scalar_family}
+use Rattle.theory_blocks.proofs.NonzeroMembers.{kept, kept_apart}
+use Rattle.theory_blocks.proofs.FieldFactorsFamilies.{scalar_family}
 use Rattle.theory_blocks.proofs.FieldFactorsBasis.{solution_basis}
 use Rattle.theory_blocks.proofs.FieldFactorsInverses.{regular, inverse_on}
 

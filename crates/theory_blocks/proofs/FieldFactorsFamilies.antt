@@ -1,17 +1,17 @@
 -- Orthogonal idempotents of a commutative subalgebra with the sum one, on each of which given solutions of z^q = z are scalars: each
--- solution refines them by its Lagrange idempotents. Those that are 0 are left out in the end.
-use Rattle.std.specs.Prelude.{◌≡◌, ℕ, zero, suc, ◌+◌, ◌*◌, ◌/◌, ◌%◌, ◌<◌, ◌≤◌, ◌⊎◌, Bool, true, false, cond, eqb}
-use Rattle.std.proofs.Common.{refl, sym, ◌∙◌, ap, ap₂, subst, arith, ⊎_elim}
+-- solution refines them by its Lagrange idempotents.
+use Rattle.std.specs.Prelude.{◌≡◌, ℕ, zero, suc, ◌+◌, ◌*◌, ◌/◌, ◌%◌, ◌<◌, Bool, true, false, cond, eqb}
+use Rattle.std.proofs.Common.{sym, ◌∙◌, ap, ap₂, arith, ⊎_elim}
 use Rattle.std.proofs.Math.Nat.{div-add-mod}
 use Rattle.std.proofs.lemmas.Nat.{div-mul-add, mod-mul-add}
-use Rattle.std.proofs.lemmas.Bool.{cases_lt, cases_eq}
+use Rattle.std.proofs.lemmas.Bool.{cases_eq}
 use Rattle.theory_rings.specs.Ring.{AddCommMonoidOn, RingOn, FieldOn}
 use Rattle.theory_rings.specs.Sum.{sum}
 use Rattle.theory_rings.specs.Enumerated.{Enumerated}
-use Rattle.theory_rings.proofs.Rings.RingLaws.{add-zero, mul-zero, zero-mul}
+use Rattle.theory_rings.proofs.Rings.RingLaws.{mul-zero, zero-mul}
 use Rattle.theory_rings.proofs.Sums.Sums.{sum_congr, sum-split, mul-sum}
 use Rattle.theory_spaces.specs.Module.{AlgebraOn, module_of}
-use Rattle.theory_spaces.proofs.Families.{push, push-below, push-above, push-at, below_suc}
+use Rattle.theory_spaces.proofs.Families.{below_suc}
 use Rattle.theory_spaces.proofs.PairIndex.{row-lt, column-lt}
 use Rattle.theory_spaces.proofs.Subspaces.{neg_in}
 use Rattle.theory_radical.specs.Ideal.{product}
@@ -19,7 +19,6 @@ use Rattle.theory_blocks.specs.FixedPoints.{IsFixed, IsSubalgebra}
 use Rattle.theory_blocks.specs.Splitting.{less_scalar}
 use Rattle.theory_blocks.specs.Lagrange.{lagrange_factor, lagrange, LagrangeSplits}
 use Rattle.theory_blocks.specs.FieldFactors.{IsCommutativeIn}
-use Rattle.theory_blocks.proofs.Annihilation.{lt_or_gt}
 use Rattle.theory_blocks.proofs.Lagrange.{lagrange_idempotents}
 
 -- a sum over the pairs of numbers below n and q, numbered row by row
@@ -40,65 +39,6 @@ mul_mul_mul_comm R x y z w e =
     R.mul_assoc x y (R.◌⊗◌ z w)
     ∙ ap (R.◌⊗◌ x) (sym (R.mul_assoc y z w) ∙ ap (λ t. R.◌⊗◌ t w) e ∙ R.mul_assoc z y w)
     ∙ sym (R.mul_assoc x z (R.◌⊗◌ y w))
-
-module _ {V : Type 0} (M : AddCommMonoidOn V) where
-  infixl 65 ◌⊕◌
-  open M use {◌⊕◌}
-
-  -- the members of a family that are not 0, in their order
-  pub record Kept (n : ℕ) (v : ℕ → V) : Type 0 where
-    pub size : ℕ
-    pub index : ℕ → ℕ
-    pub within : (j : ℕ) → j < size → index j < n
-    pub increasing : (i j : ℕ) → i < j → j < size → index i < index j
-    pub nonzero : (j : ℕ) → j < size → v (index j) ≡ M.zero → ⊥
-    pub total : sum M size (λ j. v (index j)) ≡ sum M n v
-
-  kept_drop : (n : ℕ) (v : ℕ → V) → Kept n v → v n ≡ M.zero → Kept (suc n) v
-  kept_drop n v p e = record {
-    size = p.size;
-    index = p.index;
-    within = λ j l. let w = p.within j l in omega arith;
-    increasing = p.increasing;
-    nonzero = p.nonzero;
-    total = p.total ∙ sym (ap (λ y. sum M n v ⊕ y) e ∙ add-zero M (sum M n v));
-  }
-
-  kept_more : (n : ℕ) (v : ℕ → V) → Kept n v → (v n ≡ M.zero → ⊥) → Kept (suc n) v
-  kept_more n v p d =
-      let below = push-below p.size n p.index in
-      let last = push-at p.size n p.index in
-      let P : ℕ → Type 0 = λ k. v k ≡ M.zero → ⊥ in
-      record {
-        size = suc p.size;
-        index = push p.size n p.index;
-        within = below_suc p.size (λ j. push p.size n p.index j < suc n)
-            (λ j l. let e = below j l in let w = p.within j l in omega arith) (omega arith);
-        increasing = λ i j g l. let e = below i (omega arith) in ⊎_elim
-            (λ (b : j < p.size). let e' = below j b in let w = p.increasing i j g b in omega arith)
-            (λ (b : p.size ≤ j). let e' = push-above p.size n p.index j b in let w = p.within i (omega arith) in omega arith)
-            (cases_lt j p.size);
-        nonzero = below_suc p.size (λ j. P (push p.size n p.index j)) (λ j l. subst P (sym (below j l)) (p.nonzero j l)) (subst P (sym last) d);
-        total = ap₂ (λ x y. x ⊕ y)
-            (sum_congr M p.size (λ j. v (push p.size n p.index j)) (λ j. v (p.index j)) (λ j l. ap v (below j l)) ∙ p.total) (ap v last);
-      }
-
-  pub kept : ((x : V) → (x ≡ M.zero) ⊎ (x ≡ M.zero → ⊥)) → (n : ℕ) (v : ℕ → V) → Kept n v
-  kept dec zero v = record {
-    size = zero;
-    index = λ j. j;
-    within = λ j l. absurd (omega arith);
-    increasing = λ i j g l. absurd (omega arith);
-    nonzero = λ j l. absurd (omega arith);
-    total = refl;
-  }
-  kept dec (suc n) v = let p = kept dec n v in ⊎_elim (kept_drop n v p) (kept_more n v p) (dec (v n))
-
-  pub kept_apart : (n : ℕ) (v : ℕ → V) (p : Kept n v) (i j : ℕ) → i < p.size → j < p.size → (i ≡ j → ⊥) → p.index i ≡ p.index j → ⊥
-  kept_apart n v p i j li lj d e = ⊎_elim
-      (λ (b : i < j). let w = p.increasing i j b lj in absurd (omega arith))
-      (λ (b : j < i). let w = p.increasing j i b li in absurd (omega arith))
-      (lt_or_gt i j d)
 
 module _ {K V : Type 0} (F : FieldOn K) (E : Enumerated K) (A : AlgebraOn F.ring V) (S : V → Type 0) (h : IsSubalgebra A S) where
   infixl 70 ◌⊗◌

@@ -7,6 +7,7 @@ pub mod Lagrange
 pub mod SplitIdempotents
 pub mod ConnectedFields
 pub mod CommutingPowers
+pub mod NonzeroMembers
 pub mod FieldFactorsFamilies
 pub mod FieldFactorsInverses
 pub mod FieldFactorsBasis

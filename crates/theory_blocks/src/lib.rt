@@ -4,6 +4,10 @@
 // is a theorem.
 //
 // Read specs/FixedPoints, specs/Splitting and specs/Lagrange first, then the contracts in frobenius_laws and splitting_laws.
+//
+// The field factors of a commutative subalgebra: where 0 is its only nilpotent element, it is a direct product of fields, in one
+// way, and its solutions of z^q = z are the algebra of the s-tuples of scalars, where s is the number of the fields. Read
+// specs/FieldFactors and specs/FactorLaws, then the contracts in factor_laws.
 #![tactic(auto)]
 
 pub mod factor_laws;
