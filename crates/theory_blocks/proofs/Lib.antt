@@ -6,3 +6,7 @@ pub mod ZeroDivisors
 pub mod Lagrange
 pub mod SplitIdempotents
 pub mod ConnectedFields
+pub mod Semiprime
+pub mod LeftUnits
+pub mod CentralIdempotents
+pub mod MaximalIdeals

@@ -1,3 +1,5 @@
 pub mod FixedPoints
 pub mod Splitting
 pub mod Lagrange
+pub mod FieldFactors
+pub mod MaximalIdeals

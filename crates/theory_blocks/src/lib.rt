@@ -8,3 +8,4 @@
 
 pub mod frobenius_laws;
 pub mod splitting_laws;
+pub mod maximal_laws;
