@@ -14,7 +14,7 @@ use Rattle.theory_spaces.proofs.Spaces.{coords_of, span_basis}
 use Rattle.theory_spaces.proofs.Ideals.{ideal_left, ideal_right}
 use Rattle.theory_blocks.specs.MaximalIdeals.{HasNoNilpotentIdeal, CentralUnit, IdealsHaveCentralUnits}
 use Rattle.theory_blocks.proofs.Semiprime.{semiprime}
-use Rattle.theory_blocks.proofs.LeftUnits.{IsRightIdeal, LeftUnit, left_unit}
+use Rattle.theory_blocks.proofs.LeftUnits.{LeftUnit, left_unit}
 
 module _ {K V : Type 0} (F : FieldOn K) (A : AlgebraOn F.ring V) (m : ℕ) (B : Basis (module_of A) m) where
   infixl 65 ◌⊕◌

@@ -2,7 +2,7 @@
 -- members are 0, so is S. Else a member x sends S onto x·S other than 0. If x·S is smaller than S it has a left unit f by induction, an
 -- idempotent other than 0, and so has the right ideal of the members that f sends to 0, and both together give one of S. If not, x
 -- is x·e for a member e, which is a left unit since x sends no other member than 0 to 0.
-use Rattle.std.specs.Prelude.{◌≡◌, ℕ, zero, suc, ◌+◌, ◌<◌, ◌≤◌, ◌⊎◌}
+use Rattle.std.specs.Prelude.{◌≡◌, ℕ, zero, suc, ◌<◌, ◌≤◌, ◌⊎◌}
 use Rattle.std.proofs.Common.{refl, sym, ◌∙◌, ap, ap₂, subst, arith, inl, inr, ⊎_elim}
 use Rattle.std.proofs.lemmas.Bool.{cases_lt}
 use Rattle.theory_rings.specs.Ring.{RingOn, FieldOn}

@@ -1,8 +1,8 @@
 -- The maximal ideals of an algebra without nilpotent ideals but 0 whose centre is a product of fields, with the idempotents e 0, e 1, ..
 -- Where u is a central idempotent, (e i)·u is 0 or e i, since the block of e i in the centre is a field. Taken of the central unit
 -- of an ideal this tells which of the blocks the ideal holds.
-use Rattle.std.specs.Prelude.{◌≡◌, ℕ, zero, suc, ◌<◌, ◌≤◌, ◌⊎◌, ◌↔◌}
-use Rattle.std.proofs.Common.{refl, sym, ◌∙◌, ap, ap₂, subst, arith, inl, inr, ⊎_elim}
+use Rattle.std.specs.Prelude.{◌≡◌, ℕ, ◌<◌, ◌≤◌, ◌⊎◌, ◌↔◌}
+use Rattle.std.proofs.Common.{sym, ◌∙◌, ap, ap₂, subst, arith, inl, inr, ⊎_elim}
 use Rattle.std.proofs.lemmas.Bool.{cases_lt, cases_eq}
 use Rattle.theory_rings.specs.Ring.{RingOn, FieldOn}
 use Rattle.theory_rings.specs.Sum.{sum}
@@ -12,14 +12,14 @@ use Rattle.theory_spaces.specs.Module.{ModuleOn, AlgebraOn, module_of}
 use Rattle.theory_spaces.specs.Linear.{InSpan, Basis}
 use Rattle.theory_spaces.specs.Algebra.{IdealSpan}
 use Rattle.theory_spaces.specs.AlgebraMap.{IsSimple}
-use Rattle.theory_spaces.specs.Subspaces.{Whole, RankNullity}
+use Rattle.theory_spaces.specs.Subspaces.{Whole}
 use Rattle.theory_spaces.proofs.Modules.{InSpan-add, InSpan-member, linear_ext, linear_id, left_linear}
 use Rattle.theory_spaces.proofs.Spaces.{coords_of}
 use Rattle.theory_spaces.proofs.Subspaces.{whole_submodule, whole_basis}
 use Rattle.theory_spaces.proofs.Kernels.{rank_nullity}
 use Rattle.theory_radical.specs.Ideal.{IsIdeal}
 use Rattle.theory_blocks.specs.FieldFactors.{FieldFactors}
-use Rattle.theory_blocks.specs.MaximalIdeals.{Centre, HasNoNilpotentIdeal, CentralUnit, IsMaximalIdeal, Annihilated, IsSimpleBlock, MaximalIdealsByFactors, MaximalIdealsLaw}
+use Rattle.theory_blocks.specs.MaximalIdeals.{Centre, HasNoNilpotentIdeal, CentralUnit, IsMaximalIdeal, Annihilated, MaximalIdealsLaw}
 use Rattle.theory_blocks.proofs.ZeroDivisors.{vector_eq_zero_or}
 use Rattle.theory_blocks.proofs.Semiprime.{linear_eq_zero}
 use Rattle.theory_blocks.proofs.LeftUnits.{some_or_all, idempotent_kills_rest, product_and_rest}
@@ -202,8 +202,7 @@ module _ {K V : Type 0} (F : FieldOn K) (A : AlgebraOn F.ring V) (m : ℕ) (B : 
     simple_of_one_block q =
         let l : 0 < D.count = omega arith in
         let same : one ≡ e 0 = sym D.sum_to_one ∙ ap (λ k. sum monoid k e) q ∙ A.zero-add (e 0) in
-        let fix : (x : V) → e 0 ⊗ x ≡ x = λ x. ap (λ y. y ⊗ x) (sym same) ∙ A.one-mul x in
-        (
+        let fix : (x : V) → e 0 ⊗ x ≡ x = λ x. ap (λ y. y ⊗ x) (sym same) ∙ A.one-mul x in (
           λ n g ideal. ⊎_elim (λ z. inl z) (λ h. inr (λ x. h x (fix x))) (block_simple n g ideal 0 l (λ j b. fix (g j))),
           λ z. D.nonzero 0 l (sym same ∙ z),
         )

@@ -10,7 +10,7 @@ use Rattle.theory_rings.proofs.Sums.Sums.{sum_eq_zero}
 use Rattle.theory_rings.proofs.Powers.Powers.{power-add, power_commutes}
 use Rattle.theory_spaces.specs.Module.{ModuleOn, AlgebraOn, module_of}
 use Rattle.theory_spaces.specs.Linear.{InSpan, IsLinear, Basis}
-use Rattle.theory_spaces.specs.Algebra.{IdealSpan, IsNilpotent}
+use Rattle.theory_spaces.specs.Algebra.{IdealSpan}
 use Rattle.theory_spaces.proofs.Modules.{scale-zero, InSpan-zero, InSpan-add, InSpan-comb, InSpan-member, left_linear, right_linear, linear_comp, linear_id, map-comb}
 use Rattle.theory_spaces.proofs.Ideals.{ideal_left, ideal_right}
 use Rattle.theory_spaces.proofs.PairIndex.{pair-lt}

@@ -7,5 +7,5 @@
 #![tactic(auto)]
 
 pub mod frobenius_laws;
-pub mod splitting_laws;
 pub mod maximal_laws;
+pub mod splitting_laws;
