@@ -6,6 +6,7 @@ pub mod ZeroDivisors
 pub mod Lagrange
 pub mod SplitIdempotents
 pub mod ConnectedFields
+pub mod Centres
 pub mod Semiprime
 pub mod LeftUnits
 pub mod CentralIdempotents

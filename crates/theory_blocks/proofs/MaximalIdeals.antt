@@ -21,6 +21,7 @@ use Rattle.theory_radical.specs.Ideal.{IsIdeal}
 use Rattle.theory_blocks.specs.FieldFactors.{FieldFactors}
 use Rattle.theory_blocks.specs.MaximalIdeals.{Centre, HasNoNilpotentIdeal, CentralUnit, IsMaximalIdeal, Annihilated, MaximalIdealsLaw}
 use Rattle.theory_blocks.proofs.ZeroDivisors.{vector_eq_zero_or}
+use Rattle.theory_blocks.proofs.Centres.{central-mul}
 use Rattle.theory_blocks.proofs.Semiprime.{linear_eq_zero}
 use Rattle.theory_blocks.proofs.LeftUnits.{some_or_all, idempotent_kills_rest, product_and_rest}
 use Rattle.theory_blocks.proofs.CentralIdempotents.{central_units}
@@ -42,9 +43,6 @@ module _ {K V : Type 0} {R : RingOn K} (A : AlgebraOn R V) where
       left-in = λ c x h. sym (A.mul_assoc e c x) ∙ ap (λ z. z ⊗ x) (central c) ∙ A.mul_assoc c e x ∙ ap (λ z. c ⊗ z) h ∙ mul-zero ring c;
       right-in = λ x c h. sym (A.mul_assoc e x c) ∙ ap (λ z. z ⊗ c) h ∙ zero-mul ring c;
     }
-
-    central-mul : (u : V) → Centre A u → Centre A (e ⊗ u)
-    central-mul u c y = A.mul_assoc e u y ∙ ap (λ z. e ⊗ z) (c y) ∙ sym (A.mul_assoc e y u) ∙ ap (λ z. z ⊗ u) (central y) ∙ A.mul_assoc y e u
 
     module _ (idem : e ⊗ e ≡ e) (u : V) where
       fixes-mul : e ⊗ (e ⊗ u) ≡ e ⊗ u
@@ -116,7 +114,7 @@ module _ {K V : Type 0} (F : FieldOn K) (A : AlgebraOn F.ring V) (m : ℕ) (B : 
     block_out_or_in n g u i l =
         let c = D.inside i l in
         let h = D.idempotents i l in
-        zero_or_idempotent i l (e i ⊗ u.unit) (central-mul A (e i) c u.unit u.central) (idempotent-mul A (e i) c h u.unit u.idempotent)
+        zero_or_idempotent i l (e i ⊗ u.unit) (central-mul A (e i) u.unit c u.central) (idempotent-mul A (e i) c h u.unit u.idempotent)
         (fixes-mul A (e i) c h u.unit)
 
     one-not_annihilated : (i : ℕ) → i < D.count → Annihilated A (e i) one → ⊥

@@ -4,6 +4,9 @@
 // is a theorem.
 //
 // Read specs/FixedPoints, specs/Splitting and specs/Lagrange first, then the contracts in frobenius_laws and splitting_laws.
+//
+// Over any field, in an algebra without nilpotent ideals but 0: each ideal has a unit in the centre, and where the centre is a product of
+// fields the maximal ideals are those of its factors. Read specs/FieldFactors and specs/MaximalIdeals, then maximal_laws.
 #![tactic(auto)]
 
 pub mod frobenius_laws;
