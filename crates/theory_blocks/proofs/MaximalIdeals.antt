@@ -19,9 +19,10 @@ use Rattle.theory_spaces.proofs.Subspaces.{whole_submodule, whole_basis}
 use Rattle.theory_spaces.proofs.Kernels.{rank_nullity}
 use Rattle.theory_radical.specs.Ideal.{IsIdeal}
 use Rattle.theory_blocks.specs.FieldFactors.{FieldFactors}
-use Rattle.theory_blocks.specs.MaximalIdeals.{Centre, HasNoNilpotentIdeal, CentralUnit, IsMaximalIdeal, Annihilated, MaximalIdealsLaw}
+use Rattle.theory_blocks.specs.Centre.{Centre}
+use Rattle.theory_blocks.specs.MaximalIdeals.{HasNoNilpotentIdeal, CentralUnit, IsMaximalIdeal, Annihilated, MaximalIdealsLaw}
 use Rattle.theory_blocks.proofs.ZeroDivisors.{vector_eq_zero_or}
-use Rattle.theory_blocks.proofs.Centres.{central-mul}
+use Rattle.theory_blocks.proofs.Centres.{centre-mul}
 use Rattle.theory_blocks.proofs.Semiprime.{linear_eq_zero}
 use Rattle.theory_blocks.proofs.LeftUnits.{some_or_all, idempotent_kills_rest, product_and_rest}
 use Rattle.theory_blocks.proofs.CentralIdempotents.{central_units}
@@ -114,7 +115,7 @@ module _ {K V : Type 0} (F : FieldOn K) (A : AlgebraOn F.ring V) (m : ℕ) (B : 
     block_out_or_in n g u i l =
         let c = D.inside i l in
         let h = D.idempotents i l in
-        zero_or_idempotent i l (e i ⊗ u.unit) (central-mul A (e i) u.unit c u.central) (idempotent-mul A (e i) c h u.unit u.idempotent)
+        zero_or_idempotent i l (e i ⊗ u.unit) (centre-mul A (e i) u.unit c u.central) (idempotent-mul A (e i) c h u.unit u.idempotent)
         (fixes-mul A (e i) c h u.unit)
 
     one-not_annihilated : (i : ℕ) → i < D.count → Annihilated A (e i) one → ⊥

@@ -15,7 +15,8 @@ use Rattle.theory_spaces.proofs.Modules.{scale-zero, InSpan-zero, InSpan-add, In
 use Rattle.theory_spaces.proofs.Ideals.{ideal_left, ideal_right}
 use Rattle.theory_spaces.proofs.PairIndex.{pair-lt}
 use Rattle.theory_radical.specs.Ideal.{IsIdeal, IsNilpotentIdeal}
-use Rattle.theory_blocks.specs.MaximalIdeals.{Centre, HasNoNilpotentIdeal, CentreIsReduced}
+use Rattle.theory_blocks.specs.Centre.{Centre}
+use Rattle.theory_blocks.specs.MaximalIdeals.{HasNoNilpotentIdeal, CentreIsReduced}
 
 -- a linear map that sends vectors to 0 does so on their span
 pub linear_eq_zero : {K V W : Type 0} {R : RingOn K} (M : ModuleOn R V) (N : ModuleOn R W) (f : V → W) → IsLinear M N f

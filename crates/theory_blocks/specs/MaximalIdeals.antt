@@ -1,4 +1,4 @@
--- The centre of an algebra, ideals with a central unit, and maximal ideals. An ideal is given by vectors that span it.
+-- Ideals with a central unit, maximal ideals and simple blocks. An ideal is given by vectors that span it.
 -- (Pierce, Associative Algebras, chapters 3 and 6.)
 use Rattle.std.specs.Prelude.{◌≡◌, ℕ, ◌<◌, ◌⊎◌, ◌↔◌}
 use Rattle.theory_rings.specs.Ring.{RingOn, FieldOn}
@@ -7,15 +7,12 @@ use Rattle.theory_spaces.specs.Linear.{InSpan}
 use Rattle.theory_spaces.specs.Algebra.{IdealSpan, IsNilpotent}
 use Rattle.theory_spaces.specs.AlgebraMap.{IsSimple}
 use Rattle.theory_radical.specs.Ideal.{IsIdeal, IsNilpotentIdeal}
+use Rattle.theory_blocks.specs.Centre.{Centre}
 use Rattle.theory_blocks.specs.FieldFactors.{FieldFactors}
 
 module _ {K V : Type 0} {R : RingOn K} (A : AlgebraOn R V) where
   infixl 70 ◌⊗◌
   open A use {◌⊗◌}
-
-  -- the elements that commute with all
-  abbrev pub Centre : V → Type 0
-  Centre x = (y : V) → x ⊗ y ≡ y ⊗ x
 
   -- no ideal but 0 is nilpotent
   abbrev pub HasNoNilpotentIdeal : Type 0
@@ -25,7 +22,7 @@ module _ {K V : Type 0} {R : RingOn K} (A : AlgebraOn R V) where
   pub record CentralUnit (n : ℕ) (g : ℕ → V) : Type 0 where
     pub unit : V
     pub inside : InSpan (module_of A) n g unit
-    pub central : Centre unit
+    pub central : Centre A unit
     pub idempotent : unit ⊗ unit ≡ unit
     pub fixes : (x : V) → InSpan (module_of A) n g x ↔ (unit ⊗ x ≡ x)
 
@@ -34,7 +31,7 @@ module _ {K V : Type 0} {R : RingOn K} (A : AlgebraOn R V) where
 
   -- 0 alone is central and nilpotent
   abbrev pub CentreIsReduced : Type 0
-  CentreIsReduced = HasNoNilpotentIdeal → (x : V) → Centre x → IsNilpotent A.ring x → x ≡ A.zero
+  CentreIsReduced = HasNoNilpotentIdeal → (x : V) → Centre A x → IsNilpotent A.ring x → x ≡ A.zero
 
   -- an ideal without one, such that each ideal that holds it is it or everything
   pub record IsMaximalIdeal (J : V → Type 0) : Type 0 where

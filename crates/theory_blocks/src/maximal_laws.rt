@@ -1,6 +1,7 @@
 // Theorems on the centre and the ideals of an algebra without nilpotent ideals but 0.
 ghost use Rattle.theory_blocks.specs.FixedPoints.{IsSubalgebra};
-ghost use Rattle.theory_blocks.specs.MaximalIdeals.{Centre, IdealsHaveCentralUnits, CentreIsReduced, MaximalIdealsLaw};
+ghost use Rattle.theory_blocks.specs.Centre.{Centre};
+ghost use Rattle.theory_blocks.specs.MaximalIdeals.{IdealsHaveCentralUnits, CentreIsReduced, MaximalIdealsLaw};
 
 use theory_spaces::algebra_laws::BasedAlgebra;
 
