@@ -26,6 +26,7 @@ module _ {K V : Type 0} {R : RingOn K} (A : AlgebraOn R V) where
     pub idempotent : unit ⊗ unit ≡ unit
     pub fixes : (x : V) → InSpan (module_of A) n g x ↔ (unit ⊗ x ≡ x)
 
+  -- each ideal is what a central idempotent of it fixes
   abbrev pub IdealsHaveCentralUnits : Type 0
   IdealsHaveCentralUnits = HasNoNilpotentIdeal → (n : ℕ) (g : ℕ → V) → IdealSpan A n g → CentralUnit n g
 
@@ -33,7 +34,7 @@ module _ {K V : Type 0} {R : RingOn K} (A : AlgebraOn R V) where
   abbrev pub CentreIsReduced : Type 0
   CentreIsReduced = HasNoNilpotentIdeal → (x : V) → Centre A x → IsNilpotent A.ring x → x ≡ A.zero
 
-  -- an ideal without one, such that each ideal that holds it is it or everything
+  -- an ideal that does not hold 1, such that each ideal that holds it is it or everything
   pub record IsMaximalIdeal (J : V → Type 0) : Type 0 where
     pub ideal : IsIdeal A.ring J
     pub proper : J A.one → ⊥
@@ -60,5 +61,6 @@ module _ {K V : Type 0} (F : FieldOn K) (A : AlgebraOn F.ring V) where
     pub blocks : (i : ℕ) → i < D.count → IsSimpleBlock A (D.idempotent i)
     pub simple : (IsSimple A × (A.one ≡ A.zero → ⊥)) ↔ (D.count ≡ 1)
 
+  -- so it is wherever the centre is a product of fields
   abbrev pub MaximalIdealsLaw : Type 0
   MaximalIdealsLaw = HasNoNilpotentIdeal A → (D : FieldFactors F A (Centre A)) → MaximalIdealsByFactors D
