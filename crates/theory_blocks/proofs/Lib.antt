@@ -14,3 +14,8 @@ pub mod FieldFactorsBasis
 pub mod FieldFactors
 pub mod FieldFactorsSolutions
 pub mod FieldFactorsUnique
+pub mod Centres
+pub mod Semiprime
+pub mod LeftUnits
+pub mod CentralIdempotents
+pub mod MaximalIdeals

@@ -3,3 +3,5 @@ pub mod Splitting
 pub mod Lagrange
 pub mod FieldFactors
 pub mod FactorLaws
+pub mod Centre
+pub mod MaximalIdeals

@@ -8,8 +8,12 @@
 // The field factors of a commutative subalgebra: where 0 is its only nilpotent element, it is a direct product of fields, in one
 // way, and its solutions of z^q = z are the algebra of the s-tuples of scalars, where s is the number of the fields. Read
 // specs/FieldFactors and specs/FactorLaws, then the contracts in factor_laws.
+//
+// Over any field, in an algebra without nilpotent ideals but 0: each ideal has a unit in the centre, and where the centre is a product of
+// fields the maximal ideals are those of its factors. Read specs/FieldFactors and specs/MaximalIdeals, then maximal_laws.
 #![tactic(auto)]
 
 pub mod factor_laws;
 pub mod frobenius_laws;
+pub mod maximal_laws;
 pub mod splitting_laws;
