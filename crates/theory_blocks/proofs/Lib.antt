@@ -6,3 +6,6 @@ pub mod ZeroDivisors
 pub mod Lagrange
 pub mod SplitIdempotents
 pub mod ConnectedFields
+pub mod TwoSidedPairs
+pub mod TwoSidedCentre
+pub mod TwoSidedMaps

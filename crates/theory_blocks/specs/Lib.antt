@@ -1,3 +1,4 @@
 pub mod FixedPoints
 pub mod Splitting
 pub mod Lagrange
+pub mod TwoSidedRank

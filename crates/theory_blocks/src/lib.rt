@@ -7,4 +7,5 @@
 #![tactic(auto)]
 
 pub mod frobenius_laws;
+pub mod rank_laws;
 pub mod splitting_laws;
