@@ -9,3 +9,5 @@ pub mod ConnectedFields
 pub mod TwoSidedPairs
 pub mod TwoSidedCentre
 pub mod TwoSidedMaps
+pub mod TwoSidedBases
+pub mod TwoSidedRank

@@ -1,5 +1,5 @@
 -- The centre is a subspace that is closed under products, and in a simple algebra it is a field.
-use Rattle.std.specs.Prelude.{◌≡◌, ℕ, ◌<◌}
+use Rattle.std.specs.Prelude.{◌≡◌, ℕ}
 use Rattle.std.proofs.Common.{sym, ◌∙◌, ap, ap₂}
 use Rattle.theory_rings.specs.Ring.{RingOn}
 use Rattle.theory_rings.specs.Sum.{sum}

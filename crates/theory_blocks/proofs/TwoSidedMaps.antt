@@ -1,7 +1,7 @@
 -- In a simple algebra, where a 0, .., a (n − 1) are independent over the centre, the map y → a 0·y·x 0 + .. is 0 only where
 -- all the x are.
 use Rattle.std.specs.Prelude.{◌≡◌, ℕ, zero, suc, ◌<◌}
-use Rattle.std.proofs.Common.{refl, sym, ◌∙◌, ap, ap₂, arith, ⊎_elim}
+use Rattle.std.proofs.Common.{sym, ◌∙◌, ap, ap₂, arith, ⊎_elim}
 use Rattle.theory_rings.specs.Ring.{FieldOn}
 use Rattle.theory_rings.specs.Sum.{sum}
 use Rattle.theory_rings.proofs.Rings.RingLaws.{add-zero, mul-zero, zero-mul, mul-neg, neg_zero}
