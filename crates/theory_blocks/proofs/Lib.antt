@@ -10,4 +10,6 @@ pub mod TwoSidedPairs
 pub mod TwoSidedCentre
 pub mod TwoSidedMaps
 pub mod TwoSidedBases
+pub mod TwoSidedFamilies
 pub mod TwoSidedRank
+pub mod TwoSidedRows

@@ -13,7 +13,7 @@ use Rattle.theory_spaces.proofs.Modules.{right_linear, span_in, comb_in, InSpan_
 use Rattle.theory_spaces.proofs.Dimension.{exchange, dimension_unique}
 use Rattle.theory_spaces.proofs.Spaces.{coords_of, basis_of, extend_or_span}
 use Rattle.theory_spaces.proofs.PairIndex.{row-lt}
-use Rattle.theory_blocks.specs.TwoSidedRank.{Centre, CentreIsField, IndependentOverCentre, InSpanOverCentre, BasisOverCentre}
+use Rattle.theory_blocks.specs.TwoSidedRank.{Centre, CentreIsField, IndependentOverCentre, InSpanOverCentre, BasisOverCentre, BasisOverCentreExists}
 use Rattle.theory_blocks.proofs.ZeroDivisors.{vector_eq_zero_or}
 use Rattle.theory_blocks.proofs.TwoSidedPairs.{comb-images, independent_images, span_images}
 use Rattle.theory_blocks.proofs.TwoSidedCentre.{centre_submodule, centre-one, centre-neg, centre-mul}
@@ -55,8 +55,8 @@ module _ {K V : Type 0} (F : FieldOn K) (A : AlgebraOn F.ring V) (m : ℕ) (B : 
   push_independent field d a x free outside = record {
     only_zero = λ c p e.
         let S = sum monoid d (λ i. c i ⊗ a i) in
-        let e1 : S ⊕ c d ⊗ x ≡ A.zero =
-        sym (ap₂ (λ s t. s ⊕ c d ⊗ t) (sum_congr monoid d (λ i. c i ⊗ push d x a i) (λ i. c i ⊗ a i) (λ i l. ap (λ t. c i ⊗ t) (push-below d x a i l))) (push-at d x a)) ∙ e in
+        let same = sum_congr monoid d (λ i. c i ⊗ push d x a i) (λ i. c i ⊗ a i) (λ i l. ap (λ t. c i ⊗ t) (push-below d x a i l)) in
+        let e1 : S ⊕ c d ⊗ x ≡ A.zero = sym (ap₂ (λ s t. s ⊕ c d ⊗ t) same (push-at d x a)) ∙ e in
         ⊎_elim
         (λ (q : c d ≡ A.zero). below_suc d (λ i. c i ≡ A.zero)
         (free.only_zero c (λ i l. p i (omega arith))
@@ -98,32 +98,39 @@ module _ {K V : Type 0} (F : FieldOn K) (A : AlgebraOn F.ring V) (m : ℕ) (B : 
     pub independent : IndependentOverCentre A size vec
     pub spans : (i : ℕ) → i < n → InSpan M (size * z) (products vec) (B.vec i)
 
+  -- x is a combination of the vectors a and x
+  last_in : (d : ℕ) (a : ℕ → V) (x : V) → InSpanOverCentre A (suc d) (push d x a) x
+  last_in d a x =
+      let c = push d one (λ _. A.zero) in
+      let v = push d x a in
+      record {
+        weights = c;
+        central = below_suc d (λ i. Centre A (c i)) (λ i l. rw (push-below d one (λ _. A.zero) i l) (centre_submodule A).zero-in)
+            (rw (push-at d one (λ _. A.zero)) (centre-one A));
+        combines = sym (ap₂ (λ s t. s ⊕ t)
+            (sum_eq_zero monoid d (λ i. c i ⊗ v i) (λ i l. ap (λ t. t ⊗ v i) (push-below d one (λ _. A.zero) i l) ∙ zero-mul ring (v i)))
+            (ap₂ (λ s t. s ⊗ t) (push-at d one (λ _. A.zero)) (push-at d x a) ∙ A.one-mul x)
+            ∙ A.zero-add x);
+      }
+
+  -- one vector more
+  products_push : (d : ℕ) (a : ℕ → V) (x y : V) → InSpan M (d * z) (products a) y → InSpan M (suc d * z) (products (push d x a)) y
+  products_push d a x y = InSpan_trans M (d * z) (suc d * z) (products a) (products (push d x a)) y (λ t l.
+      let P : V → Type 0 = InSpan M (suc d * z) (products (push d x a)) in
+      let e : suc d * z ≡ d * z + z = omega arith in
+      subst P (ap (λ y. C.vec (t % z) ⊗ y) (push-below d x a (t / z) (row-lt d z t l))) (InSpan-member M (suc d * z) t (products (push d x a)) (omega arith)))
+
   grown_more : CentreIsField A → (n : ℕ) (g : Grown n) → Independent M (suc (g.size * z)) (push (g.size * z) (B.vec n) (products g.vec)) → Grown (suc n)
   grown_more field n g outside =
       let d = g.size in
       let b = B.vec n in
       let v = push d b g.vec in
-      let P : V → Type 0 = InSpan M (suc d * z) (products v) in
       record {
         size = suc d;
         vec = v;
         independent = push_independent field d g.vec b g.independent outside;
-        spans = below_suc n (λ i. P (B.vec i))
-            (λ i l. InSpan_trans M (d * z) (suc d * z) (products g.vec) (products v) (B.vec i)
-            (λ t q. subst P (ap (λ y. C.vec (t % z) ⊗ y) (push-below d b g.vec (t / z) (row-lt d z t q)))
-            (let e : suc d * z ≡ d * z + z = omega arith in InSpan-member M (suc d * z) t (products v) (omega arith)))
-            (g.spans i l))
-            (products_span (suc d) v b (record {
-              weights = push d one (λ _. A.zero);
-              central = below_suc d (λ i. Centre A (push d one (λ _. A.zero) i))
-                  (λ i l. rw (push-below d one (λ _. A.zero) i l) (centre_submodule A).zero-in)
-                  (rw (push-at d one (λ _. A.zero)) (centre-one A));
-              combines = sym (ap₂ (λ s t. s ⊕ t)
-                  (sum_eq_zero monoid d (λ i. push d one (λ _. A.zero) i ⊗ v i)
-                  (λ i l. ap (λ t. t ⊗ v i) (push-below d one (λ _. A.zero) i l) ∙ zero-mul ring (v i)))
-                  (ap₂ (λ s t. s ⊗ t) (push-at d one (λ _. A.zero)) (push-at d b g.vec) ∙ A.one-mul b)
-                  ∙ A.zero-add b);
-            }));
+        spans = below_suc n (λ i. InSpan M (suc d * z) (products v) (B.vec i)) (λ i l. products_push d g.vec b (B.vec i) (g.spans i l))
+            (products_span (suc d) v b (last_in d g.vec b));
       }
 
   grow : CentreIsField A → (n : ℕ) → Grown n
@@ -145,19 +152,14 @@ module _ {K V : Type 0} (F : FieldOn K) (A : AlgebraOn F.ring V) (m : ℕ) (B : 
       (grown_more field n g)
       (extend_or_span F M m (coords_of M m B) (g.size * z) (products g.vec) (products_independent g.size g.vec g.independent) (B.vec n))
 
-  pub basis_over_centre : CentreIsField A → (d : ℕ) × BasisOverCentre A d
-  basis_over_centre field =
-      let g = grow field m in (
+  basis_of_grown : Grown m → (d : ℕ) × BasisOverCentre A d × (d * z ≡ m)
+  basis_of_grown g =
+      let spans : (x : V) → InSpan M (g.size * z) (products g.vec) x = λ x.
+      InSpan_trans M m (g.size * z) B.vec (products g.vec) x g.spans (record { weights = B.coord x; combines = B.expand x }) in (
         g.size,
-        record {
-          vec = g.vec;
-          independent = g.independent;
-          spans = λ x. span_of_products g.size g.vec x
-              (InSpan_trans M m (g.size * z) B.vec (products g.vec) x g.spans (record { weights = B.coord x; combines = B.expand x }));
-        },
+        record { vec = g.vec; independent = g.independent; spans = λ x. span_of_products g.size g.vec x (spans x) },
+        dimension_unique F M (g.size * z) m (basis_of M (g.size * z) (products g.vec) (products_independent g.size g.vec g.independent) spans) B,
       )
 
-  -- the dimension is the product of those over the centre and of the centre
-  pub dimension_over_centre : (d : ℕ) → BasisOverCentre A d → d * z ≡ m
-  dimension_over_centre d D = dimension_unique F M (d * z) m
-      (basis_of M (d * z) (products D.vec) (products_independent d D.vec D.independent) (λ x. products_span d D.vec x (D.spans x))) B
+  pub basis_over_centre : BasisOverCentreExists F A m B z
+  basis_over_centre field = basis_of_grown (grow field m)

@@ -36,8 +36,10 @@ module _ {K V : Type 0} {R : RingOn K} (A : AlgebraOn R V) where
   -- the inverse of an element of the centre is in the centre
   pub centre-inverse : (x w : V) → Centre A x → x ⊗ w ≡ one → Centre A w
   centre-inverse x w p e y =
-      sym (A.mul-one (w ⊗ y)) ∙ ap (λ t. w ⊗ y ⊗ t) (sym e) ∙ A.mul_assoc w y (x ⊗ w) ∙ ap (λ t. w ⊗ t) (sym (A.mul_assoc y x w) ∙ ap (λ t. t ⊗ w) (sym (p y)) ∙ A.mul_assoc x y w)
-      ∙ sym (A.mul_assoc w x (y ⊗ w)) ∙ ap (λ t. t ⊗ (y ⊗ w)) (sym (p w) ∙ e) ∙ A.one-mul (y ⊗ w)
+      let e' : w ⊗ x ≡ one = sym (p w) ∙ e in
+      sym (A.mul-one (w ⊗ y)) ∙ ap (λ t. w ⊗ y ⊗ t) (sym e) ∙ A.mul_assoc w y (x ⊗ w)
+      ∙ ap (λ t. w ⊗ t) (sym (A.mul_assoc y x w) ∙ ap (λ t. t ⊗ w) (sym (p y)) ∙ A.mul_assoc x y w)
+      ∙ sym (A.mul_assoc w x (y ⊗ w)) ∙ ap (λ t. t ⊗ (y ⊗ w)) e' ∙ A.one-mul (y ⊗ w)
 
   -- in a simple algebra one is a sum of products u·x·v, which is x·(u·v + ..) for x in the centre
   pub centre_field : (m : ℕ) → Basis (module_of A) m → IsSimple A → CentreIsField A

@@ -56,9 +56,9 @@ module _ {K V : Type 0} (F : FieldOn K) (A : AlgebraOn F.ring V) where
   -- a last x that is 0 can go
   drop_last : (n : ℕ) (a x : ℕ → V) → x n ≡ A.zero → Vanishes (suc n) a x → Vanishes n a x
   drop_last n a x e h y =
-      sym (ap (λ t. sum monoid n (λ i. (a i ⊗ y) ⊗ x i) ⊕ (a n ⊗ y) ⊗ t) e ∙ ap (λ t. sum monoid n (λ i. (a i ⊗ y) ⊗ x i) ⊕ t) (mul-zero ring (a n ⊗ y))
-      ∙ add-zero monoid (sum monoid n (λ i. (a i ⊗ y) ⊗ x i)))
-      ∙ h y
+      let S = sum monoid n (λ i. (a i ⊗ y) ⊗ x i) in
+      let none : (a n ⊗ y) ⊗ x n ≡ A.zero = ap (λ t. (a n ⊗ y) ⊗ t) e ∙ mul-zero ring (a n ⊗ y) in
+      sym (ap (λ t. S ⊕ t) none ∙ add-zero monoid S) ∙ h y
 
   -- the first n of vectors that are independent over the centre
   independent-front : (n : ℕ) (a : ℕ → V) → IndependentOverCentre A (suc n) a → IndependentOverCentre A n a
@@ -84,11 +84,14 @@ module _ {K V : Type 0} (F : FieldOn K) (A : AlgebraOn F.ring V) where
         last : (b : V) → b ⊗ x n ≡ x n ⊗ b
         last b = ap (λ t. b ⊗ t) e ∙ A.mul-one b ∙ sym (ap (λ t. t ⊗ b) e ∙ A.one-mul b)
 
+        -- the commutators with b but the last one, which is 0
+        earlier : (b : V) (i : ℕ) → i < n → b ⊗ x i ⊕ neg (x i ⊗ b) ≡ A.zero
+        earlier b = fewer (λ i. b ⊗ x i ⊕ neg (x i ⊗ b)) (drop_last n a (λ i. b ⊗ x i ⊕ neg (x i ⊗ b))
+            (sub_eq_zero_of_eq additive (b ⊗ x n) (x n ⊗ b) (last b)) (vanishes-commutator (suc n) a b x h))
+
         central : (i : ℕ) → i < suc n → Centre A (x i)
         central i l b = sym (below_suc n (λ i. b ⊗ x i ≡ x i ⊗ b)
-            (λ i g. eq_of_sub_eq_zero additive (b ⊗ x i) (x i ⊗ b)
-            (fewer (λ i. b ⊗ x i ⊕ neg (x i ⊗ b)) (drop_last n a (λ i. b ⊗ x i ⊕ neg (x i ⊗ b)) (sub_eq_zero_of_eq additive (b ⊗ x n) (x n ⊗ b) (last b)) (vanishes-commutator (suc n) a b x h)) i g))
-            (last b) i l)
+            (λ i g. eq_of_sub_eq_zero additive (b ⊗ x i) (x i ⊗ b) (earlier b i g)) (last b) i l)
 
   module _ (m : ℕ) (B : Basis (module_of A) m) (simple : IsSimple A) where
     one_more : (n : ℕ) (a : ℕ → V) → IndependentOverCentre A (suc n) a → ((u : ℕ → V) → Vanishes n a u → (i : ℕ) → i < n → u i ≡ A.zero)

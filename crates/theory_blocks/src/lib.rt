@@ -4,6 +4,9 @@
 // is a theorem.
 //
 // Read specs/FixedPoints, specs/Splitting and specs/Lagrange first, then the contracts in frobenius_laws and splitting_laws.
+//
+// An algebra of finite dimension over any field is simple by its centre and the span of the maps y → x·y·w: specs/TwoSidedRank
+// and rank_laws.
 #![tactic(auto)]
 
 pub mod frobenius_laws;
