@@ -19,3 +19,10 @@ pub mod Semiprime
 pub mod LeftUnits
 pub mod CentralIdempotents
 pub mod MaximalIdeals
+pub mod TwoSidedPairs
+pub mod TwoSidedCentre
+pub mod TwoSidedMaps
+pub mod TwoSidedBases
+pub mod TwoSidedFamilies
+pub mod TwoSidedRank
+pub mod TwoSidedRows

@@ -5,3 +5,4 @@ pub mod FieldFactors
 pub mod FactorLaws
 pub mod Centre
 pub mod MaximalIdeals
+pub mod TwoSidedRank

@@ -11,9 +11,13 @@
 //
 // Over any field, in an algebra without nilpotent ideals but 0: each ideal has a unit in the centre, and where the centre is a product of
 // fields the maximal ideals are those of its factors. Read specs/FieldFactors and specs/MaximalIdeals, then maximal_laws.
+//
+// An algebra of finite dimension over any field is simple by its centre and the span of the maps y → x·y·w: specs/TwoSidedRank
+// and rank_laws.
 #![tactic(auto)]
 
 pub mod factor_laws;
 pub mod frobenius_laws;
 pub mod maximal_laws;
+pub mod rank_laws;
 pub mod splitting_laws;
