@@ -45,7 +45,7 @@ module _ {K V : Type 0} (F : FieldOn K) (A : AlgebraOn F.ring V) (m : ℕ) (B : 
           words3 ring (λ x e w. ((x ⊞ minus (x ⊠ e)) ⊠ w, x ⊠ w ⊞ minus (x ⊠ (e ⊠ w)))) refl x u.unit w
           ∙ ap (λ z. x ⊗ w ⊕ neg (x ⊗ z)) (u.fixes w h) ∙ add-neg A.additive (x ⊗ w) in
           sym (eq_of_sub_eq_zero A.additive x (x ⊗ u.unit)
-          (semiprime A m B none y (λ a. A.mul_assoc y a y ∙ kills (a ⊗ y) (ideal_left A n g ideal a y member))))
+          (semiprime F A m B none y (λ a. A.mul_assoc y a y ∙ kills (a ⊗ y) (ideal_left A n g ideal a y member))))
 
       central_unit : CentralUnit A n g
       central_unit =

@@ -11,7 +11,7 @@ use Rattle.theory_spaces.specs.Linear.{Coords, Basis, IsSubmodule}
 use Rattle.theory_spaces.proofs.Modules.{zero-scale, span_in}
 use Rattle.theory_spaces.proofs.Spaces.{coords_of}
 use Rattle.theory_blocks.specs.FactorLaws.{FieldFactorsExist}
-use Rattle.theory_blocks.proofs.ZeroDivisors.{vector_eq_zero_or}
+use Rattle.theory_blocks.proofs.Decisions.{vector_eq_zero_or}
 use Rattle.theory_blocks.proofs.NonzeroMembers.{kept, kept_apart}
 use Rattle.theory_blocks.proofs.FieldFactorsFamilies.{scalar_family}
 use Rattle.theory_blocks.proofs.FieldFactorsBasis.{solution_basis}
@@ -42,7 +42,7 @@ module _ {K V : Type 0} (F : FieldOn K) (E : Enumerated K) (A : AlgebraOn F.ring
   field_factors p i prime char size h comm reduced k basis =
       let T = solution_basis F E A m B S h comm p i prime char size k basis in
       let P = scalar_family F E A S h comm T.1.vec T.0 T.1.inside in
-      let N = kept A.monoid (vector_eq_zero_or F (module_of A) m C) P.count P.idempotent in
+      let N = kept A.monoid (vector_eq_zero_or F (module_of A) m B) P.count P.idempotent in
       record {
         count = N.size;
         idempotent = λ i. P.idempotent (N.index i);

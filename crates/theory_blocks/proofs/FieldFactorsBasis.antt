@@ -23,12 +23,12 @@ use Rattle.theory_spaces.proofs.Kernels.{rank_nullity}
 use Rattle.theory_blocks.specs.FixedPoints.{IsFixed, IsSubalgebra}
 use Rattle.theory_blocks.specs.FieldFactors.{IsCommutativeIn}
 use Rattle.theory_blocks.proofs.FixedPoints.{power-scale, times-scale, size_pos}
-use Rattle.theory_blocks.proofs.ZeroDivisors.{vector_eq_zero_or}
+use Rattle.theory_blocks.proofs.Decisions.{vector_eq_zero_or}
 use Rattle.theory_blocks.proofs.CommutingPowers.{add-power_of_commute}
 
--- a space with coordinates is a set
-pub space_set : {K V : Type 0} (F : FieldOn K) (M : ModuleOn F.ring V) (m : ℕ) → Coords M m → IsSet V
-space_set {K} {V} F M m C = hedberg (λ x y. go x y (vector_eq_zero_or F M m C (M.◌⊕◌ x (M.neg y))))
+-- a space with a basis is a set
+pub space_set : {K V : Type 0} (F : FieldOn K) (M : ModuleOn F.ring V) (m : ℕ) → Basis M m → IsSet V
+space_set {K} {V} F M m B = hedberg (λ x y. go x y (vector_eq_zero_or F M m B (M.◌⊕◌ x (M.neg y))))
   where
     go : (x y : V) → (M.◌⊕◌ x (M.neg y) ≡ M.zero) ⊎ (M.◌⊕◌ x (M.neg y) ≡ M.zero → ⊥) → Dec (x ≡ y)
     go x y (inl e) = yes (eq_of_sub_eq_zero M.additive x y e)
@@ -88,7 +88,7 @@ module _ {K V : Type 0} (F : FieldOn K) (E : Enumerated K) (A : AlgebraOn F.ring
     raised-add x y s t =
         let none : times A.monoid p one ≡ A.zero = times-scale A p one ∙ ap (λ c. c • one) char ∙ zero-scale M one in
         subst (λ q. power ring (x ⊕ y) q ≡ power ring x q ⊕ power ring y q) (sym size)
-        (add-power_of_commute ring (space_set F M m C) x y (comm x y s t) p prime none i)
+        (add-power_of_commute ring (space_set F M m B) x y (comm x y s t) p prime none i)
 
     raised-comb : (n : ℕ) (c : ℕ → K) (v : ℕ → V) → ((j : ℕ) → j < n → S (v j)) → raised (comb M n c v) ≡ comb M n c (λ j. raised (v j))
     raised-comb zero c v g = power-zero ring E.size (size_pos F E A)

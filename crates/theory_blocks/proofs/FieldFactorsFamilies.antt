@@ -19,18 +19,8 @@ use Rattle.theory_blocks.specs.FixedPoints.{IsFixed, IsSubalgebra}
 use Rattle.theory_blocks.specs.Splitting.{less_scalar}
 use Rattle.theory_blocks.specs.Lagrange.{lagrange_factor, lagrange, LagrangeSplits}
 use Rattle.theory_blocks.specs.FieldFactors.{IsCommutativeIn}
+use Rattle.theory_blocks.proofs.Pairs.{sum_pairs}
 use Rattle.theory_blocks.proofs.Lagrange.{lagrange_idempotents}
-
--- a sum over the pairs of numbers below n and q, numbered row by row
-pub sum_pairs : {V : Type 0} (M : AddCommMonoidOn V) (n q : ℕ) (f : ℕ → ℕ → V)
-    → sum M (n * q) (λ u. f (u / q) (u % q)) ≡ sum M n (λ i. sum M q (λ j. f i j))
-sum_pairs M zero q f = let e : zero * q ≡ zero = omega arith in ap (λ t. sum M t (λ u. f (u / q) (u % q))) e
-sum_pairs M (suc n) q f =
-    let e : suc n * q ≡ n * q + q = omega arith in
-    let g = λ (u : ℕ). f (u / q) (u % q) in
-    ap (λ t. sum M t g) e ∙ sum-split M (n * q) q g
-    ∙ ap₂ (λ x y. M.◌⊕◌ x y) (sum_pairs M n q f)
-    (sum_congr M q (λ j. g (n * q + j)) (f n) (λ j l. ap₂ f (div-mul-add n q j l) (mod-mul-add n q j l)))
 
 -- the inner factors of a product of two change places, where they commute
 pub mul_mul_mul_comm : {V : Type 0} (R : RingOn V) (x y z w : V) → R.◌⊗◌ y z ≡ R.◌⊗◌ z y
@@ -126,9 +116,11 @@ module _ {K V : Type 0} (F : FieldOn K) (E : Enumerated K) (A : AlgebraOn F.ring
           products (u / q) (u / q) (u % q) (u % q) r
           ∙ ap₂ (λ x y. x ⊗ y) (P.idempotents (u / q) r) (splits.idempotent (u % q) (column-lt P.count q u g));
       orthogonal = products_orthogonal;
-      sum_to_one = sum_pairs A.monoid P.count q (λ i k. e i ⊗ l k)
-          ∙ sum_congr A.monoid P.count (λ i. sum A.monoid q (λ k. e i ⊗ l k)) e
-          (λ i g. sym (mul-sum ring q (e i) l) ∙ ap (λ w. e i ⊗ w) splits.sum_to_one ∙ A.mul-one (e i)) ∙ P.sum_to_one;
+      sum_to_one = sum_pairs A.monoid P.count q (λ u. e (u / q) ⊗ l (u % q))
+          ∙ sum_congr A.monoid P.count (λ i. sum A.monoid q (λ k. e ((i * q + k) / q) ⊗ l ((i * q + k) % q))) e
+          (λ i g. sum_congr A.monoid q (λ k. e ((i * q + k) / q) ⊗ l ((i * q + k) % q)) (λ k. e i ⊗ l k)
+          (λ k f. ap₂ (λ x y. e x ⊗ l y) (div-mul-add i q k f) (mod-mul-add i q k f))
+          ∙ sym (mul-sum ring q (e i) l) ∙ ap (λ w. e i ⊗ w) splits.sum_to_one ∙ A.mul-one (e i)) ∙ P.sum_to_one;
       scalars = λ u g. let i = u / q in let k = u % q in let r = row-lt P.count q u g in
           below_suc t (λ j. (c : K) × (b j ⊗ (e i ⊗ l k) ≡ c • (e i ⊗ l k)))
           (λ j f. let s = P.scalars i r j f in

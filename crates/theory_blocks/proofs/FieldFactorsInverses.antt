@@ -19,28 +19,8 @@ use Rattle.theory_spaces.proofs.Kernels.{rank_nullity}
 use Rattle.theory_blocks.specs.FixedPoints.{IsFixed, IsSubalgebra}
 use Rattle.theory_blocks.specs.FieldFactors.{IsCommutativeIn, IsReducedIn}
 use Rattle.theory_blocks.proofs.FixedPoints.{size_pos}
+use Rattle.theory_blocks.proofs.Spans.{image_submodule, span_of_independent}
 use Rattle.theory_blocks.proofs.Connected.{power_idempotent}
-
-module _ {K V W : Type 0} {R : RingOn K} (M : ModuleOn R V) (N : ModuleOn R W) (f : V → W) (l : IsLinear M N f) (S : V → Type 0) where
-  -- the image of a subspace is one
-  pub image_submodule : IsSubmodule M S → IsSubmodule N (Image M N f S)
-  image_submodule h = record {
-    zero-in = (M.zero, h.zero-in, map-zero M N f l);
-    add-in = λ x y p q. (M.◌⊕◌ p.0 q.0, h.add-in p.0 q.0 p.1 q.1, l.map-add p.0 q.0 ∙ ap₂ (λ u v. N.◌⊕◌ u v) p.2 q.2);
-    scale-in = λ a x p. (M.◌•◌ a p.0, h.scale-in a p.0 p.1, l.map-scale a p.0 ∙ ap (λ u. N.◌•◌ a u) p.2);
-  }
-
--- n independent vectors in the span of n vectors span what these do
-pub in_span_of_size : {K V : Type 0} (F : FieldOn K) (M : ModuleOn F.ring V) (m : ℕ) → Coords M m → (n : ℕ) (v w : ℕ → V) → Independent M n v
-    → ((i : ℕ) → i < n → InSpan M n w (v i)) → (x : V) → InSpan M n w x → InSpan M n v x
-in_span_of_size {V} F M m C n v w h g x s = ⊎_elim
-    (λ (t : InSpan M n v x). t)
-    (λ (ind : Independent M (suc n) (push n x v)).
-    let In : V → Type 0 = InSpan M n w in
-    let l = exchange F M (suc n) n (push n x v) w ind (below_suc n (λ i. In (push n x v i))
-    (λ i b. subst In (sym (push-below n x v i b)) (g i b)) (subst In (sym (push-at n x v)) s)) in
-    absurd (omega arith))
-    (extend_or_span F M m C n v h x)
 
 module _ {K V : Type 0} (F : FieldOn K) (A : AlgebraOn F.ring V) (S : V → Type 0) (h : IsSubalgebra A S) (comm : IsCommutativeIn F A S) where
   infixl 70 ◌⊗◌
@@ -77,8 +57,8 @@ module _ {K V : Type 0} (F : FieldOn K) (A : AlgebraOn F.ring V) (S : V → Type
         let image : BasisOf M r.rank (Image M M once S) = subst (λ t. BasisOf M t (Image M M once S)) rank p.image in
         let v = r.image.vec in
         span_in M (Image M M twice S) (image_submodule M M twice twice_linear S h.subspace) r.rank v r.image.inside x
-        (in_span_of_size F M m C r.rank v image.vec r.image.independent
-        (λ i l. let t = r.image.inside i l in image.spans (v i) (x ⊗ t.0, h.mul-in x t.0 s t.1, t.2))
+        (span_of_independent F M r.rank r.rank v image.vec r.image.independent
+        (λ i l. let t = r.image.inside i l in image.spans (v i) (x ⊗ t.0, h.mul-in x t.0 s t.1, t.2)) (omega arith)
         x (image.spans x (one, h.one-in, A.mul-one x)))
 
   regular_idempotent : (x g : V) → x ⊗ g ≡ g ⊗ x → x ⊗ (x ⊗ g) ≡ x → (x ⊗ g) ⊗ (x ⊗ g) ≡ x ⊗ g

@@ -23,7 +23,7 @@ use Rattle.theory_blocks.specs.FieldFactors.{IsCommutativeIn, FieldFactors}
 use Rattle.theory_blocks.specs.FactorLaws.{SolutionsArePower, FixedPointsByFactors, SolutionsArePowerOfField}
 use Rattle.theory_blocks.proofs.Newton.{less_scalar-mul}
 use Rattle.theory_blocks.proofs.Annihilation.{scalar_factors}
-use Rattle.theory_blocks.proofs.ZeroDivisors.{vector_eq_zero_or}
+use Rattle.theory_blocks.proofs.Decisions.{vector_eq_zero_or}
 use Rattle.theory_blocks.proofs.FieldFactorsFamilies.{less_scalar_in, factors_in}
 use Rattle.theory_blocks.proofs.FieldFactors.{field_factors}
 
@@ -127,7 +127,7 @@ module _ {K V : Type 0} (F : FieldOn K) (A : AlgebraOn F.ring V) (S : V → Type
 
 module _ {K V : Type 0} (F : FieldOn K) (E : Enumerated K) (A : AlgebraOn F.ring V) (m : ℕ) (B : Basis (module_of A) m) where
   pub fixed_points_by_factors : (S : V → Type 0) → FixedPointsByFactors F E A S
-  fixed_points_by_factors S h comm = solutions_are_power F A S h comm (vector_eq_zero_or F (module_of A) m (coords_of (module_of A) m B)) E
+  fixed_points_by_factors S h comm = solutions_are_power F A S h comm (vector_eq_zero_or F (module_of A) m B) E
 
   whole_subalgebra : IsSubalgebra A Whole
   whole_subalgebra = record { subspace = whole_submodule (module_of A); one-in = tt; mul-in = λ x y s t. tt }

@@ -12,8 +12,7 @@ use Rattle.theory_spaces.proofs.Spaces.{coords_of}
 use Rattle.theory_blocks.specs.FixedPoints.{IsSubalgebra}
 use Rattle.theory_blocks.specs.FieldFactors.{IsCommutativeIn, FieldFactors}
 use Rattle.theory_blocks.specs.FactorLaws.{SameFactors, FactorsAreUnique}
-use Rattle.theory_blocks.proofs.ZeroDivisors.{vector_eq_zero_or}
-use Rattle.theory_blocks.proofs.SplitIdempotents.{Nonzero, nonzero_or}
+use Rattle.theory_blocks.proofs.Decisions.{other_or_all, vector_eq_zero_or}
 use Rattle.theory_blocks.proofs.FieldFactorsFamilies.{mul_mul_mul_comm}
 use Rattle.theory_blocks.proofs.FieldFactorsSolutions.{factors_independent}
 
@@ -25,7 +24,7 @@ module _ {K V : Type 0} (F : FieldOn K) (A : AlgebraOn F.ring V) (S : V → Type
   M = module_of A
 
   -- an idempotent other than 0 on one of the fields is that of the field
-  factor_unit : (D : FieldFactors F A S) (i : ℕ) → i < D.count → (x : V) → S x → D.idempotent i ⊗ x ≡ x → x ⊗ x ≡ x → (x ≡ A.zero → ⊥) → x ≡ D.idempotent i
+  pub factor_unit : (D : FieldFactors F A S) (i : ℕ) → i < D.count → (x : V) → S x → D.idempotent i ⊗ x ≡ x → x ⊗ x ≡ x → (x ≡ A.zero → ⊥) → x ≡ D.idempotent i
   factor_unit D i l x s keeps square d =
       let y = D.field i l x s keeps d in
       sym keeps ∙ comm (D.idempotent i) x (D.inside i l) s ∙ ap (λ w. x ⊗ w) (sym y.3) ∙ sym (A.mul_assoc x x y.0) ∙ ap (λ w. w ⊗ y.0) square ∙ y.3
@@ -50,11 +49,11 @@ module _ {K V : Type 0} (F : FieldOn K) (A : AlgebraOn F.ring V) (S : V → Type
     same_idempotent D G i l =
         let a = D.idempotent i in
         ⊎_elim
-        (λ (p : Nonzero A.zero G.count (λ j. a ⊗ G.idempotent j)). (p.place, p.within, both D G i p.place l p.within p.nonzero))
+        (λ (p : (j : ℕ) × (j < G.count) × (a ⊗ G.idempotent j ≡ A.zero → ⊥)). (p.0, p.1, both D G i p.0 l p.1 p.2))
         (λ (z : (j : ℕ) → j < G.count → a ⊗ G.idempotent j ≡ A.zero). absurd (D.nonzero i l (
         sym (A.mul-one a) ∙ ap (λ y. a ⊗ y) (sym G.sum_to_one) ∙ mul-sum ring G.count a G.idempotent
         ∙ sum_eq_zero A.monoid G.count (λ j. a ⊗ G.idempotent j) z)))
-        (nonzero_or A.zero dec G.count (λ j. a ⊗ G.idempotent j))
+        (other_or_all A.zero dec G.count (λ j. a ⊗ G.idempotent j))
 
     count_le : (D G : FieldFactors F A S) → D.count ≤ G.count
     count_le D G = exchange F M D.count G.count D.idempotent G.idempotent (factors_independent F A S D)
@@ -70,4 +69,4 @@ module _ {K V : Type 0} (F : FieldOn K) (A : AlgebraOn F.ring V) (S : V → Type
 
 module _ {K V : Type 0} (F : FieldOn K) (A : AlgebraOn F.ring V) (m : ℕ) (B : Basis (module_of A) m) (S : V → Type 0) where
   pub factors_are_unique : FactorsAreUnique F A S
-  factors_are_unique h comm = same_factors F A S h comm (vector_eq_zero_or F (module_of A) m (coords_of (module_of A) m B))
+  factors_are_unique h comm = same_factors F A S h comm (vector_eq_zero_or F (module_of A) m B)

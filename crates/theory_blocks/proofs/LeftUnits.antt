@@ -19,23 +19,9 @@ use Rattle.theory_spaces.proofs.Spaces.{coords_of, extend_or_span}
 use Rattle.theory_spaces.proofs.Subspaces.{neg_in}
 use Rattle.theory_spaces.proofs.Kernels.{rank_nullity}
 use Rattle.theory_blocks.specs.MaximalIdeals.{HasNoNilpotentIdeal}
-use Rattle.theory_blocks.proofs.ZeroDivisors.{vector_eq_zero_or}
-use Rattle.theory_blocks.proofs.Semiprime.{linear_eq_zero, semiprime}
-
--- one of the numbers below n has P, or all have Q
-pub some_or_all : (n : ℕ) (P Q : ℕ → Type 0) → ((i : ℕ) → i < n → P i ⊎ Q i) → ((i : ℕ) × (i < n) × P i) ⊎ ((i : ℕ) → i < n → Q i)
-some_or_all zero P Q h = inr (λ i l. absurd (omega arith))
-some_or_all (suc n) P Q h = ⊎_elim
-    (λ (s : (i : ℕ) × (i < n) × P i). inl (s.0, (let l = s.1 in omega arith), s.2))
-    (λ (all : (i : ℕ) → i < n → Q i). ⊎_elim
-    (λ (p : P n). inl (n, omega arith, p))
-    (λ (q : Q n). inr (below_suc n Q all q))
-    (h n (omega arith)))
-    (some_or_all n P Q (λ i l. h i (omega arith)))
-
--- the span of no vectors is 0
-pub span_none : {K V : Type 0} {R : RingOn K} (M : ModuleOn R V) (n : ℕ) (v : ℕ → V) (x : V) → InSpan M n v x → n ≡ 0 → x ≡ M.zero
-span_none M n v x s e = s.combines ∙ ap (λ k. comb M k s.weights v) e
+use Rattle.theory_blocks.proofs.Decisions.{some_or_all, other_or_all, vector_eq_zero_or}
+use Rattle.theory_blocks.proofs.Spans.{linear_eq_zero, kernel_submodule, image_submodule, span_none, span_of_independent}
+use Rattle.theory_blocks.proofs.Semiprime.{semiprime}
 
 module _ {K V : Type 0} {R : RingOn K} (A : AlgebraOn R V) where
   infixl 65 ◌⊕◌
@@ -75,21 +61,13 @@ module _ {K V : Type 0} {R : RingOn K} (A : AlgebraOn R V) where
 
     image_right_ideal : IsRightIdeal AllTimes
     image_right_ideal = record {
-      subspace = record {
-        zero-in = (A.zero, hS.subspace.zero-in, mul-zero ring a);
-        add-in = λ y z h g. (h.0 ⊕ g.0, hS.subspace.add-in h.0 g.0 h.1 g.1, A.mul-add a h.0 g.0 ∙ ap₂ (λ p q. p ⊕ q) h.2 g.2);
-        scale-in = λ c y h. (c • h.0, hS.subspace.scale-in c h.0 h.1, A.scale-right c a h.0 ∙ ap (λ z. c • z) h.2);
-      };
+      subspace = image_submodule M M (λ y. a ⊗ y) (left_linear A a) S hS.subspace;
       mul-in = λ y b h. (h.0 ⊗ b, hS.mul-in h.0 b h.1, sym (A.mul_assoc a h.0 b) ∙ ap (λ z. z ⊗ b) h.2);
     }
 
     kernel_right_ideal : IsRightIdeal Killed
     kernel_right_ideal = record {
-      subspace = record {
-        zero-in = (hS.subspace.zero-in, mul-zero ring a);
-        add-in = λ x y g h. (hS.subspace.add-in x y g.0 h.0, A.mul-add a x y ∙ ap₂ (λ p q. p ⊕ q) g.1 h.1 ∙ A.zero-add A.zero);
-        scale-in = λ c x g. (hS.subspace.scale-in c x g.0, A.scale-right c a x ∙ ap (λ z. c • z) g.1 ∙ scale-zero M c);
-      };
+      subspace = kernel_submodule M M (λ y. a ⊗ y) (left_linear A a) S hS.subspace;
       mul-in = λ x b g. (hS.mul-in x b g.0, sym (A.mul_assoc a x b) ∙ ap (λ z. z ⊗ b) g.1 ∙ zero-mul ring b);
     }
 
@@ -121,17 +99,6 @@ module _ {K V : Type 0} {R : RingOn K} (A : AlgebraOn R V) where
           eq_of_sub_eq_zero A.additive (e ⊗ y) y (only w (member, killed));
     }
 
--- as many independent vectors of a subspace as its dimension span it
-full_span_in : {K V : Type 0} (F : FieldOn K) (M : ModuleOn F.ring V) (m : ℕ) → Coords M m → (S : V → Type 0) (n : ℕ) → BasisOf M n S
-    → (r : ℕ) (v : ℕ → V) → Independent M r v → ((i : ℕ) → i < r → S (v i)) → n ≤ r → (x : V) → S x → InSpan M r v x
-full_span_in F M m C S n D r v ind inside l x s = ⊎_elim
-    (λ (h : InSpan M r v x). h)
-    (λ (h : Independent M (suc r) (push r x v)).
-    let all : (j : ℕ) → j < suc r → S (push r x v j) = below_suc r (λ j. S (push r x v j))
-    (λ j g. subst S (sym (push-below r x v j g)) (inside j g)) (subst S (sym (push-at r x v)) s) in
-    let g = exchange F M (suc r) n (push r x v) D.vec h (λ j g. D.spans (push r x v j) (all j g)) in absurd (omega arith))
-    (extend_or_span F M m C r v ind x)
-
 module _ {K V : Type 0} (F : FieldOn K) (A : AlgebraOn F.ring V) (m : ℕ) (B : Basis (module_of A) m) (none : HasNoNilpotentIdeal A) where
   infixl 70 ◌⊗◌
   open A use {ring, ◌⊗◌}
@@ -158,7 +125,7 @@ module _ {K V : Type 0} (F : FieldOn K) (A : AlgebraOn F.ring V) (m : ℕ) (B : 
       fixes = λ x s.
           let products : (y : V) → S y → y ⊗ x ≡ A.zero = λ y h. linear_eq_zero N N (λ w. w ⊗ x) (right_linear A x) n D.vec
           (λ i l. linear_eq_zero N N (λ w. D.vec i ⊗ w) (left_linear A (D.vec i)) n D.vec (z i l) x (D.spans x s)) y (D.spans y h) in
-          zero-mul ring x ∙ sym (semiprime A m B none x (λ a. products (x ⊗ a) (hS.mul-in x a s)));
+          zero-mul ring x ∙ sym (semiprime F A m B none x (λ a. products (x ⊗ a) (hS.mul-in x a s)));
     }
 
     -- with an idempotent other than 0
@@ -186,7 +153,8 @@ module _ {K V : Type 0} (F : FieldOn K) (A : AlgebraOn F.ring V) (m : ℕ) (B : 
         (λ (l : n ≤ r.rank).
         let into : (y : V) → T y → S y = λ y h. subst S h.2 (hS.mul-in a h.0 sa) in
         let e = span_in N T hT.subspace r.rank r.image.vec r.image.inside a
-        (full_span_in F N m C S n D r.rank r.image.vec r.image.independent (λ i g. into (r.image.vec i) (r.image.inside i g)) l a sa) in
+        (span_of_independent F N r.rank n r.image.vec D.vec r.image.independent
+        (λ i g. D.spans (r.image.vec i) (into (r.image.vec i) (r.image.inside i g))) l a (D.spans a sa)) in
         left_unit_of_injective A S hS a e.0 e.1 e.2 (λ y h. span_none N r.nullity r.kernel.vec y (r.kernel.spans y h) (omega arith)))
         (cases_lt r.rank n)
 
@@ -196,8 +164,7 @@ module _ {K V : Type 0} (F : FieldOn K) (A : AlgebraOn F.ring V) (m : ℕ) (B : 
         left_unit_of_product (D.vec p.0) (D.vec p.2.0) (D.inside p.0 p.1) (D.inside p.2.0 p.2.1) p.2.2)
         left_unit_of_square_zero
         (some_or_all n (λ i. (j : ℕ) × (j < n) × (D.vec i ⊗ D.vec j ≡ A.zero → ⊥)) (λ i. (j : ℕ) → j < n → D.vec i ⊗ D.vec j ≡ A.zero)
-        (λ i _. some_or_all n (λ j. D.vec i ⊗ D.vec j ≡ A.zero → ⊥) (λ j. D.vec i ⊗ D.vec j ≡ A.zero)
-        (λ j _. ⊎_elim (λ z. inr z) (λ d. inl d) (vector_eq_zero_or F N m C (D.vec i ⊗ D.vec j)))))
+        (λ i _. other_or_all A.zero (vector_eq_zero_or F N m B) n (λ j. D.vec i ⊗ D.vec j)))
 
   left_unit_below : (k : ℕ) → Smaller k
   left_unit_below zero T hT r D l = absurd (omega arith)

@@ -1,4 +1,7 @@
 pub mod FixedPoints
+pub mod Decisions
+pub mod Spans
+pub mod Pairs
 pub mod Connected
 pub mod Newton
 pub mod Annihilation
@@ -19,8 +22,6 @@ pub mod Semiprime
 pub mod LeftUnits
 pub mod CentralIdempotents
 pub mod MaximalIdeals
-pub mod TwoSidedPairs
-pub mod TwoSidedCentre
 pub mod TwoSidedMaps
 pub mod TwoSidedBases
 pub mod TwoSidedFamilies

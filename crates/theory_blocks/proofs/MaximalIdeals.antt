@@ -21,10 +21,12 @@ use Rattle.theory_radical.specs.Ideal.{IsIdeal}
 use Rattle.theory_blocks.specs.FieldFactors.{FieldFactors}
 use Rattle.theory_blocks.specs.Centre.{Centre}
 use Rattle.theory_blocks.specs.MaximalIdeals.{HasNoNilpotentIdeal, CentralUnit, IsMaximalIdeal, Annihilated, MaximalIdealsLaw}
-use Rattle.theory_blocks.proofs.ZeroDivisors.{vector_eq_zero_or}
-use Rattle.theory_blocks.proofs.Centres.{centre-mul}
-use Rattle.theory_blocks.proofs.Semiprime.{linear_eq_zero}
-use Rattle.theory_blocks.proofs.LeftUnits.{some_or_all, idempotent_kills_rest, product_and_rest}
+use Rattle.theory_blocks.proofs.Decisions.{some_or_all, vector_eq_zero_or}
+use Rattle.theory_blocks.proofs.Centres.{centre-mul, centre_subalgebra}
+use Rattle.theory_blocks.proofs.FieldFactorsFamilies.{mul_mul_mul_comm}
+use Rattle.theory_blocks.proofs.FieldFactorsUnique.{factor_unit}
+use Rattle.theory_blocks.proofs.Spans.{linear_eq_zero}
+use Rattle.theory_blocks.proofs.LeftUnits.{idempotent_kills_rest, product_and_rest}
 use Rattle.theory_blocks.proofs.CentralIdempotents.{central_units}
 
 module _ {K V : Type 0} {R : RingOn K} (A : AlgebraOn R V) where
@@ -50,9 +52,7 @@ module _ {K V : Type 0} {R : RingOn K} (A : AlgebraOn R V) where
       fixes-mul = sym (A.mul_assoc e e u) ∙ ap (λ z. z ⊗ u) idem
 
       idempotent-mul : u ⊗ u ≡ u → (e ⊗ u) ⊗ (e ⊗ u) ≡ e ⊗ u
-      idempotent-mul h =
-          ap (λ z. z ⊗ (e ⊗ u)) (central u) ∙ A.mul_assoc u e (e ⊗ u) ∙ ap (λ z. u ⊗ z) fixes-mul
-          ∙ ap (λ z. u ⊗ z) (central u) ∙ sym (A.mul_assoc u u e) ∙ ap (λ z. z ⊗ e) h ∙ sym (central u)
+      idempotent-mul h = mul_mul_mul_comm ring e u e u (sym (central u)) ∙ ap₂ (λ y z. y ⊗ z) idem h
 
   module _ (n : ℕ) (g : ℕ → V) (u : CentralUnit A n g) (e : V) where
     -- what sends the unit of an ideal to 0 does so to the ideal
@@ -106,10 +106,8 @@ module _ {K V : Type 0} (F : FieldOn K) (A : AlgebraOn F.ring V) (m : ℕ) (B : 
     zero_or_idempotent : (i : ℕ) → i < D.count → (u : V) → Centre A u → u ⊗ u ≡ u → e i ⊗ u ≡ u → (u ≡ A.zero) ⊎ (u ≡ e i)
     zero_or_idempotent i l u central idem within = ⊎_elim
         (λ (z : u ≡ A.zero). inl z)
-        (λ (d : u ≡ A.zero → ⊥).
-        let y = D.field i l u central within d in
-        inr (sym within ∙ sym (central (e i)) ∙ ap (λ z. u ⊗ z) (sym y.3) ∙ sym (A.mul_assoc u u y.0) ∙ ap (λ z. z ⊗ y.0) idem ∙ y.3))
-        (vector_eq_zero_or F N m (coords_of N m B) u)
+        (λ (d : u ≡ A.zero → ⊥). inr (factor_unit F A (Centre A) (centre_subalgebra A) (λ x y p q. p y) D i l u central within idem d))
+        (vector_eq_zero_or F N m B u)
 
     block_out_or_in : (n : ℕ) (g : ℕ → V) (u : CentralUnit A n g) (i : ℕ) → i < D.count → (e i ⊗ u.unit ≡ A.zero) ⊎ (e i ⊗ u.unit ≡ e i)
     block_out_or_in n g u i l =

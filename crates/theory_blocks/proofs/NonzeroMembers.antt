@@ -7,7 +7,7 @@ use Rattle.theory_rings.specs.Sum.{sum}
 use Rattle.theory_rings.proofs.Rings.RingLaws.{add-zero}
 use Rattle.theory_rings.proofs.Sums.Sums.{sum_congr}
 use Rattle.theory_spaces.proofs.Families.{push, push-below, push-above, push-at, below_suc}
-use Rattle.theory_blocks.proofs.Annihilation.{lt_or_gt}
+use Rattle.theory_blocks.proofs.Decisions.{lt_or_gt}
 
 module _ {V : Type 0} (M : AddCommMonoidOn V) where
   infixl 65 ◌⊕◌

@@ -3,7 +3,7 @@
 use Rattle.std.specs.Prelude.{◌≡◌, ℕ, zero, suc, ◌+◌, ◌*◌, ◌/◌, ◌%◌, ◌<◌}
 use Rattle.std.proofs.Common.{refl, sym, ◌∙◌, ap, ap₂, subst, arith}
 use Rattle.std.proofs.lemmas.Nat.{div-mul-add, mod-mul-add}
-use Rattle.theory_rings.specs.Ring.{RingOn}
+use Rattle.theory_rings.specs.Ring.{RingOn, FieldOn}
 use Rattle.theory_rings.specs.Power.{power}
 use Rattle.theory_rings.proofs.Rings.RingLaws.{mul-zero, zero-mul}
 use Rattle.theory_rings.proofs.Sums.Sums.{sum_eq_zero}
@@ -16,48 +16,38 @@ use Rattle.theory_spaces.proofs.Ideals.{ideal_left, ideal_right}
 use Rattle.theory_spaces.proofs.PairIndex.{pair-lt}
 use Rattle.theory_radical.specs.Ideal.{IsIdeal, IsNilpotentIdeal}
 use Rattle.theory_blocks.specs.Centre.{Centre}
+use Rattle.theory_blocks.specs.TwoSidedRank.{two_sided}
 use Rattle.theory_blocks.specs.MaximalIdeals.{HasNoNilpotentIdeal, CentreIsReduced}
-
--- a linear map that sends vectors to 0 does so on their span
-pub linear_eq_zero : {K V W : Type 0} {R : RingOn K} (M : ModuleOn R V) (N : ModuleOn R W) (f : V → W) → IsLinear M N f
-    → (n : ℕ) (v : ℕ → V) → ((i : ℕ) → i < n → f (v i) ≡ N.zero) → (x : V) → InSpan M n v x → f x ≡ N.zero
-linear_eq_zero M N f hf n v h x s =
-    ap f s.combines ∙ map-comb M N f hf n s.weights v
-    ∙ sum_eq_zero N.monoid n (λ i. N.◌•◌ (s.weights i) (f (v i))) (λ i l. ap (λ y. N.◌•◌ (s.weights i) y) (h i l) ∙ scale-zero N (s.weights i))
+use Rattle.theory_blocks.proofs.Spans.{linear_eq_zero, span-at}
+use Rattle.theory_blocks.proofs.TwoSidedFamilies.{sandwich_in}
 
 module _ {K V : Type 0} {R : RingOn K} (A : AlgebraOn R V) where
-  infixl 70 ◌⊗◌
-  open A use {ring, ◌⊗◌}
-
-  abbrev M : ModuleOn R V
-  M = module_of A
-
   -- a span that is an ideal, as a set
-  pub ideal_of_span : (n : ℕ) (g : ℕ → V) → IdealSpan A n g → IsIdeal ring (InSpan M n g)
+  pub ideal_of_span : (n : ℕ) (g : ℕ → V) → IdealSpan A n g → IsIdeal A.ring (InSpan (module_of A) n g)
   ideal_of_span n g h = record {
-    zero-in = InSpan-zero M n g;
-    add-in = InSpan-add M n g;
+    zero-in = InSpan-zero (module_of A) n g;
+    add-in = InSpan-add (module_of A) n g;
     left-in = ideal_left A n g h;
     right-in = λ x c. ideal_right A n g h c x;
   }
 
-  module _ (m : ℕ) (B : Basis M m) (x : V) where
+module _ {K V : Type 0} (F : FieldOn K) (A : AlgebraOn F.ring V) (m : ℕ) (B : Basis (module_of A) m) where
+  infixl 70 ◌⊗◌
+  open A use {ring, ◌⊗◌}
+
+  abbrev M : ModuleOn F.ring V
+  M = module_of A
+
+  module _ (x : V) where
     -- the products of x with two vectors of the basis
     abbrev around : ℕ → V
-    around t = (B.vec (t / m) ⊗ x) ⊗ B.vec (t % m)
+    around t = two_sided F A m B t x
 
     abbrev In : V → Type 0
     In = InSpan M (m * m) around
 
-    in_of_basis : (f : V → V) → IsLinear M M f → ((i : ℕ) → i < m → In (f (B.vec i))) → (a : V) → In (f a)
-    in_of_basis f h g a = subst In (sym (ap f (B.expand a) ∙ map-comb M M f h m (B.coord a) B.vec))
-        (InSpan-comb M m (m * m) (B.coord a) (λ i. f (B.vec i)) around g)
-
     around-in : (a b : V) → In ((a ⊗ x) ⊗ b)
-    around-in a b = in_of_basis (λ z. (z ⊗ x) ⊗ b) (linear_comp M M M (λ z. z ⊗ b) (λ z. z ⊗ x) (right_linear A b) (right_linear A x))
-        (λ i l. in_of_basis (λ z. (B.vec i ⊗ x) ⊗ z) (left_linear A (B.vec i ⊗ x))
-        (λ j g. subst In (ap₂ (λ p q. (B.vec p ⊗ x) ⊗ B.vec q) (div-mul-add i m j g) (mod-mul-add i m j g))
-        (InSpan-member M (m * m) (i * m + j) around (pair-lt m m i j l g))) b) a
+    around-in a b = span-at M (m * m) (two_sided F A m B) (λ y. (a ⊗ y) ⊗ b) (sandwich_in F A m B a b) x
 
     -- the ideal that x generates
     around_ideal : IdealSpan A (m * m) around
@@ -84,17 +74,17 @@ module _ {K V : Type 0} {R : RingOn K} (A : AlgebraOn R V) where
 
       around_nilpotent : IsNilpotentIdeal ring In
       around_nilpotent = record {
-        ideal = ideal_of_span (m * m) around around_ideal;
+        ideal = ideal_of_span A (m * m) around around_ideal;
         exponent = 2;
         vanishes = λ a g. ap (λ w. a 1 ⊗ w) (A.mul-one (a 0)) ∙ square_vanishes (a 1) (a 0) (g 1) (g 0);
       }
 
-  module _ (m : ℕ) (B : Basis M m) (none : HasNoNilpotentIdeal A) where
+  module _ (none : HasNoNilpotentIdeal A) where
     pub semiprime : (x : V) → ((a : V) → (x ⊗ a) ⊗ x ≡ A.zero) → x ≡ A.zero
     semiprime x h =
         sym (A.mul-one (A.one ⊗ x) ∙ A.one-mul x)
-        ∙ linear_eq_zero M M (λ y. y) (linear_id M) (m * m) (around m B x) (none (m * m) (around m B x) (around_nilpotent m B x h))
-        ((A.one ⊗ x) ⊗ A.one) (around-in m B x A.one A.one)
+        ∙ linear_eq_zero M M (λ y. y) (linear_id M) (m * m) (around x) (none (m * m) (around x) (around_nilpotent x h))
+        ((A.one ⊗ x) ⊗ A.one) (around-in x A.one A.one)
 
     module _ (x : V) (central : Centre A x) where
       power_shrinks : (n : ℕ) → power ring x (suc (suc n)) ≡ A.zero → power ring x (suc n) ≡ A.zero
@@ -111,5 +101,5 @@ module _ {K V : Type 0} {R : RingOn K} (A : AlgebraOn R V) where
       eq_zero_of_power (suc zero) e = sym (A.mul-one x) ∙ e
       eq_zero_of_power (suc (suc n)) e = eq_zero_of_power (suc n) (power_shrinks n e)
 
-  pub centre_is_reduced : (m : ℕ) → Basis M m → CentreIsReduced A
-  centre_is_reduced m B none x central h = eq_zero_of_power m B none x central h.exponent h.vanishes
+  pub centre_is_reduced : CentreIsReduced A
+  centre_is_reduced none x central h = eq_zero_of_power none x central h.exponent h.vanishes

@@ -12,11 +12,13 @@ use Rattle.theory_spaces.proofs.Families.{push, push-below, push-at, below_suc}
 use Rattle.theory_spaces.proofs.Modules.{right_linear, span_in, comb_in, InSpan_trans, InSpan-member}
 use Rattle.theory_spaces.proofs.Dimension.{exchange, dimension_unique}
 use Rattle.theory_spaces.proofs.Spaces.{coords_of, basis_of, extend_or_span}
+use Rattle.theory_spaces.proofs.Subspaces.{neg_in}
 use Rattle.theory_spaces.proofs.PairIndex.{row-lt}
-use Rattle.theory_blocks.specs.TwoSidedRank.{Centre, CentreIsField, IndependentOverCentre, InSpanOverCentre, BasisOverCentre, BasisOverCentreExists}
-use Rattle.theory_blocks.proofs.ZeroDivisors.{vector_eq_zero_or}
-use Rattle.theory_blocks.proofs.TwoSidedPairs.{comb-images, independent_images, span_images}
-use Rattle.theory_blocks.proofs.TwoSidedCentre.{centre_submodule, centre-one, centre-neg, centre-mul}
+use Rattle.theory_blocks.specs.Centre.{Centre, CentreIsField}
+use Rattle.theory_blocks.specs.TwoSidedRank.{IndependentOverCentre, InSpanOverCentre, BasisOverCentre, BasisOverCentreExists}
+use Rattle.theory_blocks.proofs.Decisions.{vector_eq_zero_or}
+use Rattle.theory_blocks.proofs.Pairs.{comb-images, independent_images, span_images}
+use Rattle.theory_blocks.proofs.Centres.{centre_submodule, centre-one, centre-mul}
 
 module _ {K V : Type 0} (F : FieldOn K) (A : AlgebraOn F.ring V) (m : ℕ) (B : Basis (module_of A) m) (z : ℕ) (C : BasisOf (module_of A) z (Centre A)) where
   infixl 65 ◌⊕◌
@@ -62,7 +64,7 @@ module _ {K V : Type 0} (F : FieldOn K) (A : AlgebraOn F.ring V) (m : ℕ) (B : 
         (free.only_zero c (λ i l. p i (omega arith))
         (sym (add-zero monoid S) ∙ ap (λ t. S ⊕ t) (sym (ap (λ t. t ⊗ x) q ∙ zero-mul ring x)) ∙ e1)) q)
         (λ (q : c d ≡ A.zero → ⊥). absurd (not_spanned (spanned c p q e1)))
-        (vector_eq_zero_or F M m (coords_of M m B) (c d));
+        (vector_eq_zero_or F M m B (c d));
   }
     where
       not_spanned : InSpanOverCentre A d a x → ⊥
@@ -83,7 +85,7 @@ module _ {K V : Type 0} (F : FieldOn K) (A : AlgebraOn F.ring V) (m : ℕ) (B : 
           let S = sum monoid d (λ i. c i ⊗ a i) in
           record {
             weights = λ k. neg w ⊗ c k;
-            central = λ k l. centre-mul A (neg w) (c k) (centre-neg A w i.1) (p k (omega arith));
+            central = λ k l. centre-mul A (neg w) (c k) (neg_in M (Centre A) (centre_submodule A) w i.1) (p k (omega arith));
             combines =
                 sym (A.one-mul x) ∙ ap (λ t. t ⊗ x) (sym (i.1 (c d) ∙ i.2)) ∙ A.mul_assoc w (c d) x
                 ∙ ap (λ t. w ⊗ t) (neg_unique additive S (c d ⊗ x) e) ∙ mul-neg ring w S ∙ sym (neg-mul ring w S)

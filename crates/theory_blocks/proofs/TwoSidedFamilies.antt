@@ -9,12 +9,10 @@ use Rattle.theory_rings.proofs.Sums.Sums.{sum_congr, map-sum, mul-sum, sum-mul}
 use Rattle.theory_spaces.specs.Module.{ModuleOn, AlgebraOn, module_of}
 use Rattle.theory_spaces.specs.Linear.{InSpan, Basis, IsLinear}
 use Rattle.theory_spaces.proofs.Modules.{right_linear, linear_comp, map-comb}
-use Rattle.theory_blocks.specs.TwoSidedRank.{maps, BasisOverCentre, two_sided}
-use Rattle.theory_blocks.proofs.TwoSidedPairs.{span_images}
-
--- a sum of maps is one value by value
-pub sum-at : {K U W : Type 0} {R : RingOn K} (M : ModuleOn R W) (n : ℕ) (f : ℕ → U → W) (u : U) → sum (maps U M).monoid n f u ≡ sum M.monoid n (λ i. f i u)
-sum-at {U = U} M n f u = map-sum (maps U M).monoid M.monoid (λ h. h u) refl (λ g h. refl) n f
+use Rattle.theory_blocks.specs.Maps.{maps}
+use Rattle.theory_blocks.specs.TwoSidedRank.{BasisOverCentre, two_sided}
+use Rattle.theory_blocks.proofs.Pairs.{span_images}
+use Rattle.theory_blocks.proofs.Spans.{sum-at}
 
 module _ {K V : Type 0} (F : FieldOn K) (A : AlgebraOn F.ring V) (m : ℕ) (B : Basis (module_of A) m) where
   infixl 70 ◌⊗◌

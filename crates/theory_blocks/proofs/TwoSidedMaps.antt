@@ -13,9 +13,10 @@ use Rattle.theory_spaces.specs.AlgebraMap.{IsSimple}
 use Rattle.theory_spaces.proofs.Families.{push, push-below, push-at, below_suc}
 use Rattle.theory_spaces.proofs.Spaces.{coords_of}
 use Rattle.theory_spaces.proofs.MinimalIdempotents.{one_through}
-use Rattle.theory_blocks.specs.TwoSidedRank.{Centre, IndependentOverCentre, TwoSidedMapsVanish}
-use Rattle.theory_blocks.proofs.ZeroDivisors.{vector_eq_zero_or}
-use Rattle.theory_blocks.proofs.TwoSidedCentre.{centre_submodule}
+use Rattle.theory_blocks.specs.Centre.{Centre}
+use Rattle.theory_blocks.specs.TwoSidedRank.{IndependentOverCentre, TwoSidedMapsVanish}
+use Rattle.theory_blocks.proofs.Decisions.{vector_eq_zero_or}
+use Rattle.theory_blocks.proofs.Centres.{centre_submodule}
 
 module _ {K V : Type 0} (F : FieldOn K) (A : AlgebraOn F.ring V) where
   infixl 65 ◌⊕◌
@@ -99,7 +100,7 @@ module _ {K V : Type 0} (F : FieldOn K) (A : AlgebraOn F.ring V) where
     one_more n a free fewer x h = ⊎_elim
         (λ (e : x n ≡ A.zero). below_suc n (λ i. x i ≡ A.zero) (fewer x (drop_last n a x e h)) e)
         (λ (d : x n ≡ A.zero → ⊥). absurd (d (zero_of d)))
-        (vector_eq_zero_or F (module_of A) m (coords_of (module_of A) m B) (x n))
+        (vector_eq_zero_or F (module_of A) m B (x n))
       where
         zero_of : (x n ≡ A.zero → ⊥) → x n ≡ A.zero
         zero_of d =

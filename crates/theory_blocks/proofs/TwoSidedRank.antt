@@ -4,6 +4,7 @@ use Rattle.std.specs.Prelude.{◌≡◌, ℕ, zero, suc, ◌+◌, ◌*◌, ◌/�
 use Rattle.std.proofs.Common.{sym, ◌∙◌, ap, ap₂, subst, arith, inl, inr, ⊎_elim}
 use Rattle.std.proofs.Math.Nat.{le_of_mul-le-mul_right, mul-le-mul_right}
 use Rattle.std.proofs.lemmas.Nat.{div-mul-add, mod-mul-add}
+use Rattle.std.proofs.lemmas.Bool.{cases_lt}
 use Rattle.theory_rings.specs.Ring.{FieldOn}
 use Rattle.theory_rings.proofs.Rings.RingLaws.{zero-mul}
 use Rattle.theory_rings.proofs.Sums.Sums.{sum_eq_zero}
@@ -17,23 +18,16 @@ use Rattle.theory_spaces.proofs.Dimension.{exchange}
 use Rattle.theory_spaces.proofs.Spaces.{coords_of, BasisOf-size}
 use Rattle.theory_spaces.proofs.PairIndex.{pair-lt}
 use Rattle.theory_spaces.proofs.Ideals.{ideal_left, ideal_right}
-use Rattle.theory_blocks.specs.TwoSidedRank.{maps, Centre, CentreIsField, BasisOverCentre, two_sided, TwoSidedRank, SimpleByRank}
-use Rattle.theory_blocks.proofs.ZeroDivisors.{vector_eq_zero_or}
-use Rattle.theory_blocks.proofs.TwoSidedPairs.{independent_images, span_of_independent}
-use Rattle.theory_blocks.proofs.TwoSidedCentre.{centre-one, centre_field}
+use Rattle.theory_blocks.specs.Centre.{Centre, CentreIsField}
+use Rattle.theory_blocks.specs.Maps.{maps}
+use Rattle.theory_blocks.specs.TwoSidedRank.{BasisOverCentre, two_sided, TwoSidedRank, SimpleByRank}
+use Rattle.theory_blocks.proofs.Decisions.{other_or_all, vector_eq_zero_or}
+use Rattle.theory_blocks.proofs.Pairs.{independent_images}
+use Rattle.theory_blocks.proofs.Spans.{sum-at, span-at, span_none, span_of_independent}
+use Rattle.theory_blocks.proofs.Centres.{centre-one, centre_field}
 use Rattle.theory_blocks.proofs.TwoSidedMaps.{two_sided_maps_vanish}
 use Rattle.theory_blocks.proofs.TwoSidedBases.{basis_over_centre}
-use Rattle.theory_blocks.proofs.TwoSidedFamilies.{times, times_linear, family, left_by, coefficient, sum-at, sandwich_in, sandwich_over_centre, sandwich_by_coefficients}
-
--- one of n vectors is not 0, or all are
-some_nonzero_or : {V : Type 0} (o : V) → ((x : V) → (x ≡ o) ⊎ (x ≡ o → ⊥)) → (n : ℕ) (v : ℕ → V)
-    → ((i : ℕ) × (i < n) × (v i ≡ o → ⊥)) ⊎ ((i : ℕ) → i < n → v i ≡ o)
-some_nonzero_or o dec zero v = inr (λ i l. absurd (omega arith))
-some_nonzero_or o dec (suc n) v = ⊎_elim
-    (λ (s : (i : ℕ) × (i < n) × (v i ≡ o → ⊥)). inl (s.0, (let l = s.1 in omega arith), s.2))
-    (λ (a : (i : ℕ) → i < n → v i ≡ o). ⊎_elim
-    (λ (e : v n ≡ o). inr (below_suc n (λ i. v i ≡ o) a e)) (λ (d : v n ≡ o → ⊥). inl (n, omega arith, d)) (dec (v n)))
-    (some_nonzero_or o dec n v)
+use Rattle.theory_blocks.proofs.TwoSidedFamilies.{times, times_linear, family, left_by, coefficient, sandwich_in, sandwich_over_centre, sandwich_by_coefficients}
 
 module _ {K V : Type 0} (F : FieldOn K) (A : AlgebraOn F.ring V) (m : ℕ) (B : Basis (module_of A) m) where
   infixl 70 ◌⊗◌
@@ -54,10 +48,6 @@ module _ {K V : Type 0} (F : FieldOn K) (A : AlgebraOn F.ring V) (m : ℕ) (B : 
 
   abbrev Rank : ℕ → Type 0
   Rank = TwoSidedRank F A m B
-
-  -- one of the vectors is not 0, or all are
-  nonzero_or : (n : ℕ) (v : ℕ → V) → ((i : ℕ) × (i < n) × (v i ≡ A.zero → ⊥)) ⊎ ((i : ℕ) → i < n → v i ≡ A.zero)
-  nonzero_or = some_nonzero_or A.zero (vector_eq_zero_or F M m (coords_of M m B))
 
   pub rank_unique : (r s : ℕ) → Rank r → Rank s → r ≡ s
   rank_unique r s T U = BasisOf-size F Maps r s InBoth T U
@@ -94,7 +84,8 @@ module _ {K V : Type 0} (F : FieldOn K) (A : AlgebraOn F.ring V) (m : ℕ) (B : 
       -- where it is their number they are combinations of the maps y → b i·y·b j
       by_coefficients_in : (t : ℕ) → t < d * m → InBoth (by_coefficients t)
       by_coefficients_in t l = InSpan_trans Maps (d * m) (m * m) T.vec both (by_coefficients t) T.inside
-          (span_of_independent F Maps (d * m) T.vec by_coefficients T.independent (λ i q. in_by_coefficients (T.vec i) (T.inside i q)) t l)
+          (span_of_independent F Maps (d * m) (d * m) T.vec by_coefficients T.independent (λ i q. in_by_coefficients (T.vec i) (T.inside i q)) (omega arith)
+          (by_coefficients t) (InSpan-member Maps (d * m) t by_coefficients l))
 
       -- and so is c k, as one is a combination of the basis
       coefficient_in : (k : ℕ) → k < d → InBoth (times F A m B (c k) one)
@@ -111,9 +102,9 @@ module _ {K V : Type 0} (F : FieldOn K) (A : AlgebraOn F.ring V) (m : ℕ) (B : 
 
         -- an ideal holds what these maps make of its members
         kept : (h : V → V) → InBoth h → (x : V) → In x → In (h x)
-        kept h s x i = subst In (sym (sum-at M (m * m) (λ t. Maps.◌•◌ (s.weights t) (both t)) x) ∙ ap (λ (f : V → V). f x) (sym s.combines))
-            (InSpan-comb M (m * m) n s.weights (λ t. both t x) g
-            (λ t _. ideal_right A n g ideal (B.vec (t % m)) (B.vec (t / m) ⊗ x) (ideal_left A n g ideal (B.vec (t / m)) x i)))
+        kept h s x i = InSpan_trans M (m * m) n (λ t. both t x) g (h x)
+            (λ t _. ideal_right A n g ideal (B.vec (t % m)) (B.vec (t / m) ⊗ x) (ideal_left A n g ideal (B.vec (t / m)) x i))
+            (span-at M (m * m) both h s x)
 
         -- it holds everything if it holds an element of the centre with an inverse
         whole_of_unit : (x u : V) → In x → x ⊗ u ≡ one → (y : V) → In y
@@ -127,22 +118,21 @@ module _ {K V : Type 0} (F : FieldOn K) (A : AlgebraOn F.ring V) (m : ℕ) (B : 
             whole_of_unit (c p.0 x) u.0 (subst In (A.mul-one (c p.0 x)) (kept (times F A m B (c p.0) one) (coefficient_in p.0 p.1) x i)) u.2)
             (λ (h : (k : ℕ) → k < d → c k x ≡ A.zero). absurd (q ((D.spans x).combines
             ∙ sum_eq_zero monoid d (λ k. c k x ⊗ D.vec k) (λ k l. ap (λ t. t ⊗ D.vec k) (h k l) ∙ zero-mul ring (D.vec k)))))
-            (nonzero_or d (λ k. c k x))
+            (other_or_all A.zero (vector_eq_zero_or F M m B) d (λ k. c k x))
 
       simple_of_full : CentreIsField A → IsSimple A
       simple_of_full field n g ideal = ⊎_elim
           (λ (p : (i : ℕ) × (i < n) × (g i ≡ A.zero → ⊥)). inr (whole n g ideal field (g p.0) (InSpan-member M n p.0 g p.1) p.2))
           inl
-          (nonzero_or n g)
+          (other_or_all A.zero (vector_eq_zero_or F M m B) n g)
 
   module _ (z : ℕ) (C : BasisOf M z (Centre A)) where
     -- where one is not 0 the centre isn't 0
     centre-positive : (one ≡ A.zero → ⊥) → 0 < z
-    centre-positive nonzero = positive z (C.spans one (centre-one A))
-      where
-        positive : (k : ℕ) → InSpan M k C.vec one → 0 < k
-        positive zero s = absurd (nonzero s.combines)
-        positive (suc k) s = omega arith
+    centre-positive nonzero = ⊎_elim
+        (λ (l : z < 1). absurd (nonzero (span_none M z C.vec one (C.spans one (centre-one A)) (omega arith))))
+        (λ (l : 1 ≤ z). l)
+        (cases_lt z 1)
 
     -- with m = d·z, d·m is m²/z
     total : (d : ℕ) → d * z ≡ m → d * m * z ≡ m * m

@@ -17,7 +17,9 @@ use Rattle.theory_spaces.proofs.Matrices.{Mat-ext, mat, mat-entry}
 use Rattle.theory_spaces.proofs.MatrixAlgebra.{matrix_algebra, matrix_algebra_is, matrix_basis}
 use Rattle.theory_spaces.proofs.Spaces.{coords_of, span_basis}
 use Rattle.theory_spaces.proofs.PairIndex.{pair-lt}
-use Rattle.theory_blocks.specs.TwoSidedRank.{maps, two_sided, TwoSidedRank, map_row, RankByRows}
+use Rattle.theory_blocks.specs.Maps.{maps}
+use Rattle.theory_blocks.specs.TwoSidedRank.{two_sided, TwoSidedRank, map_row, RankByRows}
+use Rattle.theory_blocks.proofs.Spans.{linear_submodule, linear_eq_zero}
 use Rattle.theory_blocks.proofs.TwoSidedRank.{rank_unique}
 
 -- a linear map that sends 0 alone of a span to 0 makes of its bases those of the span of the images
@@ -66,20 +68,6 @@ module _ {K V W : Type 0} {R : RingOn K} (M : ModuleOn R V) (N : ModuleOn R W) (
             };
       }
 
--- the linear maps are a subspace
-pub linear_submodule : {K V : Type 0} (F : FieldOn K) (M : ModuleOn F.ring V) → IsSubmodule (maps V M) (IsLinear M M)
-linear_submodule F M = record {
-  zero-in = record { map-add = λ x y. sym (M.zero-add M.zero); map-scale = λ a x. sym (scale-zero M a) };
-  add-in = λ f g h k. record {
-    map-add = λ x y. ap₂ M.◌⊕◌ (h.map-add x y) (k.map-add x y) ∙ add_add_add_comm M.monoid (f x) (f y) (g x) (g y);
-    map-scale = λ a x. ap₂ M.◌⊕◌ (h.map-scale a x) (k.map-scale a x) ∙ sym (M.scale-add a (f x) (g x));
-  };
-  scale-in = λ b f h. record {
-    map-add = λ x y. ap (M.◌•◌ b) (h.map-add x y) ∙ M.scale-add b (f x) (f y);
-    map-scale = λ a x. ap (M.◌•◌ b) (h.map-scale a x) ∙ sym (M.mul-scale b a (f x)) ∙ ap (λ c. M.◌•◌ c (f x)) (F.mul_comm b a) ∙ M.mul-scale a b (f x);
-  };
-}
-
 module _ {K V : Type 0} (F : FieldOn K) (A : AlgebraOn F.ring V) (m : ℕ) (B : Basis (module_of A) m) where
   abbrev M : ModuleOn F.ring V
   M = module_of A
@@ -102,10 +90,7 @@ module _ {K V : Type 0} (F : FieldOn K) (A : AlgebraOn F.ring V) (m : ℕ) (B : 
 
   -- such a map is 0 if the coordinates of what it makes of the basis are
   both-ext : (f : V → V) → InBoth f → ((k l : ℕ) → k < m → l < m → B.coord (f (B.vec k)) l ≡ F.zero) → f ≡ N.zero
-  both-ext f s h =
-      let linear = linear_submodule F M in
-      fun_ext (λ x. linear_ext M M f (λ y. A.zero)
-      (span_in N (IsLinear M M) linear (m * m) both (λ t _. both_linear t) f s) linear.zero-in
+  both-ext f s h = fun_ext (λ x. linear_eq_zero M M f (span_in N (IsLinear M M) (linear_submodule F M) (m * m) both (λ t _. both_linear t) f s)
       m B.vec (λ k l. (coords_of M m B).faithful (f (B.vec k)) (λ j g. h k j l g)) x (record { weights = B.coord x; combines = B.expand x }))
 
   -- place s of a row, by whether it counts

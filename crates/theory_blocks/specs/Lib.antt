@@ -5,4 +5,5 @@ pub mod FieldFactors
 pub mod FactorLaws
 pub mod Centre
 pub mod MaximalIdeals
+pub mod Maps
 pub mod TwoSidedRank

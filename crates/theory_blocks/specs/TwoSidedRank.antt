@@ -1,7 +1,6 @@
--- The centre of an algebra, independence and bases over it, the maps y → x·y·w with the dimension of their span, and the
--- test of simple algebras by these. (Jacobson, Basic Algebra II, section 4.6; Pierce, Associative Algebras, chapter 12.)
+-- Independence and bases over the centre of an algebra, the maps y → x·y·w with the dimension of their span, and the test of
+-- simple algebras by these. (Jacobson, Basic Algebra II, section 4.6; Pierce, Associative Algebras, chapter 12.)
 use Rattle.std.specs.Prelude.{◌≡◌, ℕ, ◌*◌, ◌/◌, ◌%◌, ◌<◌, ◌≤◌}
-use Rattle.std.proofs.Math.Path.{fun_ext}
 use Rattle.theory_rings.specs.Ring.{RingOn, FieldOn}
 use Rattle.theory_rings.specs.Sum.{sum}
 use Rattle.theory_spaces.specs.Module.{ModuleOn, AlgebraOn, module_of}
@@ -9,46 +8,19 @@ use Rattle.theory_spaces.specs.Linear.{InSpan, Basis, BasisOf}
 use Rattle.theory_spaces.specs.AlgebraMap.{IsSimple}
 use Rattle.theory_spaces.specs.Functions.{functions}
 use Rattle.theory_spaces.proofs.Families.{push}
-
--- the maps from U to a module, added and scaled value by value
-abbrev pub maps : {K W : Type 0} {R : RingOn K} (U : Type 0) → ModuleOn R W → ModuleOn R (U → W)
-maps U M = record {
-  additive = record {
-    monoid = record {
-      zero = λ u. M.zero;
-      ◌⊕◌ = λ f g. λ u. M.◌⊕◌ (f u) (g u);
-      add_assoc = λ f g h. fun_ext (λ u. M.add_assoc (f u) (g u) (h u));
-      add_comm = λ f g. fun_ext (λ u. M.add_comm (f u) (g u));
-      zero-add = λ f. fun_ext (λ u. M.zero-add (f u));
-    };
-    neg = λ f. λ u. M.neg (f u);
-    neg-add = λ f. fun_ext (λ u. M.neg-add (f u));
-  };
-  ◌•◌ = λ a f. λ u. M.◌•◌ a (f u);
-  scale-add = λ a f g. fun_ext (λ u. M.scale-add a (f u) (g u));
-  add-scale = λ a b f. fun_ext (λ u. M.add-scale a b (f u));
-  mul-scale = λ a b f. fun_ext (λ u. M.mul-scale a b (f u));
-  one-scale = λ f. fun_ext (λ u. M.one-scale (f u));
-}
+use Rattle.theory_blocks.specs.Centre.{Centre, CentreIsField}
+use Rattle.theory_blocks.specs.Maps.{maps}
 
 module _ {K V : Type 0} {R : RingOn K} (A : AlgebraOn R V) where
-  -- x commutes with all elements
-  abbrev pub Centre : V → Type 0
-  Centre x = (y : V) → A.◌⊗◌ x y ≡ A.◌⊗◌ y x
-
-  -- each element of the centre but 0 has an inverse in the centre
-  abbrev pub CentreIsField : Type 0
-  CentreIsField = (x : V) → Centre x → (x ≡ A.zero → ⊥) → (y : V) × Centre y × (A.◌⊗◌ x y ≡ A.one)
-
   -- 0 is a combination of v 0, .., v (n − 1) with weights in the centre in one way only
   pub record IndependentOverCentre (n : ℕ) (v : ℕ → V) : Type 0 where
-    pub only_zero : (c : ℕ → V) → ((i : ℕ) → i < n → Centre (c i)) → sum A.monoid n (λ i. A.◌⊗◌ (c i) (v i)) ≡ A.zero
+    pub only_zero : (c : ℕ → V) → ((i : ℕ) → i < n → Centre A (c i)) → sum A.monoid n (λ i. A.◌⊗◌ (c i) (v i)) ≡ A.zero
         → (i : ℕ) → i < n → c i ≡ A.zero
 
   -- x is a combination of v 0, .., v (n − 1) with weights in the centre
   pub record InSpanOverCentre (n : ℕ) (v : ℕ → V) (x : V) : Type 0 where
     pub weights : ℕ → V
-    pub central : (i : ℕ) → i < n → Centre (weights i)
+    pub central : (i : ℕ) → i < n → Centre A (weights i)
     pub combines : x ≡ sum A.monoid n (λ i. A.◌⊗◌ (weights i) (v i))
 
   -- vectors that are independent over the centre, and of which each is such a combination

@@ -3,7 +3,8 @@ ghost use Rattle.std.specs.Prelude.{◌≡◌, ℕ};
 ghost use Rattle.theory_spaces.specs.AlgebraMap.{IsSimple};
 ghost use Rattle.theory_spaces.specs.Module.{module_of};
 ghost use Rattle.theory_spaces.specs.Linear.{BasisOf};
-ghost use Rattle.theory_blocks.specs.TwoSidedRank.{Centre, BasisOverCentreExists, TwoSidedMapsVanish, SimpleByRank, RankByRows};
+ghost use Rattle.theory_blocks.specs.Centre.{Centre};
+ghost use Rattle.theory_blocks.specs.TwoSidedRank.{BasisOverCentreExists, TwoSidedMapsVanish, SimpleByRank, RankByRows};
 
 use theory_spaces::algebra_laws::BasedAlgebra;
 

@@ -56,18 +56,3 @@ module _ {K V W : Type 0} {R : RingOn K} (M : ModuleOn R V) (N : ModuleOn R W) (
             ∙ sum_congr N.monoid n (λ k. g k (comb M m (λ j. c (k * m + j)) v)) (λ k. g k (w k))
             (λ k l. ap (g k) (comb_congr M m (λ j. c (k * m + j)) (a.0 k) v (λ j q. ap₂ a.0 (div-mul-add k m j q) (mod-mul-add k m j q)) ∙ sym (a.1 k l))));
       }
-
--- n independent vectors in the span of n vectors span these
-pub span_of_independent : {K V : Type 0} (F : FieldOn K) (M : ModuleOn F.ring V) (n : ℕ) (v w : ℕ → V) → Independent M n v
-    → ((i : ℕ) → i < n → InSpan M n w (v i)) → (i : ℕ) → i < n → InSpan M n v (w i)
-span_of_independent F M n v w free h i l =
-    let a = rows_of M n n v w h in
-    let combined : (c : ℕ → _) → comb M n c v ≡ comb M n (λ j. sum F.monoid n (λ i. F.◌⊗◌ (c i) (a.0 i j))) w = λ c.
-    comb_congr_right M n c v (λ i. comb M n (a.0 i) w) a.1 ∙ comb-comb M n n c a.0 w in
-    let rows : Free F n n a.0 = record { only_zero = λ c k. free.only_zero c (combined c ∙ comb_zero M n (λ j. sum F.monoid n (λ i. F.◌⊗◌ (c i) (a.0 i j))) w k) } in
-    let s = solve_free F n a.0 rows (delta F.ring i) in
-    record {
-      weights = s.weights;
-      combines = sym (combined s.weights
-          ∙ comb_congr M n (λ j. sum F.monoid n (λ i. F.◌⊗◌ (s.weights i) (a.0 i j))) (delta F.ring i) w s.solves ∙ comb-delta M n i w l);
-    }
