@@ -22,6 +22,7 @@ pub mod Semiprime
 pub mod LeftUnits
 pub mod CentralIdempotents
 pub mod MaximalIdeals
+pub mod MaximalIdealsFinite
 pub mod TwoSidedMaps
 pub mod TwoSidedBases
 pub mod TwoSidedFamilies

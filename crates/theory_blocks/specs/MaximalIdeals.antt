@@ -1,14 +1,19 @@
 -- Ideals with a central unit, maximal ideals and simple blocks. An ideal is given by vectors that span it.
 -- (Pierce, Associative Algebras, chapters 3 and 6.)
-use Rattle.std.specs.Prelude.{◌≡◌, ℕ, ◌<◌, ◌⊎◌, ◌↔◌}
+use Rattle.std.specs.Prelude.{◌≡◌, ℕ, ◌<◌, ◌^◌, ◌⊎◌, ◌↔◌}
 use Rattle.theory_rings.specs.Ring.{RingOn, FieldOn}
+use Rattle.theory_rings.specs.Prime.{IsPrime}
+use Rattle.theory_rings.specs.Power.{times}
+use Rattle.theory_rings.specs.Enumerated.{Enumerated}
 use Rattle.theory_spaces.specs.Module.{AlgebraOn, module_of}
-use Rattle.theory_spaces.specs.Linear.{InSpan}
+use Rattle.theory_spaces.specs.Linear.{InSpan, BasisOf}
 use Rattle.theory_spaces.specs.Algebra.{IdealSpan, IsNilpotent}
 use Rattle.theory_spaces.specs.AlgebraMap.{IsSimple}
 use Rattle.theory_radical.specs.Ideal.{IsIdeal, IsNilpotentIdeal}
+use Rattle.theory_blocks.specs.FixedPoints.{IsFixed}
 use Rattle.theory_blocks.specs.Centre.{Centre}
 use Rattle.theory_blocks.specs.FieldFactors.{FieldFactors}
+use Rattle.theory_blocks.specs.FactorLaws.{SolutionsArePower}
 
 module _ {K V : Type 0} {R : RingOn K} (A : AlgebraOn R V) where
   infixl 70 ◌⊗◌
@@ -64,3 +69,17 @@ module _ {K V : Type 0} (F : FieldOn K) (A : AlgebraOn F.ring V) where
   -- so it is wherever the centre is a product of fields
   abbrev pub MaximalIdealsLaw : Type 0
   MaximalIdealsLaw = HasNoNilpotentIdeal A → (D : FieldFactors F A (Centre A)) → MaximalIdealsByFactors D
+
+module _ {K V : Type 0} (F : FieldOn K) (E : Enumerated K) (A : AlgebraOn F.ring V) where
+  -- the centre is a product of fields, with one maximal ideal for each; the solutions of z^q = z in the centre are the combinations
+  -- of the idempotents, so that their dimension is the number of the maximal ideals
+  pub record MaximalIdealsBySolutions : Type 0 where
+    pub factors : FieldFactors F A (Centre A)
+    pub ideals : MaximalIdealsByFactors F A factors
+    pub solutions : SolutionsArePower F E A (Centre A) factors.count factors.idempotent
+    pub dimension : BasisOf (module_of A) factors.count (λ z. Centre A z × IsFixed A.ring E.size z)
+
+  -- so it is over a field of q = p^i elements, p prime and p·1 = 0, in an algebra of finite dimension without nilpotent ideals but 0
+  abbrev pub MaximalIdealsAreFinitelyMany : Type 0
+  MaximalIdealsAreFinitelyMany = (p i : ℕ) → IsPrime p → times F.monoid p F.one ≡ F.zero → E.size ≡ p ^ i
+      → HasNoNilpotentIdeal A → MaximalIdealsBySolutions
