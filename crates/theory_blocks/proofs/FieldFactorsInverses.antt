@@ -1,12 +1,13 @@
 -- Inverses in a commutative subalgebra of finite dimension in which 0 alone is nilpotent. There x·x·y is 0 only where x·y is, as the
 -- square of x·y is a multiple of it: so the multiples of x and those of x·x have one dimension, and x = x·x·g for some g. Then x·g is
 -- an idempotent. Where it is a scalar on an idempotent e that keeps x, x has an inverse there.
-use Rattle.std.specs.Prelude.{◌≡◌, ℕ, suc, ◌<◌}
+use Rattle.std.specs.Prelude.{◌≡◌, ℕ, zero, suc, ◌<◌}
 use Rattle.std.proofs.Common.{sym, ◌∙◌, ap, ap₂, subst, arith, ⊎_elim}
 use Rattle.theory_rings.specs.Ring.{RingOn, FieldOn}
 use Rattle.theory_rings.specs.Enumerated.{Enumerated}
 use Rattle.theory_rings.proofs.Rings.RingLaws.{mul-zero}
 use Rattle.theory_rings.proofs.Rings.ZeroTests.{eq_zero_or}
+use Rattle.theory_rings.specs.Power.{power}
 use Rattle.theory_spaces.specs.Module.{ModuleOn, AlgebraOn, module_of}
 use Rattle.theory_spaces.specs.Linear.{InSpan, Independent, Coords, BasisOf, IsSubmodule, IsLinear}
 use Rattle.theory_spaces.specs.Subspaces.{Kernel, Image}
@@ -16,11 +17,16 @@ use Rattle.theory_spaces.proofs.Dimension.{exchange}
 use Rattle.theory_spaces.proofs.Spaces.{extend_or_span, BasisOf-size}
 use Rattle.theory_spaces.proofs.Subspaces.{BasisOf-iff}
 use Rattle.theory_spaces.proofs.Kernels.{rank_nullity}
+use Rattle.theory_radical.proofs.Cores.{power-idempotent}
 use Rattle.theory_blocks.specs.FixedPoints.{IsFixed, IsSubalgebra}
 use Rattle.theory_blocks.specs.FieldFactors.{IsCommutativeIn, IsReducedIn}
 use Rattle.theory_blocks.proofs.FixedPoints.{size_pos}
 use Rattle.theory_blocks.proofs.Spans.{image_submodule, span_of_independent}
-use Rattle.theory_blocks.proofs.Connected.{power_idempotent}
+
+-- the powers of an idempotent, but the first, are itself
+power_idempotent : {V : Type 0} (R : RingOn V) (u : V) → R.◌⊗◌ u u ≡ u → (n : ℕ) → 0 < n → power R u n ≡ u
+power_idempotent R u e zero l = absurd (omega arith)
+power_idempotent R u e (suc n) l = power-idempotent R u e n
 
 module _ {K V : Type 0} (F : FieldOn K) (A : AlgebraOn F.ring V) (S : V → Type 0) (h : IsSubalgebra A S) (comm : IsCommutativeIn F A S) where
   infixl 70 ◌⊗◌

@@ -21,6 +21,7 @@ use Rattle.theory_blocks.specs.FixedPoints.{IsSubalgebra}
 use Rattle.theory_blocks.specs.Splitting.{less_scalar}
 use Rattle.theory_blocks.specs.FieldFactors.{IsCommutativeIn, FieldFactors}
 use Rattle.theory_blocks.specs.FactorLaws.{SolutionsArePower, FixedPointsByFactors, SolutionsArePowerOfField}
+use Rattle.theory_blocks.proofs.FixedPoints.{whole_subalgebra}
 use Rattle.theory_blocks.proofs.Newton.{less_scalar-mul}
 use Rattle.theory_blocks.proofs.Annihilation.{scalar_factors}
 use Rattle.theory_blocks.proofs.Decisions.{vector_eq_zero_or}
@@ -129,11 +130,8 @@ module _ {K V : Type 0} (F : FieldOn K) (E : Enumerated K) (A : AlgebraOn F.ring
   pub fixed_points_by_factors : (S : V → Type 0) → FixedPointsByFactors F E A S
   fixed_points_by_factors S h comm = solutions_are_power F A S h comm (vector_eq_zero_or F (module_of A) m B) E
 
-  whole_subalgebra : IsSubalgebra A Whole
-  whole_subalgebra = record { subspace = whole_submodule (module_of A); one-in = tt; mul-in = λ x y s t. tt }
-
   pub solutions_power_of_field : SolutionsArePowerOfField F E A
   solutions_power_of_field p i prime char size comm reduced =
       let all : IsCommutativeIn F A Whole = λ x y s t. comm x y in
-      let D = field_factors F E A m B Whole p i prime char size whole_subalgebra all (λ x s. reduced x) m (whole_basis (module_of A) m B) in
-      record { factors = D; solutions = fixed_points_by_factors Whole whole_subalgebra all D }
+      let D = field_factors F E A m B Whole p i prime char size (whole_subalgebra A) all (λ x s. reduced x) m (whole_basis (module_of A) m B) in
+      record { factors = D; solutions = fixed_points_by_factors Whole (whole_subalgebra A) all D }

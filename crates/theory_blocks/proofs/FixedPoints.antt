@@ -10,8 +10,10 @@ use Rattle.theory_rings.proofs.Powers.FrobeniusMap.{frobenius_iterate-add}
 use Rattle.theory_rings.proofs.FiniteFields.FiniteFields.{power_size}
 use Rattle.theory_rings.proofs.Sums.Sums.{sum_congr}
 use Rattle.theory_spaces.specs.Module.{AlgebraOn, module_of}
+use Rattle.theory_spaces.specs.Subspaces.{Whole}
 use Rattle.theory_spaces.proofs.Modules.{zero-scale, sum-scale}
-use Rattle.theory_blocks.specs.FixedPoints.{FixedPointsLaw}
+use Rattle.theory_spaces.proofs.Subspaces.{whole_submodule}
+use Rattle.theory_blocks.specs.FixedPoints.{IsSubalgebra, FixedPointsLaw}
 
 module _ {K V : Type 0} {R : RingOn K} (A : AlgebraOn R V) where
   infixl 70 ◌⊗◌
@@ -30,6 +32,9 @@ module _ {K V : Type 0} {R : RingOn K} (A : AlgebraOn R V) where
   -- a multiple of x by a number is one by a scalar
   pub times-scale : (n : ℕ) (x : V) → times A.monoid n x ≡ times R.monoid n R.one • x
   times-scale n x = sum_congr A.monoid n (λ _. x) (λ _. R.one • x) (λ i _. sym (A.one-scale x)) ∙ sym (sum-scale (module_of A) n (λ _. R.one) x)
+
+  pub whole_subalgebra : IsSubalgebra A Whole
+  whole_subalgebra = record { subspace = whole_submodule (module_of A); one-in = tt; mul-in = λ x y s t. tt }
 
 module _ {K V : Type 0} (F : FieldOn K) (E : Enumerated K) (A : AlgebraOn F.ring V) where
   pub size_pos : 0 < E.size
