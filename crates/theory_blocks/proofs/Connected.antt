@@ -1,6 +1,6 @@
 -- A commutative algebra without nilpotent elements but 0 in which multiples of one alone solve z^q = z has inverses: it is the one field
 -- of the product that it is.
-use Rattle.std.specs.Prelude.{◌≡◌, ℕ}
+use Rattle.std.specs.Prelude.{ℕ}
 use Rattle.std.proofs.Common.{◌∙◌}
 use Rattle.theory_rings.specs.Ring.{FieldOn}
 use Rattle.theory_rings.specs.Enumerated.{Enumerated}

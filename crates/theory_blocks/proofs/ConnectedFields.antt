@@ -6,7 +6,6 @@ use Rattle.theory_rings.specs.Ring.{CommRingOn, FieldOn}
 use Rattle.theory_rings.specs.Enumerated.{Enumerated}
 use Rattle.theory_spaces.specs.Module.{AlgebraOn, module_of}
 use Rattle.theory_spaces.specs.Linear.{Basis}
-use Rattle.theory_spaces.proofs.Spaces.{coords_of}
 use Rattle.theory_blocks.specs.FixedPoints.{HasInverses, ConnectedIsField}
 use Rattle.theory_blocks.proofs.Connected.{inverses}
 use Rattle.theory_blocks.proofs.Decisions.{vector_eq_zero_or}

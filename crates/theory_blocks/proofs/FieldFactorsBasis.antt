@@ -15,14 +15,14 @@ use Rattle.theory_spaces.specs.Module.{ModuleOn, AlgebraOn, module_of}
 use Rattle.theory_spaces.specs.Linear.{comb, Coords, Basis, BasisOf, Extension, IsLinear}
 use Rattle.theory_spaces.specs.Subspaces.{Kernel}
 use Rattle.theory_spaces.proofs.Families.{push, push-below}
-use Rattle.theory_spaces.proofs.Modules.{zero-scale, scale-neg, comb_congr, comb_congr_right, comb-add, comb-scale, comb-push_zero, comb_in}
+use Rattle.theory_spaces.proofs.Modules.{scale-neg, comb_congr, comb_congr_right, comb-add, comb-scale, comb-push_zero, comb_in}
 use Rattle.theory_spaces.proofs.Dimension.{exchange}
 use Rattle.theory_spaces.proofs.Spaces.{coords_of, Basis-coord, extend_basis}
 use Rattle.theory_spaces.proofs.Subspaces.{BasisOf-iff}
 use Rattle.theory_spaces.proofs.Kernels.{rank_nullity}
 use Rattle.theory_blocks.specs.FixedPoints.{IsFixed, IsSubalgebra}
 use Rattle.theory_blocks.specs.FieldFactors.{IsCommutativeIn}
-use Rattle.theory_blocks.proofs.FixedPoints.{power-scale, times-scale, size_pos}
+use Rattle.theory_blocks.proofs.FixedPoints.{power-scale, times-one, size_pos}
 use Rattle.theory_blocks.proofs.Decisions.{vector_eq_zero_or}
 use Rattle.theory_blocks.proofs.CommutingPowers.{add-power_of_commute}
 
@@ -86,9 +86,8 @@ module _ {K V : Type 0} (F : FieldOn K) (E : Enumerated K) (A : AlgebraOn F.ring
 
     raised-add : (x y : V) → S x → S y → raised (x ⊕ y) ≡ raised x ⊕ raised y
     raised-add x y s t =
-        let none : times A.monoid p one ≡ A.zero = times-scale A p one ∙ ap (λ c. c • one) char ∙ zero-scale M one in
         subst (λ q. power ring (x ⊕ y) q ≡ power ring x q ⊕ power ring y q) (sym size)
-        (add-power_of_commute ring (space_set F M m B) x y (comm x y s t) p prime none i)
+        (add-power_of_commute ring (space_set F M m B) x y (comm x y s t) p prime (times-one A p char) i)
 
     raised-comb : (n : ℕ) (c : ℕ → K) (v : ℕ → V) → ((j : ℕ) → j < n → S (v j)) → raised (comb M n c v) ≡ comb M n c (λ j. raised (v j))
     raised-comb zero c v g = power-zero ring E.size (size_pos F E A)

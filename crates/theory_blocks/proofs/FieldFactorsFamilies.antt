@@ -5,11 +5,11 @@ use Rattle.std.proofs.Common.{sym, ◌∙◌, ap, ap₂, arith, ⊎_elim}
 use Rattle.std.proofs.Math.Nat.{div-add-mod}
 use Rattle.std.proofs.lemmas.Nat.{div-mul-add, mod-mul-add}
 use Rattle.std.proofs.lemmas.Bool.{cases_eq}
-use Rattle.theory_rings.specs.Ring.{AddCommMonoidOn, RingOn, FieldOn}
+use Rattle.theory_rings.specs.Ring.{RingOn, FieldOn}
 use Rattle.theory_rings.specs.Sum.{sum}
 use Rattle.theory_rings.specs.Enumerated.{Enumerated}
 use Rattle.theory_rings.proofs.Rings.RingLaws.{mul-zero, zero-mul}
-use Rattle.theory_rings.proofs.Sums.Sums.{sum_congr, sum-split, mul-sum}
+use Rattle.theory_rings.proofs.Sums.Sums.{sum_congr, mul-sum}
 use Rattle.theory_spaces.specs.Module.{AlgebraOn, module_of}
 use Rattle.theory_spaces.proofs.Families.{below_suc}
 use Rattle.theory_spaces.proofs.PairIndex.{row-lt, column-lt}

@@ -2,19 +2,17 @@
 -- square of x·y is a multiple of it: so the multiples of x and those of x·x have one dimension, and x = x·x·g for some g. Then x·g is
 -- an idempotent. Where it is a scalar on an idempotent e that keeps x, x has an inverse there.
 use Rattle.std.specs.Prelude.{◌≡◌, ℕ, zero, suc, ◌<◌}
-use Rattle.std.proofs.Common.{sym, ◌∙◌, ap, ap₂, subst, arith, ⊎_elim}
+use Rattle.std.proofs.Common.{sym, ◌∙◌, ap, subst, arith, ⊎_elim}
 use Rattle.theory_rings.specs.Ring.{RingOn, FieldOn}
+use Rattle.theory_rings.specs.Power.{power}
 use Rattle.theory_rings.specs.Enumerated.{Enumerated}
 use Rattle.theory_rings.proofs.Rings.RingLaws.{mul-zero}
 use Rattle.theory_rings.proofs.Rings.ZeroTests.{eq_zero_or}
-use Rattle.theory_rings.specs.Power.{power}
 use Rattle.theory_spaces.specs.Module.{ModuleOn, AlgebraOn, module_of}
-use Rattle.theory_spaces.specs.Linear.{InSpan, Independent, Coords, BasisOf, IsSubmodule, IsLinear}
+use Rattle.theory_spaces.specs.Linear.{Coords, BasisOf, IsLinear}
 use Rattle.theory_spaces.specs.Subspaces.{Kernel, Image}
-use Rattle.theory_spaces.proofs.Families.{push, push-below, push-at, below_suc}
-use Rattle.theory_spaces.proofs.Modules.{zero-scale, span_in, map-zero, left_linear, linear_comp}
-use Rattle.theory_spaces.proofs.Dimension.{exchange}
-use Rattle.theory_spaces.proofs.Spaces.{extend_or_span, BasisOf-size}
+use Rattle.theory_spaces.proofs.Modules.{zero-scale, span_in, left_linear, linear_comp}
+use Rattle.theory_spaces.proofs.Spaces.{BasisOf-size}
 use Rattle.theory_spaces.proofs.Subspaces.{BasisOf-iff}
 use Rattle.theory_spaces.proofs.Kernels.{rank_nullity}
 use Rattle.theory_radical.proofs.Cores.{power-idempotent}

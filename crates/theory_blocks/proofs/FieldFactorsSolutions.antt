@@ -14,8 +14,7 @@ use Rattle.theory_spaces.specs.Linear.{comb, InSpan, Independent, Basis}
 use Rattle.theory_spaces.specs.Subspaces.{Whole}
 use Rattle.theory_spaces.proofs.Families.{choose_each}
 use Rattle.theory_spaces.proofs.Modules.{scale-zero, comb_congr, span_in, map-comb, left_linear, right_linear}
-use Rattle.theory_spaces.proofs.Spaces.{coords_of}
-use Rattle.theory_spaces.proofs.Subspaces.{whole_submodule, whole_basis}
+use Rattle.theory_spaces.proofs.Subspaces.{whole_basis}
 use Rattle.theory_radical.specs.Ideal.{product}
 use Rattle.theory_blocks.specs.FixedPoints.{IsSubalgebra}
 use Rattle.theory_blocks.specs.Splitting.{less_scalar}

@@ -8,7 +8,6 @@ use Rattle.theory_spaces.specs.Module.{ModuleOn, AlgebraOn, module_of}
 use Rattle.theory_spaces.specs.Linear.{InSpan, Basis}
 use Rattle.theory_spaces.proofs.Modules.{InSpan-member}
 use Rattle.theory_spaces.proofs.Dimension.{exchange}
-use Rattle.theory_spaces.proofs.Spaces.{coords_of}
 use Rattle.theory_blocks.specs.FixedPoints.{IsSubalgebra}
 use Rattle.theory_blocks.specs.FieldFactors.{IsCommutativeIn, FieldFactors}
 use Rattle.theory_blocks.specs.FactorLaws.{SameFactors, FactorsAreUnique}

@@ -2,20 +2,18 @@
 -- members are 0, so is S. Else a member x sends S onto x·S other than 0. If x·S is smaller than S it has a left unit f by induction, an
 -- idempotent other than 0, and so has the right ideal of the members that f sends to 0, and both together give one of S. If not, x
 -- is x·e for a member e, which is a left unit since x sends no other member than 0 to 0.
-use Rattle.std.specs.Prelude.{◌≡◌, ℕ, zero, suc, ◌<◌, ◌≤◌, ◌⊎◌}
-use Rattle.std.proofs.Common.{refl, sym, ◌∙◌, ap, ap₂, subst, arith, inl, inr, ⊎_elim}
+use Rattle.std.specs.Prelude.{◌≡◌, ℕ, zero, suc, ◌<◌, ◌≤◌}
+use Rattle.std.proofs.Common.{refl, sym, ◌∙◌, ap, subst, arith, ⊎_elim}
 use Rattle.std.proofs.lemmas.Bool.{cases_lt}
 use Rattle.theory_rings.specs.Ring.{RingOn, FieldOn}
-use Rattle.theory_rings.proofs.Rings.RingLaws.{add-neg, mul-zero, zero-mul}
+use Rattle.theory_rings.proofs.Rings.RingLaws.{add-neg, zero-mul}
 use Rattle.theory_rings.proofs.Rings.Solver.{◌⊞◌, ◌⊠◌, minus, words3}
 use Rattle.theory_rings.proofs.Rings.ZeroTests.{eq_of_sub_eq_zero}
 use Rattle.theory_spaces.specs.Module.{ModuleOn, AlgebraOn, module_of}
-use Rattle.theory_spaces.specs.Linear.{comb, InSpan, Independent, Coords, IsSubmodule, Basis, BasisOf}
+use Rattle.theory_spaces.specs.Linear.{Coords, IsSubmodule, Basis, BasisOf}
 use Rattle.theory_spaces.specs.Subspaces.{Kernel, Image, RankNullity}
-use Rattle.theory_spaces.proofs.Families.{push, push-below, push-at, below_suc}
-use Rattle.theory_spaces.proofs.Modules.{scale-zero, span_in, left_linear, right_linear}
-use Rattle.theory_spaces.proofs.Dimension.{exchange}
-use Rattle.theory_spaces.proofs.Spaces.{coords_of, extend_or_span}
+use Rattle.theory_spaces.proofs.Modules.{span_in, left_linear, right_linear}
+use Rattle.theory_spaces.proofs.Spaces.{coords_of}
 use Rattle.theory_spaces.proofs.Subspaces.{neg_in}
 use Rattle.theory_spaces.proofs.Kernels.{rank_nullity}
 use Rattle.theory_blocks.specs.MaximalIdeals.{HasNoNilpotentIdeal}

@@ -1,14 +1,12 @@
-pub mod FixedPoints
 pub mod Decisions
 pub mod Spans
 pub mod Pairs
-pub mod Connected
+pub mod FixedPoints
 pub mod Newton
 pub mod Annihilation
 pub mod ZeroDivisors
 pub mod Lagrange
 pub mod SplitIdempotents
-pub mod ConnectedFields
 pub mod CommutingPowers
 pub mod NonzeroMembers
 pub mod FieldFactorsFamilies
@@ -17,7 +15,10 @@ pub mod FieldFactorsBasis
 pub mod FieldFactors
 pub mod FieldFactorsSolutions
 pub mod FieldFactorsUnique
+pub mod Connected
+pub mod ConnectedFields
 pub mod Centres
+pub mod TwoSidedFamilies
 pub mod Semiprime
 pub mod LeftUnits
 pub mod CentralIdempotents
@@ -25,6 +26,5 @@ pub mod MaximalIdeals
 pub mod MaximalIdealsFinite
 pub mod TwoSidedMaps
 pub mod TwoSidedBases
-pub mod TwoSidedFamilies
 pub mod TwoSidedRank
 pub mod TwoSidedRows

@@ -1,10 +1,10 @@
 -- Over a field of q elements the centre of an algebra of finite dimension without nilpotent ideals but 0 is a product of fields, as it is
 -- a commutative subalgebra with a basis in which 0 alone is nilpotent. So the maximal ideals are as many as its fields.
-use Rattle.std.specs.Prelude.{◌≡◌, ℕ}
+use Rattle.std.specs.Prelude.{ℕ}
 use Rattle.theory_rings.specs.Ring.{FieldOn}
 use Rattle.theory_rings.specs.Enumerated.{Enumerated}
 use Rattle.theory_spaces.specs.Module.{ModuleOn, AlgebraOn, module_of}
-use Rattle.theory_spaces.specs.Linear.{InSpan, Basis, BasisOf}
+use Rattle.theory_spaces.specs.Linear.{Basis, BasisOf}
 use Rattle.theory_spaces.proofs.Modules.{InSpan-member}
 use Rattle.theory_blocks.specs.FixedPoints.{IsFixed}
 use Rattle.theory_blocks.specs.FieldFactors.{IsCommutativeIn}

@@ -2,16 +2,12 @@
 use Rattle.std.specs.Prelude.{◌≡◌, ℕ, zero, suc, ◌+◌, ◌*◌, ◌/◌, ◌%◌, ◌<◌}
 use Rattle.std.proofs.Common.{refl, sym, ◌∙◌, ap, ap₂, arith}
 use Rattle.std.proofs.lemmas.Nat.{div-mul-add, mod-mul-add, div-add-mod'}
-use Rattle.theory_rings.specs.Ring.{AddCommMonoidOn, RingOn, FieldOn}
+use Rattle.theory_rings.specs.Ring.{AddCommMonoidOn, RingOn}
 use Rattle.theory_rings.specs.Sum.{sum}
 use Rattle.theory_rings.proofs.Sums.Sums.{sum_congr, sum-split}
 use Rattle.theory_spaces.specs.Module.{ModuleOn}
 use Rattle.theory_spaces.specs.Linear.{comb, InSpan, Independent, IsLinear}
-use Rattle.theory_spaces.specs.Matrix.{delta}
-use Rattle.theory_spaces.proofs.Modules.{comb_congr, comb_congr_right, comb_zero, comb-comb, rows_of, map-comb}
-use Rattle.theory_spaces.proofs.IndependentVectors.{comb-delta}
-use Rattle.theory_spaces.proofs.Decide.{Free}
-use Rattle.theory_spaces.proofs.Simple.{solve_free}
+use Rattle.theory_spaces.proofs.Modules.{comb_congr, rows_of, map-comb}
 use Rattle.theory_spaces.proofs.PairIndex.{row-lt, column-lt}
 
 -- a sum over pairs, row by row

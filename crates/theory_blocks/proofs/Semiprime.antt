@@ -1,19 +1,16 @@
 -- An algebra without nilpotent ideals but 0. An element x with x·a·x = 0 for all a is 0, since the square of the ideal that it generates
 -- is 0; so a nilpotent element of the centre is 0.
-use Rattle.std.specs.Prelude.{◌≡◌, ℕ, zero, suc, ◌+◌, ◌*◌, ◌/◌, ◌%◌, ◌<◌}
-use Rattle.std.proofs.Common.{refl, sym, ◌∙◌, ap, ap₂, subst, arith}
-use Rattle.std.proofs.lemmas.Nat.{div-mul-add, mod-mul-add}
+use Rattle.std.specs.Prelude.{◌≡◌, ℕ, zero, suc, ◌+◌, ◌*◌, ◌/◌, ◌%◌}
+use Rattle.std.proofs.Common.{refl, sym, ◌∙◌, ap, subst, arith}
 use Rattle.theory_rings.specs.Ring.{RingOn, FieldOn}
 use Rattle.theory_rings.specs.Power.{power}
 use Rattle.theory_rings.proofs.Rings.RingLaws.{mul-zero, zero-mul}
-use Rattle.theory_rings.proofs.Sums.Sums.{sum_eq_zero}
 use Rattle.theory_rings.proofs.Powers.Powers.{power-add, power_commutes}
 use Rattle.theory_spaces.specs.Module.{ModuleOn, AlgebraOn, module_of}
-use Rattle.theory_spaces.specs.Linear.{InSpan, IsLinear, Basis}
+use Rattle.theory_spaces.specs.Linear.{InSpan, Basis}
 use Rattle.theory_spaces.specs.Algebra.{IdealSpan}
-use Rattle.theory_spaces.proofs.Modules.{scale-zero, InSpan-zero, InSpan-add, InSpan-comb, InSpan-member, left_linear, right_linear, linear_comp, linear_id, map-comb}
+use Rattle.theory_spaces.proofs.Modules.{InSpan-zero, InSpan-add, left_linear, right_linear, linear_comp, linear_id}
 use Rattle.theory_spaces.proofs.Ideals.{ideal_left, ideal_right}
-use Rattle.theory_spaces.proofs.PairIndex.{pair-lt}
 use Rattle.theory_radical.specs.Ideal.{IsIdeal, IsNilpotentIdeal}
 use Rattle.theory_blocks.specs.Centre.{Centre}
 use Rattle.theory_blocks.specs.TwoSidedRank.{two_sided}

@@ -1,15 +1,13 @@
 -- Where z^q = z and z is no multiple of one, one of Lagrange's idempotents is neither 0 nor 1: z is the scalar c on the one of c, so that none
 -- of them is 1; and they are not all 0, since z is a combination of them.
-use Rattle.std.specs.Prelude.{◌≡◌, ℕ, zero, suc, ◌<◌, ◌≤◌, ◌⊎◌}
-use Rattle.std.proofs.Common.{sym, ◌∙◌, ap, arith, ⊎_elim, inl, inr}
-use Rattle.std.proofs.lemmas.Bool.{cases_lt}
+use Rattle.std.specs.Prelude.{◌≡◌, ℕ, ◌<◌}
+use Rattle.std.proofs.Common.{sym, ◌∙◌, ap, ⊎_elim}
 use Rattle.theory_rings.specs.Ring.{FieldOn}
 use Rattle.theory_rings.specs.Enumerated.{Enumerated}
 use Rattle.theory_rings.proofs.Sums.Sums.{sum_eq_zero}
 use Rattle.theory_spaces.specs.Module.{AlgebraOn, module_of}
 use Rattle.theory_spaces.specs.Linear.{Basis}
 use Rattle.theory_spaces.proofs.Modules.{zero-scale, scale-zero}
-use Rattle.theory_spaces.proofs.Spaces.{coords_of}
 use Rattle.theory_blocks.specs.FixedPoints.{IsScalar}
 use Rattle.theory_blocks.specs.Lagrange.{lagrange, LagrangeSplits, SplitIdempotentsExist}
 use Rattle.theory_blocks.proofs.Decisions.{other_or_all, vector_eq_zero_or}

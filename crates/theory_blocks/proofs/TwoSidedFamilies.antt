@@ -1,11 +1,11 @@
 -- The maps y → x·y·w as combinations of products with the vectors of a basis: of the maps y → b i·y, of the maps y → a k·y by a
 -- basis a over the centre, and of the coefficients of y by such a basis.
 use Rattle.std.specs.Prelude.{◌≡◌, ℕ, ◌*◌, ◌/◌, ◌%◌}
-use Rattle.std.proofs.Common.{refl, sym, ◌∙◌, ap, subst}
+use Rattle.std.proofs.Common.{sym, ◌∙◌, ap, subst}
 use Rattle.std.proofs.Math.Path.{fun_ext}
-use Rattle.theory_rings.specs.Ring.{RingOn, FieldOn}
+use Rattle.theory_rings.specs.Ring.{FieldOn}
 use Rattle.theory_rings.specs.Sum.{sum}
-use Rattle.theory_rings.proofs.Sums.Sums.{sum_congr, map-sum, mul-sum, sum-mul}
+use Rattle.theory_rings.proofs.Sums.Sums.{sum_congr, mul-sum, sum-mul}
 use Rattle.theory_spaces.specs.Module.{ModuleOn, AlgebraOn, module_of}
 use Rattle.theory_spaces.specs.Linear.{InSpan, Basis, IsLinear}
 use Rattle.theory_spaces.proofs.Modules.{right_linear, linear_comp, map-comb}

@@ -11,7 +11,6 @@ use Rattle.theory_spaces.specs.Module.{AlgebraOn, module_of}
 use Rattle.theory_spaces.specs.Linear.{Basis}
 use Rattle.theory_spaces.specs.AlgebraMap.{IsSimple}
 use Rattle.theory_spaces.proofs.Families.{push, push-below, push-at, below_suc}
-use Rattle.theory_spaces.proofs.Spaces.{coords_of}
 use Rattle.theory_spaces.proofs.MinimalIdempotents.{one_through}
 use Rattle.theory_blocks.specs.Centre.{Centre}
 use Rattle.theory_blocks.specs.TwoSidedRank.{IndependentOverCentre, TwoSidedMapsVanish}

@@ -1,6 +1,6 @@
 -- An algebra is simple exactly where its centre is a field and the maps y → b i·y·b j span a space of the dimension m²/z, where
 -- m is the dimension of the algebra and z that of the centre.
-use Rattle.std.specs.Prelude.{◌≡◌, ℕ, zero, suc, ◌+◌, ◌*◌, ◌/◌, ◌%◌, ◌<◌, ◌≤◌, ◌⊎◌}
+use Rattle.std.specs.Prelude.{◌≡◌, ℕ, ◌+◌, ◌*◌, ◌/◌, ◌%◌, ◌<◌, ◌≤◌}
 use Rattle.std.proofs.Common.{sym, ◌∙◌, ap, ap₂, subst, arith, inl, inr, ⊎_elim}
 use Rattle.std.proofs.Math.Nat.{le_of_mul-le-mul_right, mul-le-mul_right}
 use Rattle.std.proofs.lemmas.Nat.{div-mul-add, mod-mul-add}
@@ -12,10 +12,9 @@ use Rattle.theory_spaces.specs.Module.{ModuleOn, AlgebraOn, module_of}
 use Rattle.theory_spaces.specs.Linear.{InSpan, Basis, BasisOf}
 use Rattle.theory_spaces.specs.Algebra.{IdealSpan}
 use Rattle.theory_spaces.specs.AlgebraMap.{IsSimple}
-use Rattle.theory_spaces.proofs.Families.{below_suc}
 use Rattle.theory_spaces.proofs.Modules.{InSpan_trans, InSpan-comb, InSpan-member, map-comb}
 use Rattle.theory_spaces.proofs.Dimension.{exchange}
-use Rattle.theory_spaces.proofs.Spaces.{coords_of, BasisOf-size}
+use Rattle.theory_spaces.proofs.Spaces.{BasisOf-size}
 use Rattle.theory_spaces.proofs.PairIndex.{pair-lt}
 use Rattle.theory_spaces.proofs.Ideals.{ideal_left, ideal_right}
 use Rattle.theory_blocks.specs.Centre.{Centre, CentreIsField}

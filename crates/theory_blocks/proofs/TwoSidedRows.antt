@@ -4,15 +4,15 @@ use Rattle.std.proofs.Common.{refl, sym, ◌∙◌, ap, ap₂}
 use Rattle.std.proofs.Math.Path.{fun_ext}
 use Rattle.std.proofs.lemmas.Nat.{div-mul-add, mod-mul-add}
 use Rattle.theory_rings.specs.Ring.{RingOn, FieldOn}
-use Rattle.theory_rings.proofs.Rings.RingLaws.{mul-zero, add-neg, add_add_add_comm}
+use Rattle.theory_rings.proofs.Rings.RingLaws.{mul-zero, add-neg}
 use Rattle.theory_rings.proofs.Rings.Fields.{field_set}
 use Rattle.theory_rings.proofs.Rings.ZeroTests.{eq_of_sub_eq_zero}
 use Rattle.theory_spaces.specs.Module.{ModuleOn, AlgebraOn, module_of}
-use Rattle.theory_spaces.specs.Linear.{comb, InSpan, Basis, BasisOf, IsLinear, IsSubmodule}
+use Rattle.theory_spaces.specs.Linear.{comb, InSpan, Basis, BasisOf, IsLinear}
 use Rattle.theory_spaces.specs.Matrix.{Mat}
 use Rattle.theory_spaces.specs.Functions.{functions}
 use Rattle.theory_spaces.proofs.Families.{push-below}
-use Rattle.theory_spaces.proofs.Modules.{scale-zero, comb_congr_right, InSpan-comb, InSpan-add, InSpan-neg, span_in, linear_comp, left_linear, right_linear, linear_ext, map-zero, map-neg, map-comb, rows_of}
+use Rattle.theory_spaces.proofs.Modules.{comb_congr_right, InSpan-comb, InSpan-add, InSpan-neg, span_in, linear_comp, left_linear, right_linear, map-zero, map-neg, map-comb, rows_of}
 use Rattle.theory_spaces.proofs.Matrices.{Mat-ext, mat, mat-entry}
 use Rattle.theory_spaces.proofs.MatrixAlgebra.{matrix_algebra, matrix_algebra_is, matrix_basis}
 use Rattle.theory_spaces.proofs.Spaces.{coords_of, span_basis}

@@ -1,13 +1,13 @@
 -- Where z^q = z and z is no multiple of one, some z − c is a zero divisor: the first products of such factors are not 0, and all
 -- together are.
 use Rattle.std.specs.Prelude.{◌≡◌, ℕ, zero, suc, ◌⊎◌}
-use Rattle.std.proofs.Common.{sym, ◌∙◌, ap, ⊎_elim, inl, inr}
+use Rattle.std.proofs.Common.{sym, ◌∙◌, ap, ⊎_elim}
 use Rattle.theory_rings.specs.Ring.{FieldOn}
 use Rattle.theory_rings.specs.Enumerated.{Enumerated}
 use Rattle.theory_rings.proofs.Rings.RingLaws.{mul-zero}
 use Rattle.theory_rings.proofs.Rings.ZeroTests.{eq_of_sub_eq_zero}
-use Rattle.theory_spaces.specs.Module.{AlgebraOn, ModuleOn, module_of}
-use Rattle.theory_spaces.specs.Linear.{Basis, Coords}
+use Rattle.theory_spaces.specs.Module.{AlgebraOn, module_of}
+use Rattle.theory_spaces.specs.Linear.{Basis}
 use Rattle.theory_spaces.proofs.Modules.{zero-scale}
 use Rattle.theory_blocks.specs.Splitting.{ZeroDivisorsExist}
 use Rattle.theory_blocks.proofs.Decisions.{vector_eq_zero_or}
