@@ -69,9 +69,8 @@ module _ {K V : Type 0} {R : RingOn K} (M : ModuleOn R V) (m k : ℕ) (v w : ℕ
 module _ {K V : Type 0} (F : FieldOn K) (E : Enumerated K) (A : AlgebraOn F.ring V) (m : ℕ) (B : Basis (module_of A) m)
     (S : V → Type 0) (h : IsSubalgebra A S) (comm : IsCommutativeIn F A S) where
   infixl 65 ◌⊕◌
-  infixl 70 ◌⊗◌
   infixl 70 ◌•◌
-  open A use {ring, one, ◌⊕◌, ◌⊗◌, ◌•◌, neg}
+  open A use {ring, ◌⊕◌, ◌•◌, neg}
 
   abbrev M : ModuleOn F.ring V
   M = module_of A

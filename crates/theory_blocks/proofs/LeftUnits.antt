@@ -24,8 +24,7 @@ use Rattle.theory_blocks.proofs.Semiprime.{semiprime}
 module _ {K V : Type 0} {R : RingOn K} (A : AlgebraOn R V) where
   infixl 65 ◌⊕◌
   infixl 70 ◌⊗◌
-  infixl 70 ◌•◌
-  open A use {ring, ◌⊕◌, ◌⊗◌, ◌•◌, neg}
+  open A use {ring, ◌⊕◌, ◌⊗◌, neg}
 
   abbrev M : ModuleOn R V
   M = module_of A
