@@ -1,5 +1,5 @@
 -- A ramified place of a table is one of its algebra, so a table with a ramified place is not split by matrices, and no claim
--- of a splitting holds of it.
+-- of a splitting with n² maps holds of it.
 use Rattle.std.specs.Prelude.{◌≡◌, ◌↔◌, ℕ, ◌<◌, ◌≤◌, ◌*◌, IsTrue, List, [], length, get_or}
 use Rattle.std.specs.List.{All}
 use Rattle.std.proofs.Common.{refl, sym, ◌∙◌, ap, ap₂, subst}
