@@ -5,3 +5,7 @@
 #![tactic(auto)]
 
 pub mod centre;
+mod identity;
+mod radical;
+#[cfg(test)]
+mod tests;
