@@ -1,0 +1,4 @@
+pub mod Bridge
+pub mod Exclusions
+pub mod TraceRadical
+pub mod CentralSimple

@@ -2,8 +2,8 @@
 use Rattle.std.specs.Prelude.{◌≡◌, ◌≢◌, ◌⊎◌, ◌+◌, ◌*◌, ◌-◌, ◌<◌, ◌≤◌, ◌==◌, ◌&&◌, ℕ, List, [], ◌∷◌, length, get_or, cond}
 use Rattle.theory_rings.specs.Ops.{Ops, IsElem}
 use Rattle.theory_rings.specs.Sum.{sum_of, at}
-use Rattle.theory_spaces.specs.Tuples.{IsTuple, tuple_scale, basis, product, constant}
-use Rattle.spl_matrix.specs.Matrix.{IsMatrix, entry}
+use Rattle.theory_spaces.specs.Tuples.{tuple_scale, basis, product, constant}
+use Rattle.spl_matrix.specs.Matrix.{IsMatrix}
 use Rattle.spl_matrix.specs.Subspace.{AreIndependent}
 use Rattle.spl_claims.specs.Algebras.{IsCentral, SpansIdeal}
 use Rattle.spl_claims.specs.Split.{IsSquare, map_entry}

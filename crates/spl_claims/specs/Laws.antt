@@ -4,7 +4,7 @@ use Rattle.std.specs.Prelude.{◌≡◌, ◌≢◌, ◌↔◌, ◌<◌, ◌≤�
 use Rattle.theory_rings.specs.Ops.{Ops, IsElem}
 use Rattle.theory_rings.specs.Sum.{sum_of, at}
 use Rattle.theory_rings.specs.Power.{times_of}
-use Rattle.theory_spaces.specs.Tuples.{IsTuple, tuple_zero, tuple_add, tuple_scale, basis, product, AssociativeTable, IsTableOne}
+use Rattle.theory_spaces.specs.Tuples.{IsTuple, tuple_zero, tuple_add, tuple_scale, product, AssociativeTable, IsTableOne}
 use Rattle.spl_matrix.specs.Matrix.{entry}
 use Rattle.spl_matrix.specs.Subspace.{InSpan}
 use Rattle.spl_claims.specs.Algebras.{HasIdentity, HasSmallCentre, SpansIdeal, IsCentralSimple}

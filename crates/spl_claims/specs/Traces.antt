@@ -1,7 +1,6 @@
 -- The regular trace, and the radical of the trace form, of an algebra by its structure constants.
 -- (Reiner, Maximal Orders, section 9.)
-use Rattle.std.specs.Prelude.{◌≡◌, ◌<◌, ℕ, suc, zero, List, [], length, get_or}
-use Rattle.std.specs.List.{All}
+use Rattle.std.specs.Prelude.{◌≡◌, ℕ, suc, zero, List}
 use Rattle.theory_rings.specs.Ops.{Ops}
 use Rattle.theory_rings.specs.Sum.{sum_of, table, at}
 use Rattle.theory_spaces.specs.Tuples.{IsTuple, tuple_zero, basis, product}

@@ -1,2 +1,4 @@
-// Definitions.
+// Definitions and laws of what evidence claims of an algebra: no code.
 #![tactic(auto)]
+
+pub mod laws;
