@@ -3,3 +3,4 @@ pub mod Traces
 pub mod Split
 pub mod Claims
 pub mod Laws
+pub mod Examples

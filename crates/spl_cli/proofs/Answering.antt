@@ -1,29 +1,33 @@
 -- What `decide` answers to the text of a table.
-use Rattle.std.specs.Prelude.{◌≡◌, ℕ, List, []}
-use Rattle.std.proofs.Common.{inl, inr}
-use Rattle.spl_algebra.specs.Algebra.{IsAssociative}
+use Rattle.std.specs.Prelude.{◌≡◌, ℕ, ◌*◌, List, []}
+use Rattle.std.proofs.Common.{inl, inr, sym, ◌∙◌, ap, subst}
 use Rattle.spl_table.specs.TableText.{TableText}
 use Rattle.spl_table.specs.Table.{algebra_of, ops_of, IsTableOf}
-use Rattle.spl_table.specs.Triple.{IsFirstFailed}
 use Rattle.spl_table.specs.Refusal.{whole, IsTableText, IsRefusal}
 use Rattle.spl_table.specs.declared.table.Table.{Table}
-use Rattle.spl_table.specs.declared.triple.Triple.{Triple}
 use Rattle.spl_table.specs.declared.refusal.Refusal.{Refusal}
 use Rattle.spl_table.specs.declared.refusal.Kind.TheVariants.{NotBuilt}
+use Rattle.spl_fraction.specs.Fractions.{field_of}
+use Rattle.spl_fraction.specs.FractionsOver.{fractions_over}
+use Rattle.spl_fraction.specs.declared.field.Fractions.{Fractions}
+use Rattle.spl_evidence.specs.Evidence.{Fits, IsEvidenceText}
+use Rattle.spl_evidence.specs.declared.evidence.Evidence.{Evidence}
+use Rattle.spl_evidence.proofs.Fits.{fits_of_claim}
+use Rattle.spl_engine.specs.Kind.{IsEvidence, HasNoFault}
 use Rattle.spl_cli.specs.declared.status.Status.{Status}
 use Rattle.spl_cli.specs.declared.status.Status.TheVariants.{Done, Refused}
 use Rattle.spl_cli.specs.Forms.{IsDecide}
-use Rattle.spl_cli.specs.Report.{refusal_text, triple_text, line_of_end}
+use Rattle.spl_cli.specs.Report.{refusal_text, line_of_end, ShowsEvidence}
 use Rattle.spl_cli.specs.Run.{SinkState}
 use Rattle.spl_cli.specs.Finish.{Finishes, Answers}
 
 module _ (words : List (List ℕ)) (input : List ℕ) (sink sink' : SinkState) (status : Status) (form : IsDecide words)
     (table : Table) (read : (t : TableText) × IsTableText whole input t [] × IsTableOf t table) (bytes : List ℕ) where
-  -- an associative table is refused at its last line
-  pub Answers-undecided : (refusal : Refusal) → IsAssociative (ops_of table) (algebra_of table)
+  -- a table without a fault is refused at its last line
+  pub Answers-undecided : (refusal : Refusal) → HasNoFault (ops_of table) (algebra_of table)
       → refusal.line ≡ line_of_end input → refusal.kind ≡ NotBuilt → bytes ≡ refusal_text refusal
       → Finishes Refused bytes sink sink' status → Answers words input sink sink' status
-  Answers-undecided refusal associative line kind report finishes = record {
+  Answers-undecided refusal no_fault line kind report finishes = record {
     ends = inr (
       Refused,
       bytes,
@@ -34,7 +38,7 @@ module _ (words : List (List ℕ)) (input : List ℕ) (sink sink' : SinkState) (
           cause = inr (record {
             table = table;
             stands = record { text = read.0; is_text = read.1; is_table = read.2 };
-            associative = associative;
+            no_fault = no_fault;
             line = line;
             kind = kind;
           });
@@ -46,23 +50,13 @@ module _ (words : List (List ℕ)) (input : List ℕ) (sink sink' : SinkState) (
     stands = finishes.stands;
   }
 
-  -- a failed triple is evidence
-  pub Answers-found : (triple : Triple) → IsFirstFailed (ops_of table) (algebra_of table) triple
-      → bytes ≡ triple_text triple → Finishes Done bytes sink sink' status → Answers words input sink sink' status
-  Answers-found triple first report finishes = record {
+  -- evidence is written
+  pub Answers-found : ShowsEvidence table bytes → Finishes Done bytes sink sink' status → Answers words input sink sink' status
+  Answers-found shows finishes = record {
     ends = inr (
       Done,
       bytes,
-      (
-        form,
-        record {
-          table = table;
-          stands = record { text = read.0; is_text = read.1; is_table = read.2 };
-          triple = triple;
-          first = first;
-          report = report;
-        },
-      ),
+      (form, record { table = table; stands = record { text = read.0; is_text = read.1; is_table = read.2 }; shows = shows }),
       finishes,
     );
     stands = finishes.stands;
@@ -75,3 +69,26 @@ Answers-refused words input sink sink' status form bytes refusal cause report fi
   ends = inr (Refused, bytes, (form, record { refusal = refusal; cause = inl cause; report = report }), finishes);
   stands = finishes.stands;
 }
+
+-- evidence that was written by the fractions f and the degree n of the table
+module _ (table : Table) (f : Fractions) (n : ℕ) (same_field : f ≡ table.fractions) (same_degree : n ≡ table.degree) (e : Evidence)
+    (holds : IsEvidence (ops_of table) (algebra_of table) e) where
+  square : n * n ≡ table.algebra.dim
+  square = ap (λ k. k * k) same_degree ∙ sym table.dim
+
+  -- it fits, as its claim holds
+  pub fits_of_evidence : Fits (fractions_over (field_of f)) (n * n) e
+  fits_of_evidence =
+      let P : ℕ → Type 0 = λ m. Fits (ops_of table) m e in
+      let Q : Fractions → Type 0 = λ k. Fits (fractions_over (field_of k)) (n * n) e in
+      subst Q (sym same_field) (subst P (sym square) (fits_of_claim (ops_of table) (algebra_of table) e holds.claim))
+
+  pub shows_evidence : (bytes : List ℕ) → IsEvidenceText (fractions_over (field_of f)) (n * n) bytes e → ShowsEvidence table bytes
+  shows_evidence bytes text = record {
+    evidence = e;
+    holds = holds;
+    text =
+        let P : ℕ → Type 0 = λ m. IsEvidenceText (ops_of table) m bytes e in
+        let Q : Fractions → Type 0 = λ k. IsEvidenceText (fractions_over (field_of k)) (n * n) bytes e in
+        subst P square (subst Q same_field text);
+  }

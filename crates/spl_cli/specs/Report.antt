@@ -1,15 +1,15 @@
 -- What a run reports: the status, and all the bytes that are written.
 use Rattle.std.specs.Prelude.{◌≡◌, ◌⊎◌, ℕ, ◌==◌, List, [], ◌++◌, codes, decimal, count_by}
-use Rattle.spl_algebra.specs.Algebra.{IsAssociative}
 use Rattle.spl_table.specs.TableText.{TableText}
 use Rattle.spl_table.specs.Table.{algebra_of, ops_of, IsTableOf}
-use Rattle.spl_table.specs.Triple.{IsFirstFailed}
 use Rattle.spl_table.specs.Refusal.{whole, IsTableText, IsRefusal}
 use Rattle.spl_table.specs.declared.table.Table.{Table}
-use Rattle.spl_table.specs.declared.triple.Triple.{Triple}
 use Rattle.spl_table.specs.declared.refusal.Refusal.{Refusal}
 use Rattle.spl_table.specs.declared.refusal.Kind.{Kind}
 use Rattle.spl_table.specs.declared.refusal.Kind.TheVariants.{TooLong, NotText, Header, FieldSize, FieldLaw, Degree, Characteristic, EntryForm, EntryRange, EntryOrder, ZeroDenominator, PolyDegree, NoEnd, AfterEnd, NotBuilt}
+use Rattle.spl_evidence.specs.Evidence.{IsEvidenceText}
+use Rattle.spl_evidence.specs.declared.evidence.Evidence.{Evidence}
+use Rattle.spl_engine.specs.Kind.{IsEvidence, HasNoFault}
 use Rattle.spl_cli.specs.declared.status.Status.{Status}
 use Rattle.spl_cli.specs.declared.status.Status.TheVariants.{Done, No, Usage, Refused, ReadFault, WriteFault, Memory}
 use Rattle.spl_cli.specs.Forms.{IsDecide, IsForm, usage_text}
@@ -41,10 +41,6 @@ element_text _ = []
 abbrev pub refusal_text : Refusal → List ℕ
 refusal_text r = codes "refused " ++ decimal r.line ++ codes " " ++ kind_name r.kind ++ element_text r.kind ++ codes "\n"
 
--- the evidence text of a failed triple
-abbrev pub triple_text : Triple → List ℕ
-triple_text t = codes "spl-evidence 1\ntriple " ++ decimal t.i ++ codes " " ++ decimal t.j ++ codes " " ++ decimal t.k ++ codes "\nend\n"
-
 -- the line of `end`, the last one of a table text
 abbrev pub line_of_end : List ℕ → ℕ
 line_of_end input = count_by (λ byte. byte == 10) input
@@ -55,21 +51,26 @@ pub record Stands (input : List ℕ) (table : Table) : Type 0 where
   pub is_text : IsTableText whole input text []
   pub is_table : IsTableOf text table
 
--- the input is the text of an associative table, which no part that is built decides
+-- the input is the text of a table whose algebra is central simple, and its trace form nondegenerate. No part that is built
+-- decides it
 pub record IsUndecided (input : List ℕ) (refusal : Refusal) : Type 0 where
   pub table : Table
   pub stands : Stands input table
-  pub associative : IsAssociative (ops_of table) (algebra_of table)
+  pub no_fault : HasNoFault (ops_of table) (algebra_of table)
   pub line : refusal.line ≡ line_of_end input
   pub kind : refusal.kind ≡ NotBuilt
 
--- the input is the text of a table whose first failed triple the bytes name
-pub record IsEvidence (input bytes : List ℕ) : Type 0 where
+-- the bytes are the text of evidence that the table's algebra isn't central simple
+pub record ShowsEvidence (table : Table) (bytes : List ℕ) : Type 0 where
+  pub evidence : Evidence
+  pub holds : IsEvidence (ops_of table) (algebra_of table) evidence
+  pub text : IsEvidenceText (ops_of table) (algebra_of table).dim bytes evidence
+
+-- the input is the text of a table, and the bytes are the text of such evidence
+pub record IsDecided (input bytes : List ℕ) : Type 0 where
   pub table : Table
   pub stands : Stands input table
-  pub triple : Triple
-  pub first : IsFirstFailed (ops_of table) (algebra_of table) triple
-  pub report : bytes ≡ triple_text triple
+  pub shows : ShowsEvidence table bytes
 
 -- the input is refused, and the bytes say as what
 pub record IsRefused (input bytes : List ℕ) : Type 0 where
@@ -80,7 +81,7 @@ pub record IsRefused (input bytes : List ℕ) : Type 0 where
 -- what words and an input may come to
 abbrev pub Report : List (List ℕ) → List ℕ → Status → List ℕ → Type 0
 Report words input Usage bytes = (IsForm words → ⊥) × (bytes ≡ usage_text)
-Report words input Done bytes = IsDecide words × IsEvidence input bytes
+Report words input Done bytes = IsDecide words × IsDecided input bytes
 Report words input Refused bytes = IsDecide words × IsRefused input bytes
 Report words input No bytes = ⊥
 Report words input ReadFault bytes = ⊥

@@ -1,12 +1,11 @@
 // The texts of reports.
 ghost use Rattle.std.specs.Prelude.{◌≡◌, ℕ, ◌+◌, ◌<◌, ◌≤◌, ◌^◌, ◌==◌, ◌++◌, length, count_by, codes, decimal, IfOk};
-ghost use Rattle.spl_cli.specs.Report.{kind_name, element_text, refusal_text, triple_text, line_of_end};
+ghost use Rattle.spl_cli.specs.Report.{kind_name, element_text, refusal_text, line_of_end};
 
 use arrayvec::ArrayString;
 use itoa::Buffer;
 use spl_field::field::NoMemory;
 use spl_table::refusal::{Kind, Refusal};
-use spl_table::triple::Triple;
 use std::alloc::Global;
 
 /// The usage text: the built forms, one a line.
@@ -69,19 +68,4 @@ pub(crate) fn refusal_line(refusal: Refusal) -> ArrayString<64>
     push_element(&mut line, refusal.kind);
     line.push_str("\n");
     line
-}
-
-/// The evidence text of a failed triple.
-pub(crate) fn triple_evidence(alloc: Global, triple: Triple) -> Result<Vec<u8>, NoMemory>
-    ensures { IfOk result (λ text. text.items ≡ triple_text triple) }
-{
-    let mut buffer = Buffer::new();
-    let mut text = Vec::from_slice(alloc, b"spl-evidence 1\ntriple ")?;
-    text.extend_from_slice(buffer.format(triple.i).as_bytes())?;
-    text.extend_from_slice(b" ")?;
-    text.extend_from_slice(buffer.format(triple.j).as_bytes())?;
-    text.extend_from_slice(b" ")?;
-    text.extend_from_slice(buffer.format(triple.k).as_bytes())?;
-    text.extend_from_slice(b"\nend\n")?;
-    Ok(text)
 }

@@ -1,20 +1,24 @@
 // The top call.
-ghost use Rattle.std.specs.Prelude.{◌≡◌, List, ℕ};
+ghost use Rattle.std.specs.Prelude.{◌≡◌, List, ℕ, IfOk, MatchOption};
+ghost use Rattle.spl_table.specs.Table.{algebra_of, ops_of};
+ghost use Rattle.spl_engine.specs.Kind.{HasNoFault};
 ghost use Rattle.spl_cli.specs.Run.{IsRun};
-ghost use Rattle.spl_cli.specs.Report.{Report};
+ghost use Rattle.spl_cli.specs.Report.{Report, ShowsEvidence};
 ghost use Rattle.spl_cli.specs.Finish.{source_state, sink_state, Finishes, Answers};
 ghost use Rattle.spl_cli.specs.Forms.{IsDecide};
 
 use crate::input::{InputFault, read_input};
-use crate::report::{USAGE, end_line, refusal_line, triple_evidence};
+use crate::report::{USAGE, end_line, refusal_line};
 use crate::status::Status;
 use crate::words::Words;
+use spl_engine::decide::decide as find_evidence;
+use spl_evidence::writing::write_evidence;
 use spl_field::field::NoMemory;
 use spl_outside::outside::{Failed, Sink, Source};
 use spl_outside::write::write_whole;
 use spl_table::reader::read_table;
 use spl_table::refusal::{Kind, Refusal, TableFault};
-use spl_table::triple::first_failed_triple;
+use spl_table::table::Table;
 use std::alloc::Global;
 
 /// The most bytes of an input of `decide`.
@@ -34,6 +38,20 @@ fn finish<K: Sink>(sink: &mut K, bytes: &[u8], answer: Status) -> Status
     }
 }
 
+/// The text of the table's evidence; None where it has none.
+fn evidence_on(alloc: Global, table: &Table) -> Result<Option<Vec<u8>>, NoMemory>
+    ensures { IfOk result (λ r. MatchOption r (HasNoFault (ops_of table.now) (algebra_of table.now))
+        (λ text. ShowsEvidence table.now text.items)) }
+{
+    match find_evidence(alloc, table)? {
+        None => Ok(None),
+        Some(evidence) => {
+            let text = write_evidence(alloc, table.fractions(), table.degree(), &evidence)?;
+            Ok(Some(text))
+        }
+    }
+}
+
 /// Writes the report on the input of `decide`.
 fn decide<K: Sink>(alloc: Global, input: &[u8], sink: &mut K) -> Status
     ensures { (words : List (List ℕ)) → IsDecide words → Answers words input.now
@@ -46,7 +64,7 @@ fn decide<K: Sink>(alloc: Global, input: &[u8], sink: &mut K) -> Status
             refusal_line(refusal).as_str().as_bytes(),
             Status::Refused,
         ),
-        Ok(table) => match first_failed_triple(alloc, &table) {
+        Ok(table) => match evidence_on(alloc, &table) {
             Err(_) => Status::Memory,
             Ok(None) => {
                 let refusal = Refusal {
@@ -59,10 +77,7 @@ fn decide<K: Sink>(alloc: Global, input: &[u8], sink: &mut K) -> Status
                     Status::Refused,
                 )
             }
-            Ok(Some(triple)) => match triple_evidence(alloc, triple) {
-                Err(_) => Status::Memory,
-                Ok(text) => finish(sink, text.as_slice(), Status::Done),
-            },
+            Ok(Some(text)) => finish(sink, text.as_slice(), Status::Done),
         },
     }
 }

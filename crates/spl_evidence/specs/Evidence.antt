@@ -1,5 +1,5 @@
 -- The evidence text: which evidence fits an algebra, and how it is spelled. Each evidence has one text.
-use Rattle.std.specs.Prelude.{◌≡◌, ◌<◌, ◌≤◌, ◌*◌, ℕ, List, [], ◌∷◌, ◌++◌, length, codes, decimal}
+use Rattle.std.specs.Prelude.{◌≡◌, ◌<◌, ◌≤◌, ℕ, List, ◌++◌, length, codes, decimal}
 use Rattle.std.specs.List.{flat_map, All}
 use Rattle.theory_rings.specs.Ops.{Ops}
 use Rattle.theory_spaces.specs.Tuples.{IsTuple}

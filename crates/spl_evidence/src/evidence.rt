@@ -7,7 +7,11 @@ use spl_matrix::lists::Multipliers;
 #[derive(Drop)]
 pub enum Evidence {
     /// The products (b_i·b_j)·b_k and b_i·(b_j·b_k) differ.
-    Triple { i: usize, j: usize, k: usize },
+    Triple {
+        i: usize,
+        j: usize,
+        k: usize,
+    },
     /// Multipliers by which the equations of an identity give 0 = 1: `left` those of Σ_i e_i·γ_ijk = δ_jk at (j, k), and
     /// `right` those of Σ_i e_i·γ_jik = δ_jk.
     NoIdentity {
@@ -15,7 +19,11 @@ pub enum Evidence {
         right: Multipliers<Fractions>,
     },
     /// A central element that is no multiple of an identity.
-    Central { tuple: Tuple },
+    Central {
+        tuple: Tuple,
+    },
     /// A basis of an ideal that is neither 0 nor everything.
-    Ideal { tuples: Tuples },
+    Ideal {
+        tuples: Tuples,
+    },
 }

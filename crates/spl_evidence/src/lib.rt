@@ -5,4 +5,5 @@
 #![tactic(auto)]
 
 pub mod evidence;
+mod lines;
 pub mod writing;

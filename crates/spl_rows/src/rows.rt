@@ -1,7 +1,8 @@
 // Whole runs of the program over memory and over std's streams.
 use crate::texts::{
-    FAILED_TRIPLE, FAILED_TRIPLE_EVIDENCE, INVERSE_QUATERNIONS, MATRIX_UNITS, NO_DEGREE, NO_FIELD,
-    QUATERNIONS, ZERO_PRODUCT,
+    FAILED_TRIPLE, FAILED_TRIPLE_EVIDENCE, FOUR_COPIES, HIGH_DEGREE, INVERSE_QUATERNIONS,
+    MATRIX_UNITS, NO_DEGREE, NO_FIELD, PATH_ALGEBRA, PATH_ALGEBRA_OVER_3, QUATERNIONS,
+    ZERO_PRODUCT,
 };
 use spl_cli::run::run;
 use spl_cli::words::Words;
@@ -52,7 +53,6 @@ fn decides(rt: HostRuntime) -> Result<(), Fail> {
     let cases = [
         (FAILED_TRIPLE, 0, FAILED_TRIPLE_EVIDENCE),
         (MATRIX_UNITS, 3, "refused 12 NotBuilt\n"),
-        (ZERO_PRODUCT, 3, "refused 4 NotBuilt\n"),
         (NO_FIELD, 3, "refused 2 FieldLaw 2\n"),
         (NO_DEGREE, 3, "refused 3 Header\n"),
         ("", 3, "refused 1 Header\n"),
@@ -63,6 +63,25 @@ fn decides(rt: HostRuntime) -> Result<(), Fail> {
         let (code, written) = ran_well(alloc, &["decide"], input.as_bytes())?;
         assert_eq!(rt; code, status);
         assert_eq!(rt; written.as_slice(), report.as_bytes());
+    }
+    Ok(())
+}
+
+#[test]
+fn shows_why_it_is_not_central_simple(rt: HostRuntime) -> Result<(), Fail> {
+    let alloc = rt.alloc();
+    let cases = [
+        (ZERO_PRODUCT, "spl-evidence 1\nnoidentity\n"),
+        (HIGH_DEGREE, "spl-evidence 1\nnoidentity\n"),
+        (FOUR_COPIES, "spl-evidence 1\ncentral\ntuple "),
+        (PATH_ALGEBRA, "spl-evidence 1\nideal 2\ntuple "),
+        (PATH_ALGEBRA_OVER_3, "spl-evidence 1\nideal 3\ntuple "),
+    ];
+    for (input, front) in cases {
+        let (code, written) = ran_well(alloc, &["decide"], input.as_bytes())?;
+        assert_eq!(rt; code, 0);
+        assert!(rt; written.as_slice().starts_with(front.as_bytes()));
+        assert!(rt; written.as_slice().ends_with(b"\nend\n".as_slice()));
     }
     Ok(())
 }

@@ -1,5 +1,6 @@
-use Rattle.std.proofs.Common.{◌∙◌, Err, refl, ap}
-use Rattle.spl_cli.specs.Report.{refusal_text}
+use Rattle.std.specs.Prelude.{ℕ, List}
+use Rattle.std.proofs.Common.{◌∙◌, Err, refl, sym, ap, subst}
+use Rattle.spl_cli.specs.Report.{refusal_text, ShowsEvidence}
 use Rattle.spl_table.specs.declared.refusal.Kind.TheVariants.{NotBuilt}
 use Rattle.spl_cli.proofs.Answering.{Answers-undecided, Answers-found, Answers-refused}
 use Rattle.spl_cli.proofs.run.decide.Goals as goal
@@ -12,9 +13,9 @@ returns-in-Ok-None g c = λ words form.
 
 pub returns : goal.returns
 returns g c = λ words form.
+    let P : List ℕ → Type 0 = ShowsEvidence c.in-Ok.table in
     Answers-found words _ _ _ _ form c.in-Ok.table c.in-Ok.ensures.ok c.as_slice.result.now
-    c.in-Ok-Some.triple (rw c.in-Ok-Some.field-0-is at c.in-Ok-Some.ensures)
-    (c.as_slice.ensures.value ∙ c.in-Ok-triple_evidence.ensures) c.finish-in-Ok-triple_evidence.ensures
+    (subst P (sym c.as_slice.ensures.value) (rw c.in-Ok-Some.field-0-is at c.in-Ok-Some.ensures)) c.finish-in-Ok-Some.ensures
 
 pub returns-in-Err-Refused : goal.returns-in-Err-Refused
 returns-in-Err-Refused g c = λ words form.

@@ -1,0 +1,47 @@
+-- The algebra of the 2 by 2 matrices by its structure constants, with the basis b_1 = E_11, b_2 = E_12, b_3 = E_21 and
+-- b_4 = E_22, where E_rs is the matrix with one at row r and column s, and else zero.
+use Rattle.std.specs.Prelude.{List, [], ◌∷◌, ◌++◌}
+use Rattle.theory_rings.specs.Ops.{Ops}
+
+module _ {E : Type 0} (o : Ops E) where
+  -- the tuples of 0, b_1, .., b_4, the second with c in place of one
+  abbrev pub row_zero : List E
+  row_zero = o.zero ∷ (o.zero ∷ (o.zero ∷ (o.zero ∷ [])))
+
+  abbrev pub row_11 : List E
+  row_11 = o.one ∷ (o.zero ∷ (o.zero ∷ (o.zero ∷ [])))
+
+  abbrev pub row_12 : E → List E
+  row_12 c = o.zero ∷ (c ∷ (o.zero ∷ (o.zero ∷ [])))
+
+  abbrev pub row_21 : List E
+  row_21 = o.zero ∷ (o.zero ∷ (o.one ∷ (o.zero ∷ [])))
+
+  abbrev pub row_22 : List E
+  row_22 = o.zero ∷ (o.zero ∷ (o.zero ∷ (o.one ∷ [])))
+
+  -- the 64 constants, with c·b_2 for b_1·b_2: the products of b_1 with b_1, b_2, b_3 and b_4, then those of b_2, b_3 and b_4
+  abbrev pub matrix_table_with : E → List E
+  matrix_table_with c =
+      row_11 ++ (row_12 c ++ (row_zero ++ (row_zero
+      ++ (row_zero ++ (row_zero ++ (row_11 ++ (row_12 o.one
+      ++ (row_21 ++ (row_22 ++ (row_zero ++ (row_zero
+      ++ (row_zero ++ (row_zero ++ (row_21 ++ row_22))))))))))))))
+
+  -- those of the 2 by 2 matrices
+  abbrev pub matrix_table : List E
+  matrix_table = matrix_table_with o.one
+
+  -- the tuples of the basis
+  abbrev pub matrix_basis : List (List E)
+  matrix_basis = row_11 ∷ (row_12 o.one ∷ (row_21 ∷ (row_22 ∷ [])))
+
+  -- the matrix with the rows a, b and c, d
+  abbrev pub square : E → E → E → E → List (List E)
+  square a b c d = (a ∷ (b ∷ [])) ∷ ((c ∷ (d ∷ [])) ∷ [])
+
+  -- E_11, E_12, E_21 and E_22
+  abbrev pub unit_maps : List (List (List E))
+  unit_maps =
+      square o.one o.zero o.zero o.zero ∷ (square o.zero o.one o.zero o.zero
+      ∷ (square o.zero o.zero o.one o.zero ∷ (square o.zero o.zero o.zero o.one ∷ [])))
