@@ -25,7 +25,7 @@ use Rattle.spl_field.specs.TableField.{is_field_by_digits}
 use Rattle.spl_field.specs.declared.small.SmallField.{SmallField}
 use Rattle.spl_fraction.specs.Fraction.{Pair}
 use Rattle.spl_fraction.specs.FractionOps.{RationalFunction, rational_function, pair_of, fraction_ops}
-use Rattle.spl_fraction.specs.FractionField.{rational_function-pair_of, rational_function_injective, eq_zero_of_numerator, fraction_laws}
+use Rattle.spl_fraction.specs.FractionField.{rational_function-pair_of, rational_function_injective, eq_zero_of_numerator}
 use Rattle.spl_fraction.specs.FractionsOver.{fractions_over, fractions_laws, small_laws}
 
 -- where a prime p is 0, a number that p does not divide isn't
@@ -78,11 +78,11 @@ module _ {E : Type 0} (o : Ops E) (L : FieldLaws o) where
       eq_zero_of_numerator o L x
       (sym (P.mul-one x.0.0) ∙ times-value p ∙ ap (λ u. P.◌⊗◌ u x.0.1) vanishes ∙ zero-mul P.ring x.0.1)
 
-  pub fraction_characteristic : (p : ℕ) → times F.monoid p F.one ≡ F.zero
-      → times (elements (fraction_ops o L) (fraction_laws o L)).monoid p (elements (fraction_ops o L) (fraction_laws o L)).one ≡ (elements (fraction_ops o L) (fraction_laws o L)).zero
+  pub fraction_characteristic : (Q : FieldLaws (fraction_ops o L)) (p : ℕ) → times F.monoid p F.one ≡ F.zero
+      → times (elements (fraction_ops o L) Q).monoid p (elements (fraction_ops o L) Q).one ≡ (elements (fraction_ops o L) Q).zero
   unfolding fraction_ops
-  fraction_characteristic p h =
-      let Q = elements (fraction_ops o L) (fraction_laws o L) in
+  fraction_characteristic laws p h =
+      let Q = elements (fraction_ops o L) laws in
       let f : Elem (fraction_ops o L) → RationalFunction o L = λ a. rational_function o L a.0 in
       let f-add : (a b : Elem (fraction_ops o L)) → f (Q.◌⊕◌ a b) ≡ K.◌⊕◌ (f a) (f b) =
       λ a b. rational_function-pair_of o L (K.◌⊕◌ (rational_function o L a.0) (rational_function o L b.0)) in
@@ -103,5 +103,5 @@ times_one-nonzero_over f n d z =
     let prime = prime_by_digits p f.least f.modulus.items f.some_number o digits in
     let char = characteristic_by_digits p f.least f.modulus.items f.some_number o digits in
     times_one-nonzero Q p prime
-    (fraction_characteristic o (small_laws f) p (Elem-path o (times F.monoid p F.one) F.zero (sym (times_of-elements o (small_laws f) p F.one) ∙ char)))
+    (fraction_characteristic o (small_laws f) (fractions_laws f) p (Elem-path o (times F.monoid p F.one) F.zero (sym (times_of-elements o (small_laws f) p F.one) ∙ char)))
     n d (Elem-path (fractions_over f) (times Q.monoid n Q.one) Q.zero (sym (times_of-elements (fractions_over f) (fractions_laws f) n Q.one) ∙ z))

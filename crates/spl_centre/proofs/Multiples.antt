@@ -1,5 +1,5 @@
 -- The multiples of the identity among the central elements.
-use Rattle.std.specs.Prelude.{◌≡◌, ◌≢◌, ◌↔◌, ℕ, zero, suc, ◌*◌, ◌<◌, ◌≤◌, List, [], ◌∷◌, length, get_or, cond, nat_eq, All}
+use Rattle.std.specs.Prelude.{◌≡◌, ◌≢◌, ◌↔◌, ℕ, zero, suc, ◌+◌, ◌*◌, ◌<◌, ◌≤◌, List, [], ◌∷◌, length, get_or, cond, nat_eq, All}
 use Rattle.std.proofs.Common.{refl, sym, ◌∙◌, ap, ap₂, subst, arith, ⊎_elim}
 use Rattle.std.proofs.lemmas.Bool.{cases_lt}
 use Rattle.std.proofs.lemmas.List.Elements.{All-nil}
@@ -34,32 +34,33 @@ module _ {E : Type 0} (o : Ops E) (L : FieldLaws o) (m : ℕ) where
       ∙ L.zero-add (o.mul (at o s.0 0) (entry o rows 0 j))
       (L.mul-elem (at o s.0 0) (entry o rows 0 j) (at-elem o L s.0 s.1.of_elements 0) (entry-elem o L m rows shape 0 j))
 
-  multiple-at : (a v : List E) (q : IsMultiple o m a v) (j : ℕ) → j < m → at o v j ≡ o.mul q.factor (at o a j)
+module _ {E : Type 0} (o : Ops E) (L : FieldLaws o) (m : ℕ) (cs : List E) where
+  multiple-at : (a v : List E) (q : IsMultiple o m cs a v) (j : ℕ) → j < m → at o v j ≡ o.mul q.factor (at o a j)
   multiple-at a v q j j_in = ap (λ xs. at o xs j) q.is_multiple ∙ at-table o m (λ k. o.mul q.factor (at o a k)) j j_in
 
   -- the span of one row is its multiples
-  pub span_of_one : (a : List E) → IsTuple o m a → (v : List E) → IsTuple o m v → (InSpan o m (a ∷ []) v ↔ IsMultiple o m a v)
+  pub span_of_one : (a : List E) → IsTuple o m a → (v : List E) → IsTuple o m v → (InSpan o m (a ∷ []) v ↔ IsMultiple o m cs a v)
   span_of_one a ha v hv = (to, from)
     where
       shape : IsMatrix o m (a ∷ [])
       shape = All_step (IsTuple o m) [] (a ∷ []) a (All-nil (IsTuple o m)) ha refl
 
-      to : InSpan o m (a ∷ []) v → IsMultiple o m a v
+      to : InSpan o m (a ∷ []) v → IsMultiple o m cs a v
       to s = record {
         factor = at o s.0 0;
         of_field = at-elem o L s.0 s.1.of_elements 0;
-        is_multiple = IsTuple-ext o m v (tuple_scale o m (at o s.0 0) a) hv (IsTuple-scale (at o s.0 0) a (at-elem o L s.0 s.1.of_elements 0) ha) (λ j j_in.
-            one_row (a ∷ []) v s shape refl j j_in ∙ sym (at-table o m (λ k. o.mul (at o s.0 0) (at o a k)) j j_in));
+        is_multiple = IsTuple-ext o m v (tuple_scale o m (at o s.0 0) a) hv (IsTuple-scale o L m (at o s.0 0) a (at-elem o L s.0 s.1.of_elements 0) ha) (λ j j_in.
+            one_row o L m (a ∷ []) v s shape refl j j_in ∙ sym (at-table o m (λ k. o.mul (at o s.0 0) (at o a k)) j j_in));
       }
 
-      from : IsMultiple o m a v → InSpan o m (a ∷ []) v
+      from : IsMultiple o m cs a v → InSpan o m (a ∷ []) v
       from q = InSpan-by o L m (a ∷ []) v (λ _. q.factor) (λ _. q.of_field) (λ j j_in.
           multiple-at a v q j j_in
           ∙ sym (L.zero-add (o.mul q.factor (at o a j)) (L.mul-elem q.factor (at o a j) q.of_field (at-elem o L a ha.of_elements j))))
 
   -- of two rows of a reduced basis one is no multiple of a
   pub not_both_multiples : (a : List E) (rows : List (List E)) → IsTuple o m a → IsReducedBasis o m rows → 2 ≤ length rows
-      → IsMultiple o m a (get_or rows 0 []) → IsMultiple o m a (get_or rows 1 []) → ⊥
+      → IsMultiple o m cs a (get_or rows 0 []) → IsMultiple o m cs a (get_or rows 1 []) → ⊥
   not_both_multiples a rows ha x two p q =
       let r = x.reduced in
       let each = x.each in
@@ -112,7 +113,7 @@ module _ {E : Type 0} (o : Ops E) (L : FieldLaws o) (m : ℕ) (cs : List E) (con
       ∙ product-one o L m cs constants one is_one b hb
 
   -- a central element that is no multiple of the identity
-  pub central_claim : (a : List E) → IsCentral o m cs a → (IsMultiple o m one a → ⊥) → CentralClaim o m cs a
+  pub central_claim : (a : List E) → IsCentral o m cs a → (IsMultiple o m cs one a → ⊥) → CentralClaim o m cs a
   central_claim a h d = record {
     central = h;
     no_multiple = λ c hc e. d (record {
@@ -150,24 +151,21 @@ module _ {E : Type 0} (o : Ops E) (L : FieldLaws o) (m : ℕ) (cs : List E) (con
       expansion : InSpan o m rows one
       expansion = (spans one is_one.tuple).1 one_central
 
-      abbrev d : E
-      d = at o expansion.0 0
-
-      d_in : IsElem o d
+      d_in : IsElem o (at o expansion.0 0)
       d_in = at-elem o L expansion.0 expansion.1.of_elements 0
 
       r_in : (j : ℕ) → IsElem o (entry o rows 0 j)
       r_in j = entry-elem o L m rows x.shape 0 j
 
-      nonzero : length rows ≡ 1 → d ≢ o.zero
+      nonzero : length rows ≡ 1 → (at o expansion.0 0) ≢ o.zero
       nonzero single z = one_nonzero some (λ j j_in.
           one_row o L m rows one expansion x.shape single j j_in ∙ ap (λ t. o.mul t (entry o rows 0 j)) z ∙ zero-mul o L (entry o rows 0 j) (r_in j))
 
-      cancel : (c r : E) → IsElem o c → IsElem o r → d ≢ o.zero → o.mul (o.mul c (o.inv d)) (o.mul d r) ≡ o.mul c r
+      cancel : (c r : E) → IsElem o c → IsElem o r → (at o expansion.0 0) ≢ o.zero → o.mul (o.mul c (o.inv (at o expansion.0 0))) (o.mul (at o expansion.0 0) r) ≡ o.mul c r
       cancel c r c_in r_in n =
-          let i_in = L.inv-elem d d_in in
-          L.mul_assoc c (o.inv d) (o.mul d r) c_in i_in (L.mul-elem d r d_in r_in)
-          ∙ ap (o.mul c) (sym (L.mul_assoc (o.inv d) d r i_in d_in r_in) ∙ ap (λ t. o.mul t r) (L.inv-mul d d_in n) ∙ L.one-mul r r_in)
+          let i_in = L.inv-elem (at o expansion.0 0) d_in in
+          L.mul_assoc c (o.inv (at o expansion.0 0)) (o.mul (at o expansion.0 0) r) c_in i_in (L.mul-elem (at o expansion.0 0) r d_in r_in)
+          ∙ ap (o.mul c) (sym (L.mul_assoc (o.inv (at o expansion.0 0)) (at o expansion.0 0) r i_in d_in r_in) ∙ ap (λ t. o.mul t r) (L.inv-mul (at o expansion.0 0) d_in n) ∙ L.one-mul r r_in)
 
       of_one_row : length rows ≡ 1 → HasSmallCentre o m cs
       of_one_row single = record {
@@ -177,14 +175,32 @@ module _ {E : Type 0} (o : Ops E) (L : FieldLaws o) (m : ℕ) (cs : List E) (con
             let s = (spans a h.tuple).1 h in
             let c = at o s.0 0 in
             let c_in = at-elem o L s.0 s.1.of_elements 0 in
-            let f_in = L.mul-elem c (o.inv d) c_in (L.inv-elem d d_in) in
+            let f_in = L.mul-elem c (o.inv (at o expansion.0 0)) c_in (L.inv-elem (at o expansion.0 0) d_in) in
             record {
-              factor = o.mul c (o.inv d);
+              factor = o.mul c (o.inv (at o expansion.0 0));
               of_field = f_in;
-              is_multiple = IsTuple-ext o m a (tuple_scale o m (o.mul c (o.inv d)) one) h.tuple (IsTuple-scale o L m (o.mul c (o.inv d)) one f_in is_one.tuple) (λ j j_in.
+              is_multiple = IsTuple-ext o m a (tuple_scale o m (o.mul c (o.inv (at o expansion.0 0))) one) h.tuple (IsTuple-scale o L m (o.mul c (o.inv (at o expansion.0 0))) one f_in is_one.tuple) (λ j j_in.
                   one_row o L m rows a s x.shape single j j_in
-                  ∙ sym (at-table o m (λ k. o.mul (o.mul c (o.inv d)) (at o one k)) j j_in
-                  ∙ ap (o.mul (o.mul c (o.inv d))) (one_row o L m rows one expansion x.shape single j j_in)
+                  ∙ sym (at-table o m (λ k. o.mul (o.mul c (o.inv (at o expansion.0 0))) (at o one k)) j j_in
+                  ∙ ap (o.mul (o.mul c (o.inv (at o expansion.0 0)))) (one_row o L m rows one expansion x.shape single j j_in)
                   ∙ cancel c (entry o rows 0 j) c_in (r_in j) (nonzero single)));
             };
       }
+
+  -- of the first two rows of a basis of the centre, one is no multiple of the identity
+  module _ (centre multiples : List (List E)) (x : IsReducedBasis o m centre) (large : 2 ≤ length centre)
+      (spans : (v : List E) → IsTuple o m v → (InSpan o m centre v ↔ IsCentral o m cs v))
+      (are_multiples : (v : List E) → IsTuple o m v → (InSpan o m multiples v ↔ IsMultiple o m cs one v)) where
+    row_central : (r : ℕ) → r < length centre → IsCentral o m cs (get_or centre r [])
+    row_central r r_in = (spans (get_or centre r []) (x.shape r [] r_in)).0 (InSpan-member o L m centre x.shape r r_in)
+
+    pub first_row_claim : (InSpan o m multiples (get_or centre 0 []) → ⊥) → CentralClaim o m cs (get_or centre 0 [])
+    first_row_claim d =
+        let low : 0 < length centre = omega arith in
+        central_claim (get_or centre 0 []) (row_central 0 low) (λ q. d ((are_multiples (get_or centre 0 []) (x.shape 0 [] low)).1 q))
+
+    pub second_row_claim : InSpan o m multiples (get_or centre 0 []) → CentralClaim o m cs (get_or centre 1 [])
+    second_row_claim s =
+        let low : 0 < length centre = omega arith in
+        central_claim (get_or centre 1 []) (row_central 1 large) (λ q.
+        not_both_multiples o L m cs one centre is_one.tuple x large ((are_multiples (get_or centre 0 []) (x.shape 0 [] low)).0 s) q)

@@ -19,6 +19,18 @@ use Rattle.spl_claims.specs.Traces.{trace, trace_form, InTraceRadical, IsNondege
 use Rattle.spl_claims.specs.Claims.{IdealClaim}
 use Rattle.spl_claims.proofs.TraceRadical.{trace_radical}
 
+module _ {E : Type 0} (o : Ops E) (m : ℕ) (cs : List E) where
+  abbrev form_row : ℕ → List E
+  form_row i = table m (λ j. trace o m cs (product o m cs (basis o m i) (basis o m j)))
+
+  pub form_height : (form : List (List E)) → form ≡ trace_form o m cs → length form ≡ m
+  form_height form e = ap (λ (g : List (List E)). length g) e ∙ length-table m form_row
+
+  pub form_width : (form : List (List E)) → form ≡ trace_form o m cs → 1 ≤ m → width_of form ≡ m
+  form_width form e some =
+      ap (λ (g : List (List E)). length (get_or g 0 [])) e ∙ ap (λ (row : List E). length row) (get_or-table m form_row 0 [] some)
+      ∙ length-table m (λ j. trace o m cs (product o m cs (basis o m 0) (basis o m j)))
+
 module _ {E : Type 0} (o : Ops E) (L : FieldLaws o) (m : ℕ) (cs : List E) (over : IsTuple o (m * m * m) cs) (assoc : AssociativeTable o m cs) (identity : HasIdentity o m cs) where
   -- the combinations of the rows are the elements of the radical
   abbrev SpansRadical : List (List E) → Type 0
@@ -26,9 +38,8 @@ module _ {E : Type 0} (o : Ops E) (L : FieldLaws o) (m : ℕ) (cs : List E) (ove
 
   pub kernel_is_radical : (form rows : List (List E)) → form ≡ trace_form o m cs → 1 ≤ m → SpansKernel o (length form) (width_of form) form rows → SpansRadical rows
   kernel_is_radical form rows e some k v hv =
-      let f = λ (i : ℕ). table m (λ j. trace o m cs (product o m cs (basis o m i) (basis o m j))) in
-      let height : length form ≡ m = ap length e ∙ length-table m f in
-      let width : width_of form ≡ m = ap (λ g. width_of g) e ∙ ap length (get_or-table m f 0 [] some) ∙ length-table m (λ j. trace o m cs (product o m cs (basis o m 0) (basis o m j))) in
+      let height = form_height o m cs form e in
+      let width = form_width o m cs form e some in
       let square = subst (λ w. SpansKernel o m w form rows) width (subst (λ h. SpansKernel o h (width_of form) form rows) height k) in
       let by_form = subst (λ g. SpansKernel o m m g rows) e square in
       let r = (trace_radical o L m cs over assoc identity).kernel v hv in

@@ -37,11 +37,7 @@ pub fn identity_or_refutation(
 
 /// A central element that is no multiple of the identity; None exactly where the centre is the multiples of the
 /// identity. The one fault is want of memory.
-pub fn centre_fault(
-    alloc: Global,
-    f: &Fractions,
-    a: &KAlgebra,
-) -> Result<Option<Tuple>, NoMemory>
+pub fn centre_fault(alloc: Global, f: &Fractions, a: &KAlgebra) -> Result<Option<Tuple>, NoMemory>
     requires over { IsOver (fractions_over (field_of f.now)) a.now }
     requires associative { IsAssociative (fractions_over (field_of f.now)) a.now }
     requires identity { HasIdentity (fractions_over (field_of f.now)) a.now.dim a.now.constants }
@@ -66,11 +62,7 @@ fn copies(alloc: Global, f: &Fractions, rows: &[Tuple]) -> Result<Tuples, NoMemo
 
 /// A basis of the radical of the trace form, the set of all a with tr(a·b) = 0 for each b; None exactly where it is 0. The
 /// characteristic doesn't divide the dimension, so that the trace of the identity isn't 0. The one fault is want of memory.
-pub fn trace_ideal(
-    alloc: Global,
-    f: &Fractions,
-    a: &KAlgebra,
-) -> Result<Option<Tuples>, NoMemory>
+pub fn trace_ideal(alloc: Global, f: &Fractions, a: &KAlgebra) -> Result<Option<Tuples>, NoMemory>
     requires over { IsOver (fractions_over (field_of f.now)) a.now }
     requires associative { IsAssociative (fractions_over (field_of f.now)) a.now }
     requires identity { HasIdentity (fractions_over (field_of f.now)) a.now.dim a.now.constants }

@@ -1,8 +1,8 @@
 // The identity of an algebra that has one, its multiples, and the first central element that is none of them.
 ghost use Rattle.std.specs.Prelude.{◌≡◌, ◌≢◌, ◌↔◌, ◌<◌, ◌≤◌, ℕ, List, length, IfOk, MatchOption};
-ghost use Rattle.theory_spaces.specs.Tuples.{IsTuple, IsTableOne};
+ghost use Rattle.theory_spaces.specs.Tuples.{IsTableOne};
 ghost use Rattle.spl_matrix.specs.Subspace.{InSpan, IsSubspace};
-ghost use Rattle.spl_algebra.specs.Algebra.{IsOver, IsAssociative};
+ghost use Rattle.spl_algebra.specs.Algebra.{IsOver, IsAssociative, IsElement};
 ghost use Rattle.spl_algebra.specs.Subspaces.{SpansCentre};
 ghost use Rattle.spl_claims.specs.Algebras.{HasIdentity, HasSmallCentre, IsMultiple};
 ghost use Rattle.spl_claims.specs.Claims.{CentralClaim};
@@ -27,22 +27,23 @@ fn identity_of<F: Field>(alloc: Global, f: &F, a: &Algebra<F>) -> Result<Vector<
     }
 }
 
-/// The multiples of a tuple of m elements.
+/// The multiples of an element.
 fn multiples_of<F: Field>(
     alloc: Global,
     f: &F,
-    m: usize,
-    tuple: Vector<F>,
+    a: &Algebra<F>,
+    element: Vector<F>,
 ) -> Result<Subspace<F>, NoMemory>
-    requires { IsTuple (F.ops f.now) m tuple }
+    requires { IsElement (F.ops f.now) a.now element }
     ensures basis { IfOk result (IsSubspace (F.ops f.now)) }
-    ensures width { IfOk result (λ s. s.width ≡ m) }
-    ensures members { IfOk result (λ s. (v : List F.Elem) → IsTuple (F.ops f.now) m v
-        → (InSpan (F.ops f.now) m s.rows v ↔ IsMultiple (F.ops f.now) m tuple v)) }
+    ensures width { IfOk result (λ s. s.width ≡ a.now.dim) }
+    ensures members { IfOk result (λ s. (v : List F.Elem) → IsElement (F.ops f.now) a.now v
+        → (InSpan (F.ops f.now) a.now.dim s.rows v ↔ IsMultiple (F.ops f.now) a.now.dim a.now.constants element v)) }
 {
     let mut rows = Matrix::new(alloc);
-    rows.push(tuple)?;
-    Subspace::span(alloc, f, m, &rows)
+    rows.push(element)?;
+    let multiples = Subspace::span(alloc, f, a.dim(), &rows)?;
+    Ok(multiples)
 }
 
 /// The first of two or more rows of the basis of the centre that is no multiple of the identity. One of the first two is
@@ -63,7 +64,7 @@ fn outside<F: Field>(
     ensures { IfOk result (CentralClaim (F.ops f.now) a.now.dim a.now.constants) }
 {
     let one = identity_of(alloc, f, a)?;
-    let multiples = multiples_of(alloc, f, a.dim(), one)?;
+    let multiples = multiples_of(alloc, f, a, one)?;
     let rows = centre.rows().as_slice();
     if multiples.contains(alloc, f, rows[0].as_slice())? {
         rows[1].copy(alloc, f)
@@ -86,6 +87,7 @@ pub(crate) fn fault_of<F: Field>(
         (HasSmallCentre (F.ops f.now) a.now.dim a.now.constants)
         (CentralClaim (F.ops f.now) a.now.dim a.now.constants)) }
 {
+    let _ = a.dim();
     let centre = a.centre(alloc, f)?;
     if centre.dim() < 2 {
         return Ok(None);

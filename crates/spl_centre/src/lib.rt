@@ -7,5 +7,3 @@
 pub mod centre;
 mod identity;
 mod radical;
-#[cfg(test)]
-mod tests;

@@ -27,5 +27,6 @@ pub(crate) fn radical_of<F: Field>(
 {
     let _ = a.dim();
     let form = a.trace_form(alloc, f)?;
-    form.kernel(alloc, f)
+    let radical = form.kernel(alloc, f)?;
+    Ok(radical)
 }
