@@ -1,12 +1,14 @@
 -- The steps of the loops that add rows to a list of sums.
-use Rattle.std.specs.Prelude.{◌≡◌, ℕ, ◌+◌, ◌-◌, ◌*◌, ◌<◌, ◌≤◌, List, length, take, drop, All}
-use Rattle.std.proofs.Common.{refl, sym, ◌∙◌, ap, ap₂, arith, below_more, get_or-set_same, get_or-set_other}
+use Rattle.std.specs.Prelude.{◌≡◌, ℕ, ◌+◌, ◌-◌, ◌*◌, ◌<◌, ◌≤◌, List, [], ◌∷◌, ◌++◌, length, take, drop, All}
+use Rattle.std.proofs.Common.{refl, sym, ◌∙◌, ap, ap₂, arith, length-append, below_more, get_or-set_same, get_or-set_other}
 use Rattle.std.proofs.lemmas.List.{length-set, ext_get_or, get_or-take, get_or-drop}
 use Rattle.std.proofs.lemmas.List.Elements.{All-set}
 use Rattle.std.proofs.Math.ListN.{set}
 use Rattle.theory_rings.specs.Ops.{Ops, IsElem, FieldLaws}
 use Rattle.theory_rings.specs.Sum.{at, table}
 use Rattle.theory_rings.proofs.Sums.Lists.{length-table, get_or-table}
+use Rattle.theory_spaces.specs.Tuples.{IsTuple}
+use Rattle.spl_matrix.proofs.Sums.{All_step}
 use Rattle.spl_algebra.specs.Products.{AddsEach, scaled_rows}
 use Rattle.spl_algebra.proofs.Terms.{add-zero, mul-zero, zero-mul, sum_of-next}
 use Rattle.theory_rings.proofs.Rings.Elements.{at-elem, sum_of-elem}
@@ -20,6 +22,13 @@ table-at o n xs f long h =
 -- the items of a part of a list
 pub at-part : {E : Type 0} (o : Ops E) (xs : List E) (start m k : ℕ) → k < m → at o (take (start + m - start) (drop start xs)) k ≡ at o xs (start + k)
 at-part o xs start m k l = get_or-take (start + m - start) (drop start xs) k o.zero (omega arith) ∙ get_or-drop start xs k o.zero
+
+-- a tuple with one more item
+pub IsTuple-push : {E : Type 0} (o : Ops E) (n : ℕ) (before after : List E) (item : E) → IsTuple o n before → IsElem o item → after ≡ before ++ item ∷ [] → IsTuple o (n + 1) after
+IsTuple-push o n before after item t h e = record {
+  right_length = omega (arith, ap length e, length-append before (item ∷ []), t.right_length);
+  of_elements = All_step (IsElem o) before after item t.of_elements h e;
+}
 
 module _ {E : Type 0} (o : Ops E) where
   -- as AddsEach at the places below k, and the other items are as they were

@@ -3,3 +3,5 @@ pub mod Products
 pub mod Identity
 pub mod IdentitySystem
 pub mod Subspaces
+pub mod Contractions
+pub mod Multiples

@@ -1,5 +1,5 @@
 -- The centre of an algebra as a subspace, and the ideal that a subspace generates.
-use Rattle.std.specs.Prelude.{◌≡◌, ◌↔◌, ◌<◌, ℕ, List}
+use Rattle.std.specs.Prelude.{◌↔◌, List}
 use Rattle.theory_rings.specs.Ops.{Ops}
 use Rattle.theory_spaces.specs.Tuples.{IsTuple}
 use Rattle.spl_matrix.specs.Subspace.{InSpan}

@@ -14,6 +14,8 @@ use boxed::Boxed;
 use spl_field::field::{Field, NoMemory};
 use spl_field::small::SmallField;
 use spl_field::vector::Vector;
+use spl_matrix::matrix::Matrix;
+use spl_matrix::subspace::Subspace;
 use std::alloc::Global;
 use std::test::Fail;
 
@@ -210,6 +212,82 @@ fn associativity(rt: HostRuntime) -> Result<(), Fail> {
             want,
             "over {p}"
         );
+    }
+    Ok(())
+}
+
+/// Whether the trace of the multiplication by the first basis element is 2.
+fn has_trace<F: Field>(alloc: Global, f: &F) -> Result<bool, NoMemory> {
+    let algebra = algebra(alloc, f, 1)?;
+    let first = algebra.basis_element(alloc, f, 0)?;
+    let trace = algebra.left_matrix(alloc, f, &first)?.trace(alloc, f)?;
+    Ok(f.eq(&trace, &number(alloc, f, 2)?))
+}
+
+/// Whether row i of the trace form is this.
+fn has_form<F: Field>(alloc: Global, f: &F, i: usize, want: [u8; 4]) -> Result<bool, NoMemory> {
+    let form = algebra(alloc, f, 1)?.trace_form(alloc, f)?;
+    let want = vector(alloc, f, want.as_slice())?;
+    match form.at(i) {
+        Some(row) => Ok(same(f, row.as_slice(), want.as_slice())),
+        None => Ok(false),
+    }
+}
+
+#[test]
+fn traces(rt: HostRuntime) -> Result<(), Fail> {
+    let alloc = rt.alloc();
+    let field = SmallField::new(alloc, 5, &[0])?;
+    let boxed = Boxed {
+        field: field.duplicate(alloc)?,
+    };
+    assert!(rt; has_trace(alloc, &field)?);
+    assert!(rt; has_trace(alloc, &boxed)?);
+    for (i, row) in [
+        (0, [2, 0, 0, 0]),
+        (1, [0, 0, 2, 0]),
+        (2, [0, 2, 0, 0]),
+        (3, [0, 0, 0, 2]),
+    ] {
+        assert!(rt; has_form(alloc, &field, i, row)?, "row {i}");
+        assert!(rt; has_form(alloc, &boxed, i, row)?, "row {i}");
+    }
+    Ok(())
+}
+
+/// The dimension of the centre.
+fn centre_dim<F: Field>(alloc: Global, f: &F) -> Result<usize, NoMemory> {
+    let centre = algebra(alloc, f, 1)?.centre(alloc, f)?;
+    Ok(centre.dim())
+}
+
+/// The dimension of the ideal that this element generates.
+fn ideal_dim<F: Field>(alloc: Global, f: &F, a: [u8; 4]) -> Result<usize, NoMemory> {
+    let mut rows = Matrix::new(alloc);
+    rows.push(vector(alloc, f, a.as_slice())?)?;
+    let by = Subspace::span(alloc, f, 4, &rows)?;
+    let ideal = algebra(alloc, f, 1)?.ideal_generated(alloc, f, &by)?;
+    Ok(ideal.dim())
+}
+
+#[test]
+fn centre_and_ideals(rt: HostRuntime) -> Result<(), Fail> {
+    let alloc = rt.alloc();
+    let field = SmallField::new(alloc, 5, &[0])?;
+    let boxed = Boxed {
+        field: field.duplicate(alloc)?,
+    };
+    assert_eq!(rt; centre_dim(alloc, &field)?, 1);
+    assert_eq!(rt; centre_dim(alloc, &boxed)?, 1);
+    for (a, want) in [
+        ([0, 0, 0, 0], 0),
+        ([1, 0, 0, 0], 4),
+        ([0, 3, 0, 0], 4),
+        ([1, 2, 3, 4], 4),
+        ([1, 1, 4, 4], 4),
+    ] {
+        assert_eq!(rt; ideal_dim(alloc, &field, a)?, want, "{a:?}");
+        assert_eq!(rt; ideal_dim(alloc, &boxed, a)?, want, "{a:?}");
     }
     Ok(())
 }

@@ -1,14 +1,159 @@
 // Left multiplication and the trace form.
-ghost use Rattle.std.specs.Prelude.{◌≡◌, IfOk, length};
+ghost use Rattle.std.specs.Prelude.{◌≡◌, ◌+◌, ◌*◌, ◌^◌, ◌<◌, ℕ, IfOk, length, All};
+ghost use Rattle.theory_rings.specs.Ops.{IsElem};
+ghost use Rattle.theory_rings.specs.Sum.{table};
+ghost use Rattle.theory_spaces.specs.Tuples.{IsTuple};
 ghost use Rattle.spl_matrix.specs.Matrix.{IsMatrix};
 ghost use Rattle.spl_claims.specs.Traces.{left_matrix, trace_form};
 ghost use Rattle.spl_algebra.specs.Algebra.{IsOver, IsElement};
+ghost use Rattle.spl_algebra.specs.Contractions.{contracted, contracted_row, contraction, basis_trace};
 
 use crate::algebra::Algebra;
 use spl_field::field::{Field, NoMemory};
 use spl_field::vector::Vector;
 use spl_matrix::matrix::Matrix;
-use std::alloc::{AllocError, Global};
+use std::alloc::Global;
+
+/// sum + a·b; a factor 0 costs no product.
+fn add_product<F: Field>(
+    alloc: Global,
+    f: &F,
+    zero: &F::Elem,
+    sum: F::Elem,
+    a: &F::Elem,
+    b: &F::Elem,
+) -> Result<F::Elem, NoMemory>
+    requires zero { zero.now ≡ (F.ops f.now).zero }
+    requires sum { IsElem (F.ops f.now) sum }
+    requires left { IsElem (F.ops f.now) a.now }
+    requires right { IsElem (F.ops f.now) b.now }
+    ensures elem { IfOk result (IsElem (F.ops f.now)) }
+    ensures value { IfOk result (λ r. r ≡ (F.ops f.now).add sum ((F.ops f.now).mul a.now b.now)) }
+{
+    if f.eq(a, zero) {
+        return Ok(sum);
+    }
+    if f.eq(b, zero) {
+        return Ok(sum);
+    }
+    let term = f.mul(alloc, a, b)?;
+    f.add(alloc, &sum, &term)
+}
+
+/// The sum over l of a_l times the constant at the place start + l·stride.
+fn contracted_item<F: Field>(
+    alloc: Global,
+    f: &F,
+    zero: &F::Elem,
+    a: &[F::Elem],
+    constants: &[F::Elem],
+    start: usize,
+    stride: usize,
+) -> Result<F::Elem, NoMemory>
+    requires zero { zero.now ≡ (F.ops f.now).zero }
+    requires coordinates { All (IsElem (F.ops f.now)) a.now }
+    requires constants { All (IsElem (F.ops f.now)) constants.now }
+    requires within { (l : ℕ) → l < length a.now → start + l * stride < length constants.now }
+    ensures elem { IfOk result (IsElem (F.ops f.now)) }
+    ensures value { IfOk result (λ r. r ≡ contracted (F.ops f.now) (length a.now) a.now constants.now start stride) }
+{
+    let mut sum = f.zero(alloc)?;
+    for l in 0..a.len() {
+        sum = add_product(alloc, f, zero, sum, &a[l], &constants[start + l * stride])?;
+    }
+    Ok(sum)
+}
+
+/// The row of these sums that begin `along` places after one another, as many as a has items.
+fn contracted_row_of<F: Field>(
+    alloc: Global,
+    f: &F,
+    zero: &F::Elem,
+    a: &[F::Elem],
+    constants: &[F::Elem],
+    start: usize,
+    along: usize,
+    stride: usize,
+) -> Result<Vector<F>, NoMemory>
+    requires zero { zero.now ≡ (F.ops f.now).zero }
+    requires coordinates { All (IsElem (F.ops f.now)) a.now }
+    requires constants { All (IsElem (F.ops f.now)) constants.now }
+    requires within { (j l : ℕ) → j < length a.now → l < length a.now → start + j * along + l * stride < length constants.now }
+    ensures elem { IfOk result (IsTuple (F.ops f.now) (length a.now)) }
+    ensures value { IfOk result (λ r. r ≡ contracted_row (F.ops f.now) (length a.now) a.now constants.now start along stride) }
+{
+    let mut row = Vector::new(alloc);
+    for j in 0..a.len() {
+        row.push(contracted_item(alloc, f, zero, a, constants, start + j * along, stride)?)?;
+    }
+    Ok(row)
+}
+
+/// The matrix of as many rows of these sums, which begin `down` places after one another.
+fn contraction_of<F: Field>(
+    alloc: Global,
+    f: &F,
+    a: &[F::Elem],
+    constants: &[F::Elem],
+    down: usize,
+    along: usize,
+    stride: usize,
+) -> Result<Matrix<F>, NoMemory>
+    requires coordinates { All (IsElem (F.ops f.now)) a.now }
+    requires constants { All (IsElem (F.ops f.now)) constants.now }
+    requires within { (r j l : ℕ) → r < length a.now → j < length a.now → l < length a.now →
+        r * down + j * along + l * stride < length constants.now }
+    ensures shape { IfOk result (IsMatrix (F.ops f.now) (length a.now)) }
+    ensures value { IfOk result (λ r. r ≡ contraction (F.ops f.now) (length a.now) a.now constants.now down along stride) }
+{
+    let zero = f.zero(alloc)?;
+    let mut rows = Matrix::new(alloc);
+    for r in 0..a.len() {
+        let row = contracted_row_of(alloc, f, &zero, a, constants, r * down, along, stride)?;
+        rows.push(row)?;
+    }
+    Ok(rows)
+}
+
+/// The trace of the multiplication by the basis element i from the left.
+fn basis_trace_of<F: Field>(
+    alloc: Global,
+    f: &F,
+    m: usize,
+    constants: &[F::Elem],
+    i: usize,
+) -> Result<F::Elem, NoMemory>
+    requires over { IsTuple (F.ops f.now) (m * m * m) constants.now }
+    requires fits { m * m * m < 2 ^ 64 }
+    requires index { i < m }
+    ensures elem { IfOk result (IsElem (F.ops f.now)) }
+    ensures value { IfOk result (λ r. r ≡ basis_trace (F.ops f.now) m constants.now i) }
+{
+    let mut sum = f.zero(alloc)?;
+    for j in 0..m {
+        sum = f.add(alloc, &sum, &constants[(i * m + j) * m + j])?;
+    }
+    Ok(sum)
+}
+
+/// The traces of all basis elements.
+fn basis_traces_of<F: Field>(
+    alloc: Global,
+    f: &F,
+    m: usize,
+    constants: &[F::Elem],
+) -> Result<Vector<F>, NoMemory>
+    requires over { IsTuple (F.ops f.now) (m * m * m) constants.now }
+    requires fits { m * m * m < 2 ^ 64 }
+    ensures elem { IfOk result (IsTuple (F.ops f.now) m) }
+    ensures value { IfOk result (λ r. r ≡ table m (basis_trace (F.ops f.now) m constants.now)) }
+{
+    let mut traces = Vector::new(alloc);
+    for i in 0..m {
+        traces.push(basis_trace_of(alloc, f, m, constants, i)?)?;
+    }
+    Ok(traces)
+}
 
 impl<F: Field> Algebra<F> {
     /// The matrix of the multiplication by a from the left, m by m: column j has the coordinates of a·b_j.
@@ -18,10 +163,9 @@ impl<F: Field> Algebra<F> {
         ensures shape { IfOk result (IsMatrix (F.ops f.now) self.now.dim) }
         ensures value { IfOk result (λ r. r ≡ left_matrix (F.ops f.now) self.now.dim self.now.constants a.now) }
     {
-        let _ = alloc;
-        let _ = f;
-        let _ = a;
-        Err(NoMemory::from(AllocError))
+        let m = self.dim();
+        let constants = self.constants();
+        contraction_of(alloc, f, a.as_slice(), constants, 1, m, m * m)
     }
 
     /// The matrix of the trace form, m by m: tr(b_i·b_j) stands in row i and column j, where tr(a) is the trace of the
@@ -31,8 +175,9 @@ impl<F: Field> Algebra<F> {
         ensures shape { IfOk result (IsMatrix (F.ops f.now) self.now.dim) }
         ensures value { IfOk result (λ r. r ≡ trace_form (F.ops f.now) self.now.dim self.now.constants) }
     {
-        let _ = alloc;
-        let _ = f;
-        Err(NoMemory::from(AllocError))
+        let m = self.dim();
+        let constants = self.constants();
+        let traces = basis_traces_of(alloc, f, m, constants)?;
+        contraction_of(alloc, f, traces.as_slice(), constants, m * m, m, 1)
     }
 }
