@@ -5,3 +5,7 @@ pub mod CentralSimple
 pub mod Splittings
 pub mod SplitCentralSimple
 pub mod Examples
+pub mod TableSets
+pub mod TableOrders
+pub mod RamifiedTables
+pub mod RamifiedExample

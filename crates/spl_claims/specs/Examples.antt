@@ -1,8 +1,10 @@
--- The algebra of the 2 by 2 matrices by its structure constants, with the basis b_1 = E_11, b_2 = E_12, b_3 = E_21 and
--- b_4 = E_22, where E_rs is the matrix with one at row r and column s, and else zero.
+-- Examples of algebras by their structure constants: that of the 2 by 2 matrices, which is split, and a field with a square
+-- root of p, which is ramified at p.
 use Rattle.std.specs.Prelude.{List, [], ◌∷◌, ◌++◌}
 use Rattle.theory_rings.specs.Ops.{Ops}
 
+-- the 2 by 2 matrices with the basis b_1 = E_11, b_2 = E_12, b_3 = E_21 and b_4 = E_22, where E_rs has one at row r and
+-- column s, and else zero
 module _ {E : Type 0} (o : Ops E) where
   -- the tuples of 0, b_1, .., b_4, the second with c in place of one
   abbrev pub row_zero : List E
@@ -45,3 +47,18 @@ module _ {E : Type 0} (o : Ops E) where
   unit_maps =
       square o.one o.zero o.zero o.zero ∷ (square o.zero o.one o.zero o.zero
       ∷ (square o.zero o.zero o.one o.zero ∷ (square o.zero o.zero o.zero o.one ∷ [])))
+
+-- the field with a square root of p: the basis 1 and w with w·w = p. The integral combinations of 1 and w are an order, and
+-- those of p and w its radical
+abbrev pub pair : {E : Type 0} → E → E → List E
+pair a b = a ∷ (b ∷ [])
+
+module _ {E : Type 0} (o : Ops E) (p : E) where
+  abbrev pub root_table : List E
+  root_table = pair o.one o.zero ++ (pair o.zero o.one ++ (pair o.zero o.one ++ pair p o.zero))
+
+  abbrev pub root_order : List (List E)
+  root_order = pair o.one o.zero ∷ (pair o.zero o.one ∷ [])
+
+  abbrev pub root_radical : List (List E)
+  root_radical = pair p o.zero ∷ (pair o.zero o.one ∷ [])

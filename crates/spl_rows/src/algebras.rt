@@ -7,7 +7,9 @@ ghost use Rattle.spl_algebra.specs.Algebra.{IsAssociative};
 ghost use Rattle.spl_claims.specs.Algebras.{HasIdentity};
 ghost use Rattle.spl_table.specs.Table.{algebra_of, ops_of};
 
-use crate::texts::{FAILED_TRIPLE, FOUR_COPIES, MATRIX_UNITS, PATH_ALGEBRA, QUATERNIONS, ZERO_PRODUCT};
+use crate::texts::{
+    FAILED_TRIPLE, FOUR_COPIES, MATRIX_UNITS, PATH_ALGEBRA, QUATERNIONS, ZERO_PRODUCT,
+};
 use spl_algebra::identity::One;
 use spl_centre::centre::{centre_fault, identity_or_refutation, trace_ideal};
 use spl_field::field::NoMemory;
@@ -55,7 +57,10 @@ fn identities(rt: HostRuntime) -> Result<(), Fail> {
         (ZERO_PRODUCT, ""),
     ] {
         let table = table_of(alloc, text)?;
-        assert_eq!(rt; identity_text(alloc, &table)?.as_slice(), identity.as_bytes());
+        assert_eq!(rt;
+            identity_text(alloc, &table)?.as_slice(),
+            identity.as_bytes()
+        );
     }
     Ok(())
 }
@@ -64,8 +69,14 @@ fn identities(rt: HostRuntime) -> Result<(), Fail> {
 fn failed_triples(rt: HostRuntime) -> Result<(), Fail> {
     let alloc = rt.alloc();
     let first = Triple { i: 1, j: 1, k: 2 };
-    assert_eq!(rt; first_failed_triple(alloc, &table_of(alloc, ZERO_PRODUCT)?)?, None);
-    assert_eq!(rt; first_failed_triple(alloc, &table_of(alloc, FAILED_TRIPLE)?)?, Some(first));
+    assert_eq!(rt;
+        first_failed_triple(alloc, &table_of(alloc, ZERO_PRODUCT)?)?,
+        None
+    );
+    assert_eq!(rt;
+        first_failed_triple(alloc, &table_of(alloc, FAILED_TRIPLE)?)?,
+        Some(first)
+    );
     Ok(())
 }
 
@@ -86,7 +97,11 @@ fn dimensions(alloc: Global, table: &Table) -> Result<(usize, usize), NoMemory> 
 #[test]
 fn centres_and_ideals(rt: HostRuntime) -> Result<(), Fail> {
     let alloc = rt.alloc();
-    for (text, want) in [(MATRIX_UNITS, (1, 4)), (FOUR_COPIES, (4, 1)), (PATH_ALGEBRA, (1, 3))] {
+    for (text, want) in [
+        (MATRIX_UNITS, (1, 4)),
+        (FOUR_COPIES, (4, 1)),
+        (PATH_ALGEBRA, (1, 3)),
+    ] {
         let table = table_of(alloc, text)?;
         assert_eq!(rt; dimensions(alloc, &table)?, want);
         let a = table.algebra().copy(alloc, table.fractions())?;

@@ -1,0 +1,22 @@
+// Ramified places of algebras by structure constants: they exclude a splitting, and there are some.
+ghost use Rattle.std.specs.Prelude.{◌≤◌, ◌*◌, ℕ, IsTrue, List};
+ghost use Rattle.theory_spaces.specs.Tuples.{IsTuple};
+ghost use Rattle.spl_claims.specs.Split.{IsSplit};
+ghost use Rattle.spl_claims.specs.Ramified.{IsIntegralBy, RamifiedClaim};
+ghost use Rattle.spl_claims.specs.Examples.{root_table, root_order, root_radical};
+
+use theory_orders::ramified_laws::PlacedTuples;
+
+/// An algebra with a ramified place is split by matrices of no size n ≥ 1.
+pub fn ramified_excludes_split<F: PlacedTuples>()
+    ensures excludes { (m : ℕ) (cs : List F.Value) (os js : List (List F.Value)) → IsTuple F.ops (m * m * m) cs
+        → RamifiedClaim F.ops m cs (IsIntegralBy F.ops F.laws F.valuation) F.p.0 os js
+        → (n : ℕ) → 1 ≤ n → IsSplit F.ops m cs n → ⊥ }
+{}
+
+/// Where p isn't a unit, the field with a square root w of p has a ramified place: the order is the integral combinations
+/// of 1 and w, and its radical those of p and w.
+pub fn ramified_claim_exists<F: PlacedTuples>()
+    ensures root { (IsTrue (F.valuation.integral F.q) → ⊥)
+        → RamifiedClaim F.ops 2 (root_table F.ops F.p.0) (IsIntegralBy F.ops F.laws F.valuation) F.p.0 (root_order F.ops F.p.0) (root_radical F.ops F.p.0) }
+{}
