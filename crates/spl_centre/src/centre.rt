@@ -1,5 +1,6 @@
 // Identity, centre and trace form.
-ghost use Rattle.std.specs.Prelude.{◌≡◌, ◌≢◌, ◌%◌, IfOk, MatchOption};
+ghost use Rattle.std.specs.Prelude.{◌≡◌, ◌≢◌, ◌%◌, IfOk, MatchOption, All};
+ghost use Rattle.theory_rings.specs.Ops.{IsElem};
 ghost use Rattle.spl_field.specs.SmallField.{characteristic};
 ghost use Rattle.spl_fraction.specs.Fractions.{field_of};
 ghost use Rattle.spl_fraction.specs.FractionsOver.{fractions_over};
@@ -10,12 +11,14 @@ ghost use Rattle.spl_claims.specs.Traces.{IsNondegenerate};
 ghost use Rattle.spl_claims.specs.Claims.{CentralClaim};
 ghost use Rattle.spl_centre.specs.TraceIdeal.{IsTraceIdeal};
 
+use crate::identity::fault_of;
+use crate::radical::radical_of;
 use spl_algebra::algebra::Algebra;
 use spl_algebra::identity::One;
 use spl_field::field::NoMemory;
 use spl_fraction::field::Fractions;
 use spl_fraction::tuples::{Tuple, Tuples};
-use std::alloc::{AllocError, Global};
+use std::alloc::Global;
 
 /// An algebra over the rational functions.
 pub type KAlgebra = Algebra<Fractions>;
@@ -34,11 +37,7 @@ pub fn identity_or_refutation(
 
 /// A central element that is no multiple of the identity; None exactly where the centre is the multiples of the
 /// identity. The one fault is want of memory.
-pub fn centre_fault(
-    alloc: Global,
-    f: &Fractions,
-    a: &KAlgebra,
-) -> Result<Option<Tuple>, NoMemory>
+pub fn centre_fault(alloc: Global, f: &Fractions, a: &KAlgebra) -> Result<Option<Tuple>, NoMemory>
     requires over { IsOver (fractions_over (field_of f.now)) a.now }
     requires associative { IsAssociative (fractions_over (field_of f.now)) a.now }
     requires identity { HasIdentity (fractions_over (field_of f.now)) a.now.dim a.now.constants }
@@ -46,19 +45,24 @@ pub fn centre_fault(
         (HasSmallCentre (fractions_over (field_of f.now)) a.now.dim a.now.constants)
         (CentralClaim (fractions_over (field_of f.now)) a.now.dim a.now.constants)) }
 {
-    let _ = alloc;
-    let _ = f;
-    let _ = a;
-    Err(NoMemory::from(AllocError))
+    fault_of(alloc, f, a)
+}
+
+/// A list of equal tuples.
+fn copies(alloc: Global, f: &Fractions, rows: &[Tuple]) -> Result<Tuples, NoMemory>
+    requires { All (All (IsElem (fractions_over (field_of f.now)))) rows.now }
+    ensures { IfOk result (λ r. r ≡ rows.now) }
+{
+    let mut tuples = Tuples::new(alloc);
+    for row in rows {
+        tuples.push(row.copy(alloc, f)?)?;
+    }
+    Ok(tuples)
 }
 
 /// A basis of the radical of the trace form, the set of all a with tr(a·b) = 0 for each b; None exactly where it is 0. The
 /// characteristic doesn't divide the dimension, so that the trace of the identity isn't 0. The one fault is want of memory.
-pub fn trace_ideal(
-    alloc: Global,
-    f: &Fractions,
-    a: &KAlgebra,
-) -> Result<Option<Tuples>, NoMemory>
+pub fn trace_ideal(alloc: Global, f: &Fractions, a: &KAlgebra) -> Result<Option<Tuples>, NoMemory>
     requires over { IsOver (fractions_over (field_of f.now)) a.now }
     requires associative { IsAssociative (fractions_over (field_of f.now)) a.now }
     requires identity { HasIdentity (fractions_over (field_of f.now)) a.now.dim a.now.constants }
@@ -67,8 +71,9 @@ pub fn trace_ideal(
         (IsNondegenerate (fractions_over (field_of f.now)) a.now.dim a.now.constants)
         (IsTraceIdeal (fractions_over (field_of f.now)) a.now)) }
 {
-    let _ = alloc;
-    let _ = f;
-    let _ = a;
-    Err(NoMemory::from(AllocError))
+    let radical = radical_of(alloc, f, a)?;
+    if radical.dim() == 0 {
+        return Ok(None);
+    }
+    Ok(Some(copies(alloc, f, radical.rows().as_slice())?))
 }

@@ -5,3 +5,5 @@
 #![tactic(auto)]
 
 pub mod centre;
+mod identity;
+mod radical;

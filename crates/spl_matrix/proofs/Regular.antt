@@ -10,9 +10,12 @@ use Rattle.theory_spaces.proofs.Decide.{NotAllZero, pivot}
 use Rattle.spl_matrix.specs.Matrix.{entry, IsMatrix}
 use Rattle.spl_matrix.specs.Echelon.{IsEchelon}
 use Rattle.spl_matrix.specs.Inverse.{IsInverse, AreDependent}
+use Rattle.spl_matrix.specs.Subspace.{InSpan, IsReducedBasis}
+use Rattle.theory_spaces.specs.Tuples.{IsTuple}
 use Rattle.spl_matrix.proofs.Combinations.{sum_of-mul_delta}
 use Rattle.spl_matrix.proofs.Inverses.{IsInverse-left}
-use Rattle.spl_matrix.proofs.ReducedBases.{cond_flip}
+use Rattle.spl_matrix.proofs.ReducedBases.{cond_flip, combined-pivot}
+use Rattle.spl_matrix.proofs.Spans.{combined, InSpan-by}
 use Rattle.spl_matrix.proofs.Sums.{sum_of_zeros, sums_assoc, entry-elem, entry_table}
 use Rattle.spl_matrix.proofs.Terms.{zero-mul, cond_yes}
 
@@ -42,6 +45,20 @@ goes_up-id n p below up s s_in =
         let a = high k (suc s) f in
         let b = up s (suc s) m l in
         omega arith
+
+-- a reduced basis of as many rows as columns, or more, spans all tuples
+pub full_basis_spans : {E : Type 0} (o : Ops E) (L : FieldLaws o) (w : ℕ) (rows : List (List E)) → IsReducedBasis o w rows → w ≤ length rows
+    → (v : List E) → IsTuple o w v → InSpan o w rows v
+full_basis_spans o L w rows x full v tuple =
+    let r = x.reduced in
+    let each = x.each in
+    let v_in = at-elem o L v tuple.of_elements in
+    InSpan-by o L w rows v (at o v) v_in (λ j j_in.
+    let j_row : j < length rows = omega arith in
+    let at_j : get_or x.pivots j 0 ≡ j = goes_up-id w (λ s. get_or x.pivots s 0)
+    (λ s s_in. let s_piv : s < length x.pivots = omega arith in r.below s s_piv)
+    (λ s t s_low t_in. let t_piv : t < length x.pivots = omega arith in r.order s t s_low t_piv) j j_in in
+    sym (ap (combined o L rows (at o v)) (sym at_j) ∙ combined-pivot o L w rows x.shape x.pivots each r (at o v) v_in j j_row))
 
 module _ {E : Type 0} (o : Ops E) (L : FieldLaws o) (h : ℕ) (a rows : List (List E)) (pivots : List ℕ) (transform : List (List E))
     (a_shape : IsMatrix o h a) (echelon : IsEchelon o h h a rows pivots transform) where

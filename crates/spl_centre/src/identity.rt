@@ -1,0 +1,96 @@
+// The identity of an algebra that has one, its multiples, and the first central element that is none of them.
+ghost use Rattle.std.specs.Prelude.{◌≡◌, ◌≢◌, ◌↔◌, ◌<◌, ◌≤◌, ℕ, List, length, IfOk, MatchOption};
+ghost use Rattle.theory_spaces.specs.Tuples.{IsTableOne};
+ghost use Rattle.spl_matrix.specs.Subspace.{InSpan, IsSubspace};
+ghost use Rattle.spl_algebra.specs.Algebra.{IsOver, IsAssociative, IsElement};
+ghost use Rattle.spl_algebra.specs.Subspaces.{SpansCentre};
+ghost use Rattle.spl_claims.specs.Algebras.{HasIdentity, HasSmallCentre, IsMultiple};
+ghost use Rattle.spl_claims.specs.Claims.{CentralClaim};
+
+use spl_algebra::algebra::Algebra;
+use spl_algebra::identity::One;
+use spl_field::field::{Field, NoMemory};
+use spl_field::vector::Vector;
+use spl_matrix::matrix::Matrix;
+use spl_matrix::subspace::Subspace;
+use std::alloc::Global;
+
+/// The identity of an algebra that has one.
+fn identity_of<F: Field>(alloc: Global, f: &F, a: &Algebra<F>) -> Result<Vector<F>, NoMemory>
+    requires over { IsOver (F.ops f.now) a.now }
+    requires identity { HasIdentity (F.ops f.now) a.now.dim a.now.constants }
+    ensures { IfOk result (IsTableOne (F.ops f.now) a.now.dim a.now.constants) }
+{
+    match a.identity(alloc, f)? {
+        One::Here { tuple } => Ok(tuple),
+        One::Refuted { .. } => unreachable!(),
+    }
+}
+
+/// The multiples of an element.
+fn multiples_of<F: Field>(
+    alloc: Global,
+    f: &F,
+    a: &Algebra<F>,
+    element: Vector<F>,
+) -> Result<Subspace<F>, NoMemory>
+    requires { IsElement (F.ops f.now) a.now element }
+    ensures basis { IfOk result (IsSubspace (F.ops f.now)) }
+    ensures width { IfOk result (λ s. s.width ≡ a.now.dim) }
+    ensures members { IfOk result (λ s. (v : List F.Elem) → IsElement (F.ops f.now) a.now v
+        → (InSpan (F.ops f.now) a.now.dim s.rows v ↔ IsMultiple (F.ops f.now) a.now.dim a.now.constants element v)) }
+{
+    let mut rows = Matrix::new(alloc);
+    rows.push(element)?;
+    let multiples = Subspace::span(alloc, f, a.dim(), &rows)?;
+    Ok(multiples)
+}
+
+/// The first of two or more rows of the basis of the centre that is no multiple of the identity. One of the first two is
+/// none.
+fn outside<F: Field>(
+    alloc: Global,
+    f: &F,
+    a: &Algebra<F>,
+    centre: &Subspace<F>,
+) -> Result<Vector<F>, NoMemory>
+    requires over { IsOver (F.ops f.now) a.now }
+    requires associative { IsAssociative (F.ops f.now) a.now }
+    requires identity { HasIdentity (F.ops f.now) a.now.dim a.now.constants }
+    requires basis { IsSubspace (F.ops f.now) centre.now }
+    requires width { centre.now.width ≡ a.now.dim }
+    requires members { SpansCentre (F.ops f.now) a.now centre.now.rows }
+    requires large { 2 ≤ length centre.now.rows }
+    ensures { IfOk result (CentralClaim (F.ops f.now) a.now.dim a.now.constants) }
+{
+    let one = identity_of(alloc, f, a)?;
+    let multiples = multiples_of(alloc, f, a, one)?;
+    let rows = centre.rows().as_slice();
+    if multiples.contains(alloc, f, rows[0].as_slice())? {
+        rows[1].copy(alloc, f)
+    } else {
+        rows[0].copy(alloc, f)
+    }
+}
+
+/// A central element that is no multiple of the identity; None exactly where the centre is the multiples of the
+/// identity.
+pub(crate) fn fault_of<F: Field>(
+    alloc: Global,
+    f: &F,
+    a: &Algebra<F>,
+) -> Result<Option<Vector<F>>, NoMemory>
+    requires over { IsOver (F.ops f.now) a.now }
+    requires associative { IsAssociative (F.ops f.now) a.now }
+    requires identity { HasIdentity (F.ops f.now) a.now.dim a.now.constants }
+    ensures { IfOk result (λ r. MatchOption r
+        (HasSmallCentre (F.ops f.now) a.now.dim a.now.constants)
+        (CentralClaim (F.ops f.now) a.now.dim a.now.constants)) }
+{
+    let _ = a.dim();
+    let centre = a.centre(alloc, f)?;
+    if centre.dim() < 2 {
+        return Ok(None);
+    }
+    Ok(Some(outside(alloc, f, a, &centre)?))
+}
