@@ -5,6 +5,7 @@
 #![tactic(auto)]
 
 pub mod evidence;
+pub mod laws;
 mod lines;
 #[cfg(test)]
 mod tests;
