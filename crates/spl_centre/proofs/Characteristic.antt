@@ -1,6 +1,5 @@
 -- The multiples of 1 in the field of fractions over a small field are 0 only at multiples of the characteristic.
-use Rattle.std.specs.Prelude.{◌≡◌, ◌≢◌, ℕ, zero, suc, ◌+◌, ◌%◌}
-use Rattle.std.specs.Int.{◌∣◌}
+use Rattle.std.specs.Prelude.{◌≡◌, ◌≢◌, ℕ, zero, suc, ◌%◌}
 use Rattle.std.proofs.Common.{sym, ◌∙◌, ap, ap₂, subst}
 use Rattle.std.proofs.lemmas.Nat.Gcd.{mod-eq-zero_of_dvd}
 use Rattle.theory_rings.specs.Ring.{FieldOn, CommRingOn}
@@ -23,8 +22,7 @@ use Rattle.theory_rings.proofs.FiniteFields.ElementsByDigits.{prime_by_digits, c
 use Rattle.spl_field.specs.SmallField.{characteristic, small_ops}
 use Rattle.spl_field.specs.TableField.{is_field_by_digits}
 use Rattle.spl_field.specs.declared.small.SmallField.{SmallField}
-use Rattle.spl_fraction.specs.Fraction.{Pair}
-use Rattle.spl_fraction.specs.FractionOps.{RationalFunction, rational_function, pair_of, fraction_ops}
+use Rattle.spl_fraction.specs.FractionOps.{RationalFunction, rational_function, fraction_ops}
 use Rattle.spl_fraction.specs.FractionField.{rational_function-pair_of, rational_function_injective, eq_zero_of_numerator}
 use Rattle.spl_fraction.specs.FractionsOver.{fractions_over, fractions_laws, small_laws}
 

@@ -1,6 +1,6 @@
 -- The multiples of the identity among the central elements.
-use Rattle.std.specs.Prelude.{◌≡◌, ◌≢◌, ◌↔◌, ℕ, zero, suc, ◌+◌, ◌*◌, ◌<◌, ◌≤◌, List, [], ◌∷◌, length, get_or, cond, nat_eq, All}
-use Rattle.std.proofs.Common.{refl, sym, ◌∙◌, ap, ap₂, subst, arith, ⊎_elim}
+use Rattle.std.specs.Prelude.{◌≡◌, ◌≢◌, ◌↔◌, ℕ, ◌+◌, ◌*◌, ◌<◌, ◌≤◌, List, [], ◌∷◌, length, get_or, cond, nat_eq, All}
+use Rattle.std.proofs.Common.{refl, sym, ◌∙◌, ap, arith, ⊎_elim}
 use Rattle.std.proofs.lemmas.Bool.{cases_lt}
 use Rattle.std.proofs.lemmas.List.Elements.{All-nil}
 use Rattle.theory_rings.specs.Ops.{Ops, IsElem, FieldLaws}
@@ -17,7 +17,7 @@ use Rattle.spl_matrix.specs.Matrix.{entry, IsMatrix}
 use Rattle.spl_matrix.specs.Subspace.{InSpan, IsReducedBasis}
 use Rattle.spl_matrix.proofs.Spans.{InSpan-by, InSpan-member}
 use Rattle.spl_matrix.proofs.Sums.{sum_of_zeros, entry-elem, All_step}
-use Rattle.spl_matrix.proofs.Terms.{zero-mul, mul-zero, mul-one, mul-inv}
+use Rattle.spl_matrix.proofs.Terms.{zero-mul, mul-zero, mul-one}
 use Rattle.spl_claims.specs.Algebras.{IsCentral, IsMultiple, HasSmallCentre}
 use Rattle.spl_claims.specs.Claims.{CentralClaim}
 use Rattle.spl_claims.proofs.Bridge.{as_tuple, algebra, algebra_is, one-is, table_basis, vec-is, product_basis-at}

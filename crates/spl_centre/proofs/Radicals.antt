@@ -1,20 +1,20 @@
 -- The rows that the trace form sends to 0 are a basis of its radical, an ideal.
-use Rattle.std.specs.Prelude.{◌≡◌, ◌≢◌, ◌↔◌, ℕ, zero, suc, ◌*◌, ◌<◌, ◌≤◌, List, [], ◌∷◌, length, get_or, All}
-use Rattle.std.proofs.Common.{refl, sym, ◌∙◌, ap, ap₂, subst, arith, ⊎_elim}
+use Rattle.std.specs.Prelude.{◌≡◌, ◌≢◌, ◌↔◌, ℕ, ◌*◌, ◌<◌, ◌≤◌, List, [], length, get_or}
+use Rattle.std.proofs.Common.{sym, ◌∙◌, ap, subst, arith, ⊎_elim}
 use Rattle.std.proofs.lemmas.Bool.{cases_lt}
-use Rattle.theory_rings.specs.Ops.{Ops, IsElem, FieldLaws}
+use Rattle.theory_rings.specs.Ops.{Ops, FieldLaws}
 use Rattle.theory_rings.specs.Sum.{at, sum_of, table}
 use Rattle.theory_rings.specs.Power.{times_of}
 use Rattle.theory_rings.proofs.Sums.Lists.{length-table, get_or-table}
 use Rattle.theory_spaces.specs.Tuples.{IsTuple, tuple_zero, basis, product, AssociativeTable}
 use Rattle.theory_spaces.proofs.Tuples.{at-table, IsTuple-table, IsTuple-ext}
 use Rattle.theory_spaces.proofs.TupleProducts.{IsTuple-basis, IsTuple-product}
-use Rattle.spl_matrix.specs.Matrix.{entry, width_of, IsMatrix}
+use Rattle.spl_matrix.specs.Matrix.{entry, width_of}
 use Rattle.spl_matrix.specs.Subspace.{InSpan, IsReducedBasis, SpansKernel}
 use Rattle.spl_matrix.proofs.Spans.{InSpan-member}
 use Rattle.spl_matrix.proofs.ReducedBases.{reduced_basis_is_independent}
 use Rattle.spl_matrix.proofs.Regular.{full_basis_spans}
-use Rattle.spl_claims.specs.Algebras.{HasIdentity, SpansIdeal}
+use Rattle.spl_claims.specs.Algebras.{HasIdentity}
 use Rattle.spl_claims.specs.Traces.{trace, trace_form, InTraceRadical, IsNondegenerate}
 use Rattle.spl_claims.specs.Claims.{IdealClaim}
 use Rattle.spl_claims.proofs.TraceRadical.{trace_radical}

@@ -1,5 +1,5 @@
 -- A basis of the radical of the trace form, as evidence.
-use Rattle.std.specs.Prelude.{◌↔◌, ℕ, List}
+use Rattle.std.specs.Prelude.{◌↔◌, List}
 use Rattle.theory_rings.specs.Ops.{Ops}
 use Rattle.theory_spaces.specs.Tuples.{IsTuple}
 use Rattle.spl_matrix.specs.Subspace.{InSpan}

@@ -7,3 +7,5 @@
 pub mod centre;
 mod identity;
 mod radical;
+#[cfg(test)]
+mod tests;

@@ -1,4 +1,4 @@
-use Rattle.std.proofs.Common.{◌≡◌, ◌≢◌, length, sym, ◌∙◌, subst}
+use Rattle.std.proofs.Common.{◌≢◌, length, sym, ◌∙◌, subst}
 use Rattle.spl_fraction.specs.Fractions.{field_of}
 use Rattle.spl_fraction.specs.FractionsOver.{fractions_over, fractions_laws}
 use Rattle.spl_centre.specs.TraceIdeal.{IsTraceIdeal}

@@ -1,4 +1,4 @@
-use Rattle.std.proofs.Common.{◌≡◌, ◌≤◌, length, ◌∙◌, arith}
+use Rattle.std.proofs.Common.{◌≤◌, ◌∙◌, arith}
 use Rattle.spl_centre.proofs.Radicals.{form_height, form_width, kernel_is_radical}
 use Rattle.spl_centre.proofs.radical.radical_of.Goals as goal
 
