@@ -5,6 +5,7 @@ use Rattle.std.proofs.lemmas.Nat.Gcd.{mod-eq-zero_of_dvd}
 use Rattle.theory_rings.specs.Ring.{FieldOn, CommRingOn}
 use Rattle.theory_rings.specs.Ops.{Ops, FieldLaws}
 use Rattle.theory_rings.specs.Elements.{Elem, Elem-path, elements}
+use Rattle.theory_rings.specs.FieldByDigits.{IsFieldByDigits}
 use Rattle.theory_rings.specs.Prime.{IsPrime}
 use Rattle.theory_rings.specs.Power.{times, times_of}
 use Rattle.theory_rings.specs.Polynomial.{Poly}
@@ -90,16 +91,22 @@ module _ {E : Type 0} (o : Ops E) (L : FieldLaws o) where
       (map-times Q.monoid K.monoid f f-zero f-add p Q.one ∙ times-eq-mul K.ring p (f Q.one)
       ∙ ap (λ z. K.◌⊗◌ z (f Q.one)) (rational_characteristic p h) ∙ zero-mul K.ring (f Q.one) ∙ sym f-zero))
 
+-- a small field is the field of numbers by their digits
+by_digits : (f : SmallField) → IsFieldByDigits f.p f.modulus.items (small_ops f)
+by_digits f = is_field_by_digits f.p f.least f.modulus.items f.some_number f.size f.power f.sums.items f.negatives.items f.products.items f.inverses.items
+    f.sums_are f.negatives_below f.negatives_are f.products_are f.inverses_below f.inverses_are
+
+-- the characteristic of a small field is prime
+pub IsPrime-characteristic : (f : SmallField) → IsPrime (characteristic f)
+IsPrime-characteristic f = prime_by_digits f.p f.least f.modulus.items f.some_number (small_ops f) (by_digits f)
+
 pub times_one-nonzero_over : (f : SmallField) (n : ℕ) → n % characteristic f ≢ 0 → times_of (fractions_over f) n (fractions_over f).one ≢ (fractions_over f).zero
 times_one-nonzero_over f n d z =
     let p = f.p in
     let o = small_ops f in
     let F = elements o (small_laws f) in
     let Q = elements (fractions_over f) (fractions_laws f) in
-    let digits = is_field_by_digits p f.least f.modulus.items f.some_number f.size f.power f.sums.items f.negatives.items f.products.items f.inverses.items
-    f.sums_are f.negatives_below f.negatives_are f.products_are f.inverses_below f.inverses_are in
-    let prime = prime_by_digits p f.least f.modulus.items f.some_number o digits in
-    let char = characteristic_by_digits p f.least f.modulus.items f.some_number o digits in
-    times_one-nonzero Q p prime
+    let char = characteristic_by_digits p f.least f.modulus.items f.some_number o (by_digits f) in
+    times_one-nonzero Q p (IsPrime-characteristic f)
     (fraction_characteristic o (small_laws f) (fractions_laws f) p (Elem-path o (times F.monoid p F.one) F.zero (sym (times_of-elements o (small_laws f) p F.one) ∙ char)))
     n d (Elem-path (fractions_over f) (times Q.monoid n Q.one) Q.zero (sym (times_of-elements (fractions_over f) (fractions_laws f) n Q.one) ∙ z))
