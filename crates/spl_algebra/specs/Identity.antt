@@ -1,9 +1,6 @@
 -- What the answer to the question for an identity shows.
-use Rattle.std.specs.Prelude.{◌≡◌, ◌↔◌, ◌<◌, ℕ, List}
 use Rattle.theory_rings.specs.Ops.{Ops}
-use Rattle.theory_spaces.specs.Tuples.{IsTuple, IsTableOne}
-use Rattle.spl_matrix.specs.Subspace.{Rows, InSpan}
-use Rattle.spl_claims.specs.Algebras.{IsCentral, SpansIdeal}
+use Rattle.theory_spaces.specs.Tuples.{IsTableOne}
 use Rattle.spl_claims.specs.Claims.{NoIdentityClaim}
 use Rattle.spl_algebra.specs.Algebra.{Structure}
 use Rattle.spl_algebra.specs.declared.identity.One.{One}
