@@ -4,6 +4,7 @@ pub mod TraceRadical
 pub mod CentralSimple
 pub mod Splittings
 pub mod SplitCentralSimple
+pub mod SplitClaims
 pub mod Examples
 pub mod TableSets
 pub mod TableOrders

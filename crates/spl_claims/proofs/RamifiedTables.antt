@@ -1,16 +1,18 @@
--- A ramified place of a table is one of its algebra, so a table with a ramified place is not split by matrices.
+-- A ramified place of a table is one of its algebra, so a table with a ramified place is not split by matrices, and no claim
+-- of a splitting with n² maps holds of it.
 use Rattle.std.specs.Prelude.{◌≡◌, ◌↔◌, ℕ, ◌<◌, ◌≤◌, ◌*◌, IsTrue, List, [], length, get_or}
 use Rattle.std.specs.List.{All}
-use Rattle.std.proofs.Common.{refl, sym, subst}
+use Rattle.std.proofs.Common.{refl, sym, ◌∙◌, ap, ap₂, subst}
 use Rattle.theory_rings.specs.Ring.{FieldOn}
 use Rattle.theory_rings.specs.Ops.{Ops, IsElem, FieldLaws}
 use Rattle.theory_rings.specs.Elements.{Elem, elements}
 use Rattle.theory_spaces.specs.Module.{AlgebraOn, module_of}
 use Rattle.theory_spaces.specs.Linear.{Independent}
 use Rattle.theory_spaces.specs.Valuation.{ValuationOn}
-use Rattle.theory_spaces.specs.Tuples.{IsTuple, Tuple, AssociativeTable, IsTableOne}
+use Rattle.theory_spaces.specs.Tuples.{IsTuple, Tuple, basis, product, AssociativeTable, IsTableOne}
 use Rattle.theory_spaces.proofs.Families.{choose_each}
 use Rattle.theory_spaces.proofs.Tuples.{IsTuple-is_tuple, is_tuple-IsTuple, Tuple-path}
+use Rattle.theory_spaces.proofs.TupleProducts.{IsTuple-basis}
 use Rattle.theory_spaces.proofs.MatrixAlgebra.{matrix_algebra_is}
 use Rattle.theory_rings.proofs.Rings.Fields.{field_set}
 use Rattle.theory_orders.specs.Uniformizer.{UniformizerOn}
@@ -20,9 +22,11 @@ use Rattle.theory_orders.specs.Ramified.{IsRamified}
 use Rattle.theory_orders.proofs.Ramified.{not_isomorphic}
 use Rattle.spl_matrix.specs.Matrix.{IsMatrix}
 use Rattle.spl_claims.specs.Split.{IsSplit}
+use Rattle.spl_claims.specs.Claims.{SplitClaim}
 use Rattle.spl_claims.specs.Ramified.{Lattice, Multiple, LeftOrder, IsLatticeBasis, RamifiedClaim}
 use Rattle.spl_claims.proofs.Bridge.{algebra, algebra_is, table_basis}
 use Rattle.spl_claims.proofs.Splittings.{split_one, split_one_is, split_associative, rep, split_isomorphism, B}
+use Rattle.spl_claims.proofs.SplitClaims.{split_claim_splits}
 use Rattle.spl_claims.proofs.TableSets.{IsWritten, within_to, within_from, multiple_matches, left_order_matches}
 use Rattle.spl_claims.proofs.TableOrders.{Sets, order_from, order_to, simple_from, simple_to, radical_from, radical_to, independent_from, independent_to, lattice_matches}
 
@@ -31,6 +35,18 @@ module _ {E V : Type 0} (o : Ops E) (L : FieldLaws o) (m : ℕ) (cs : List E) (c
     (Z : ValuationOn (elements o L)) (p : Elem o) (Integral : E → Type 0) (same : (x : Elem o) → (Integral x.0 ↔ IsTrue (Z.integral x))) where
   abbrev K : FieldOn (Elem o)
   K = elements o L
+
+  -- the products of vectors are associative, so the table is
+  written_associative : AssociativeTable o m cs
+  written_associative i j k _ _ _ =
+      let at_basis : (i : ℕ) → (x : V) × (g x ≡ basis o m i) = λ i. G.onto (basis o m i) (IsTuple-basis o L m cs constants i) in
+      let x = at_basis i in
+      let y = at_basis j in
+      let z = at_basis k in
+      let times = product o m cs in
+      ap₂ times (ap₂ times (sym x.1) (sym y.1) ∙ sym (G.mul-is x.0 y.0)) (sym z.1) ∙ sym (G.mul-is (A.◌⊗◌ x.0 y.0) z.0)
+      ∙ ap g (A.mul_assoc x.0 y.0 z.0)
+      ∙ G.mul-is x.0 (A.◌⊗◌ y.0 z.0) ∙ ap₂ times x.1 (G.mul-is y.0 z.0 ∙ ap₂ times y.1 z.1)
 
   -- vectors that are written as the m rows
   pub record AreRows (rows : List (List E)) (vec : ℕ → V) : Type 0 where
@@ -97,6 +113,7 @@ module _ {E V : Type 0} (o : Ops E) (L : FieldLaws o) (m : ℕ) (cs : List E) (c
 
     pub ramified_to : IsRamified K Z p A m v w → RamifiedClaim o m cs Integral p.0 os js
     ramified_to h = record {
+      associative = written_associative;
       order_basis = basis_to os v ov h.order.independent;
       order = order_to o L m cs constants A g G I I' MI h.order.order;
       radical_basis = basis_to js w jw h.independent;
@@ -151,3 +168,11 @@ ramified_excludes_split o L Z p q U Integral same m cs os js t R n positive S =
     not_isomorphic K A m (table_basis o L m cs h assoc one is_one) Z p v.0 w.0
     (ramified_from o L m cs h A g G Z p Integral same os js v.0 w.0 v.1 w.1 R)
     q U n positive T (matrix_algebra_is K.cring (field_set K) n) (rep o L m cs h n S.maps S.by) (split_isomorphism o L m cs h n S.maps S.by)
+
+-- nor is it by a claim with n² matrices
+pub ramified_excludes_split_claim : {E : Type 0} (o : Ops E) (L : FieldLaws o) (Z : ValuationOn (elements o L)) (p q : Elem o) → UniformizerOn (elements o L) Z p q
+    → (Integral : E → Type 0) → ((x : Elem o) → (Integral x.0 ↔ IsTrue (Z.integral x)))
+    → (m : ℕ) (cs : List E) (os js : List (List E)) → IsTuple o (m * m * m) cs → RamifiedClaim o m cs Integral p.0 os js
+    → (n : ℕ) (maps : List (List (List E))) (units : List (List E)) → 1 ≤ n → m ≡ n * n → SplitClaim o m cs n maps units → ⊥
+ramified_excludes_split_claim o L Z p q U Integral same m cs os js t R n maps units positive size S =
+    ramified_excludes_split o L Z p q U Integral same m cs os js t R n positive (record { maps = maps; by = split_claim_splits o L m cs n maps units size S })

@@ -5,7 +5,7 @@ use Rattle.std.specs.Prelude.{◌≡◌, ℕ, zero, suc, ◌<◌, ◌⊎◌, Boo
 use Rattle.theory_rings.specs.Ops.{Ops, IsElem, FieldLaws}
 use Rattle.theory_rings.specs.Elements.{elements}
 use Rattle.theory_rings.specs.Sum.{sum_by_ops, sum_of, at}
-use Rattle.theory_spaces.specs.Tuples.{IsTuple, tuple_zero, tuple_add, tuple_scale, product, IsTableOne}
+use Rattle.theory_spaces.specs.Tuples.{IsTuple, tuple_zero, tuple_add, tuple_scale, product, AssociativeTable, IsTableOne}
 use Rattle.theory_spaces.specs.Valuation.{ValuationOn}
 use Rattle.theory_orders.specs.Orders.{Within, Same, Test}
 use Rattle.spl_matrix.specs.Matrix.{IsMatrix, entry}
@@ -90,10 +90,10 @@ module _ {E : Type 0} (o : Ops E) (m : ℕ) (cs : List E) where
     pub proper : Within L J → ⊥
     pub nothing_between : (t : List E → Bool) → IsIdeal L (Test t) → Within J (Test t) → Within (Test t) J ⊎ Within L (Test t)
 
-  -- the tuples os are the basis of an order at a place with the uniformizer pi, and js one of its radical; the quotient
-  -- is simple, the left order of the radical is the order, and the radical isn't pi times the order. That the table is
-  -- associative is no part of the claim
+  -- the table is associative; the tuples os are the basis of an order at a place with the uniformizer pi, and js one of its
+  -- radical; the quotient is simple, the left order of the radical is the order, and the radical isn't pi times the order
   pub record RamifiedClaim (Integral : E → Type 0) (pi : E) (os js : List (List E)) : Type 0 where
+    pub associative : AssociativeTable o m cs
     pub order_basis : IsLatticeBasis o m os
     pub order : IsOrder (Lattice o m Integral os)
     pub radical_basis : IsLatticeBasis o m js

@@ -1,6 +1,6 @@
-// Split algebras are central simple, and examples of the claims: the algebra of the 2 by 2 matrices is split, maps that
-// are 0 split nothing, and a table with one constant changed isn't associative.
-ghost use Rattle.std.specs.Prelude.{◌≡◌, ◌≢◌, ◌≤◌, ℕ, List};
+// Split algebras are central simple, and a claim of a splitting is one. Examples of the claims: the algebra of the 2 by 2
+// matrices is split, maps that are 0 split nothing, and a table with one constant changed isn't associative.
+ghost use Rattle.std.specs.Prelude.{◌≡◌, ◌≢◌, ◌≤◌, ◌*◌, ℕ, List};
 ghost use Rattle.theory_rings.specs.Ops.{IsElem};
 ghost use Rattle.spl_claims.specs.Laws.{SplitIsCentralSimple};
 ghost use Rattle.spl_claims.specs.Split.{map_entry, IsSplitBy};
@@ -12,6 +12,12 @@ use theory_spaces::table_laws::TupleField;
 /// An algebra that matrices of some size n ≥ 1 split is central simple.
 pub fn split_is_central_simple<F: TupleField>()
     ensures simple { (m : ℕ) (cs : List F.Elem) → SplitIsCentralSimple F.ops m cs }
+{}
+
+/// A claim of a splitting of an algebra of dimension n² by matrices of size n is one.
+pub fn split_claim_splits<F: TupleField>()
+    ensures splits { (m n : ℕ) (cs : List F.Elem) (maps : List (List (List F.Elem))) (units : List (List F.Elem)) → m ≡ n * n
+        → SplitClaim F.ops m cs n maps units → IsSplitBy F.ops m cs n maps }
 {}
 
 /// The algebra of the 2 by 2 matrices, with the basis E_11, E_12, E_21 and E_22, is split by these matrices, in the words

@@ -1,6 +1,6 @@
 -- Which kind of evidence a table has: the first that fits of a failed triple, no identity, a large centre, a degenerate
 -- trace form.
-use Rattle.std.specs.Prelude.{◌≡◌, ◌↔◌, ◌≤◌, ℕ, List}
+use Rattle.std.specs.Prelude.{◌↔◌, ◌≤◌, ℕ, List}
 use Rattle.theory_rings.specs.Ops.{Ops}
 use Rattle.theory_spaces.specs.Tuples.{IsTuple}
 use Rattle.spl_matrix.specs.Subspace.{InSpan}

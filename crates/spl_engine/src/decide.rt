@@ -1,14 +1,55 @@
 // The decision.
 ghost use Rattle.std.specs.Prelude.{◌≡◌, IfOk, MatchOption};
+ghost use Rattle.spl_algebra.specs.Algebra.{IsAssociative};
+ghost use Rattle.spl_claims.specs.Algebras.{HasIdentity, HasSmallCentre};
 ghost use Rattle.spl_table.specs.Table.{algebra_of, ops_of};
 ghost use Rattle.spl_engine.specs.Kind.{IsEvidence, HasNoFault};
 
+use spl_algebra::identity::One;
 use spl_centre::centre::{centre_fault, identity_or_refutation, trace_ideal};
 use spl_evidence::evidence::Evidence;
 use spl_field::field::NoMemory;
 use spl_table::table::Table;
 use spl_table::triple::first_failed_triple;
-use std::alloc::{AllocError, Global};
+use std::alloc::Global;
+
+/// Of an associative algebra with an identity and a small centre: the trace form alone is left.
+fn of_small_centre(alloc: Global, table: &Table) -> Result<Option<Evidence>, NoMemory>
+    requires associative { IsAssociative (ops_of table.now) (algebra_of table.now) }
+    requires centre { HasSmallCentre (ops_of table.now) (algebra_of table.now).dim (algebra_of table.now).constants }
+    ensures { IfOk result (λ r. MatchOption r (HasNoFault (ops_of table.now) (algebra_of table.now))
+        (IsEvidence (ops_of table.now) (algebra_of table.now))) }
+{
+    match trace_ideal(alloc, table.fractions(), table.algebra())? {
+        Some(tuples) => Ok(Some(Evidence::Ideal { tuples })),
+        None => Ok(None),
+    }
+}
+
+/// Of an associative algebra with an identity.
+fn of_unital(alloc: Global, table: &Table) -> Result<Option<Evidence>, NoMemory>
+    requires associative { IsAssociative (ops_of table.now) (algebra_of table.now) }
+    requires identity { HasIdentity (ops_of table.now) (algebra_of table.now).dim (algebra_of table.now).constants }
+    ensures { IfOk result (λ r. MatchOption r (HasNoFault (ops_of table.now) (algebra_of table.now))
+        (IsEvidence (ops_of table.now) (algebra_of table.now))) }
+{
+    match centre_fault(alloc, table.fractions(), table.algebra())? {
+        Some(tuple) => Ok(Some(Evidence::Central { tuple })),
+        None => of_small_centre(alloc, table),
+    }
+}
+
+/// Of an associative algebra.
+fn of_associative(alloc: Global, table: &Table) -> Result<Option<Evidence>, NoMemory>
+    requires { IsAssociative (ops_of table.now) (algebra_of table.now) }
+    ensures { IfOk result (λ r. MatchOption r (HasNoFault (ops_of table.now) (algebra_of table.now))
+        (IsEvidence (ops_of table.now) (algebra_of table.now))) }
+{
+    match identity_or_refutation(alloc, table.fractions(), table.algebra())? {
+        One::Refuted { left, right } => Ok(Some(Evidence::NoIdentity { left, right })),
+        One::Here { .. } => of_unital(alloc, table),
+    }
+}
 
 /// Evidence that the table's algebra isn't central simple, of the first kind that fits: the first failed triple, no
 /// identity, a large centre, a degenerate trace form. None exactly where none fits; then the algebra is central simple.
@@ -17,7 +58,12 @@ pub fn decide(alloc: Global, table: &Table) -> Result<Option<Evidence>, NoMemory
     ensures { IfOk result (λ r. MatchOption r (HasNoFault (ops_of table.now) (algebra_of table.now))
         (IsEvidence (ops_of table.now) (algebra_of table.now))) }
 {
-    let _ = alloc;
-    let _ = table;
-    Err(NoMemory::from(AllocError))
+    match first_failed_triple(alloc, table)? {
+        Some(t) => Ok(Some(Evidence::Triple {
+            i: t.i,
+            j: t.j,
+            k: t.k,
+        })),
+        None => of_associative(alloc, table),
+    }
 }

@@ -1,5 +1,5 @@
 -- Evidence whose claim holds fits.
-use Rattle.std.specs.Prelude.{ℕ, IsTrue}
+use Rattle.std.specs.Prelude.{ℕ}
 use Rattle.theory_rings.specs.Ops.{Ops}
 use Rattle.spl_fraction.specs.Fraction.{Pair}
 use Rattle.spl_algebra.specs.Algebra.{Structure}

@@ -1,1 +1,4 @@
 pub mod Fits
+mod LinesApart
+mod FractionLines
+mod OneEvidence

@@ -5,5 +5,8 @@
 #![tactic(auto)]
 
 pub mod evidence;
+pub mod laws;
 mod lines;
+#[cfg(test)]
+mod tests;
 pub mod writing;

@@ -1,6 +1,6 @@
 -- A polynomial that is 0 at the q elements of a field is 0 where z^q = z, and the product of z − c over them is 0 there.
-use Rattle.std.specs.Prelude.{◌≡◌, ℕ, zero, suc, ◌<◌, ◌≤◌, ◌⊎◌}
-use Rattle.std.proofs.Common.{sym, ◌∙◌, ap, ap₂, arith, ⊎_elim, inl, inr}
+use Rattle.std.specs.Prelude.{◌≡◌, ℕ, zero, suc, ◌<◌, ◌≤◌}
+use Rattle.std.proofs.Common.{sym, ◌∙◌, ap, ap₂, arith, ⊎_elim}
 use Rattle.std.proofs.lemmas.Bool.{cases_lt}
 use Rattle.theory_rings.specs.Ring.{FieldOn}
 use Rattle.theory_rings.specs.Enumerated.{Enumerated}
@@ -14,13 +14,8 @@ use Rattle.theory_spaces.specs.Linear.{comb}
 use Rattle.theory_spaces.proofs.Modules.{neg_one-scale, comb_zero}
 use Rattle.theory_blocks.specs.FixedPoints.{IsFixed}
 use Rattle.theory_blocks.specs.Splitting.{less_scalar, ScalarFactorsVanish}
+use Rattle.theory_blocks.proofs.Decisions.{lt_or_gt}
 use Rattle.theory_blocks.proofs.Newton.{newton, newton_vanishes, Newton, Newton_congr, Newton-one, Newton-widen, Newton-add, Newton-scale, Newton-mul, power_form}
-
-lt_or_gt : (i m : ℕ) → (i ≡ m → ⊥) → (i < m) ⊎ (m < i)
-lt_or_gt i m q = ⊎_elim (λ (b : i < m). inl b) (λ (b : m ≤ i). inr (above b)) (cases_lt i m)
-  where
-    above : m ≤ i → m < i
-    above b = ⊎_elim (λ (h : m < i). h) (λ (h : i ≤ m). absurd (q (let e : i ≡ m = omega arith in e))) (cases_lt m i)
 
 -- a field as an algebra over itself
 module _ {K : Type 0} (F : FieldOn K) where

@@ -6,10 +6,9 @@ use Rattle.theory_rings.specs.Ring.{CommRingOn, FieldOn}
 use Rattle.theory_rings.specs.Enumerated.{Enumerated}
 use Rattle.theory_spaces.specs.Module.{AlgebraOn, module_of}
 use Rattle.theory_spaces.specs.Linear.{Basis}
-use Rattle.theory_spaces.proofs.Spaces.{coords_of}
 use Rattle.theory_blocks.specs.FixedPoints.{HasInverses, ConnectedIsField}
 use Rattle.theory_blocks.proofs.Connected.{inverses}
-use Rattle.theory_blocks.proofs.ZeroDivisors.{vector_eq_zero_or}
+use Rattle.theory_blocks.proofs.Decisions.{vector_eq_zero_or}
 
 module _ {V : Type 0} (C : CommRingOn V) (dec : (x : V) → (x ≡ C.zero) ⊎ (x ≡ C.zero → ⊥)) (h : HasInverses C.ring) where
   abbrev is_left : (x : V) → (x ≡ C.zero) ⊎ (x ≡ C.zero → ⊥) → Bool
@@ -48,5 +47,5 @@ module _ {V : Type 0} (C : CommRingOn V) (dec : (x : V) → (x ≡ C.zero) ⊎ (
 module _ {K V : Type 0} (F : FieldOn K) (E : Enumerated K) (A : AlgebraOn F.ring V) where
   pub connected_field : (m : ℕ) → Basis (module_of A) m → ConnectedIsField F E A
   connected_field m B comm reduced only one =
-      field_of_inverses (record { ring = A.ring; mul_comm = comm }) (vector_eq_zero_or F (module_of A) m (coords_of (module_of A) m B))
+      field_of_inverses (record { ring = A.ring; mul_comm = comm }) (vector_eq_zero_or F (module_of A) m B)
       (inverses F E A m B comm reduced only) one

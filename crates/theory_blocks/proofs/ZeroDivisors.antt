@@ -1,26 +1,18 @@
 -- Where z^q = z and z is no multiple of one, some z − c is a zero divisor: the first products of such factors are not 0, and all
 -- together are.
 use Rattle.std.specs.Prelude.{◌≡◌, ℕ, zero, suc, ◌⊎◌}
-use Rattle.std.proofs.Common.{sym, ◌∙◌, ap, ⊎_elim, inl, inr}
+use Rattle.std.proofs.Common.{sym, ◌∙◌, ap, ⊎_elim}
 use Rattle.theory_rings.specs.Ring.{FieldOn}
 use Rattle.theory_rings.specs.Enumerated.{Enumerated}
 use Rattle.theory_rings.proofs.Rings.RingLaws.{mul-zero}
 use Rattle.theory_rings.proofs.Rings.ZeroTests.{eq_of_sub_eq_zero}
-use Rattle.theory_spaces.specs.Module.{AlgebraOn, ModuleOn, module_of}
-use Rattle.theory_spaces.specs.Linear.{Basis, Coords}
+use Rattle.theory_spaces.specs.Module.{AlgebraOn, module_of}
+use Rattle.theory_spaces.specs.Linear.{Basis}
 use Rattle.theory_spaces.proofs.Modules.{zero-scale}
-use Rattle.theory_spaces.proofs.Spaces.{coords_of}
-use Rattle.theory_spaces.proofs.Decide.{NotAllZero, pivot}
 use Rattle.theory_blocks.specs.Splitting.{ZeroDivisorsExist}
+use Rattle.theory_blocks.proofs.Decisions.{vector_eq_zero_or}
 use Rattle.theory_blocks.proofs.Newton.{newton}
 use Rattle.theory_blocks.proofs.Annihilation.{factors_vanish}
-
--- a vector of a space with coordinates is 0 or not
-pub vector_eq_zero_or : {K V : Type 0} (F : FieldOn K) (M : ModuleOn F.ring V) (m : ℕ) → Coords M m → (x : V) → (x ≡ M.zero) ⊎ (x ≡ M.zero → ⊥)
-vector_eq_zero_or F M m C x = ⊎_elim
-    (λ (p : NotAllZero F m (C.coord x)). inr (λ e. p.nonzero (ap (λ y. C.coord y p.place) e ∙ C.coord-zero p.place)))
-    (λ h. inl (C.faithful x h))
-    (pivot F m (C.coord x))
 
 module _ {K V : Type 0} (F : FieldOn K) (A : AlgebraOn F.ring V) (c : ℕ → K) (z : V) where
   record LastNonzero : Type 0 where
@@ -42,7 +34,7 @@ module _ {K V : Type 0} (F : FieldOn K) (E : Enumerated K) (A : AlgebraOn F.ring
         scalar = F.zero;
         is_multiple = sym (A.mul-one z) ∙ ap (λ y. A.◌⊗◌ z y) e ∙ mul-zero A.ring z ∙ sym (zero-scale (module_of A) A.one);
       }) in
-      let p = last_nonzero F A E.member z (vector_eq_zero_or F (module_of A) m (coords_of (module_of A) m B)) one E.size
+      let p = last_nonzero F A E.member z (vector_eq_zero_or F (module_of A) m B) one E.size
       (factors_vanish F E A z fixed) in
       let a = E.member p.place in (
         a,

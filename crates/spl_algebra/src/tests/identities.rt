@@ -1,6 +1,6 @@
 // Identities at values from outside.
-use super::{algebra, vector};
 use super::boxed::Boxed;
+use super::{algebra, vector};
 use crate::identity::One;
 use crate::products::same;
 use spl_field::field::{Field, NoMemory};

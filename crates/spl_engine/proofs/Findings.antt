@@ -1,0 +1,91 @@
+-- What is found of an algebra, as evidence; and the algebra where nothing is found.
+use Rattle.std.specs.Prelude.{ℕ, List}
+use Rattle.theory_rings.specs.Ops.{Ops, FieldLaws}
+use Rattle.spl_fraction.specs.Fraction.{Pair}
+use Rattle.spl_fraction.specs.FractionsOver.{fractions_laws}
+use Rattle.spl_algebra.specs.Algebra.{Structure, IsOver, IsAssociative}
+use Rattle.spl_claims.specs.Algebras.{HasIdentity, HasSmallCentre, IsCentralSimple}
+use Rattle.spl_claims.specs.Traces.{IsNondegenerate}
+use Rattle.spl_claims.specs.Claims.{NoIdentityClaim, CentralClaim}
+use Rattle.spl_claims.specs.Laws.{ClaimsExclude}
+use Rattle.spl_claims.proofs.Exclusions.{claims_exclude}
+use Rattle.spl_claims.proofs.CentralSimple.{central_simple_by_trace_form}
+use Rattle.spl_claims.proofs.SplitCentralSimple.{split_is_central_simple}
+use Rattle.spl_evidence.specs.declared.evidence.Evidence.{Evidence}
+use Rattle.spl_evidence.specs.declared.evidence.Evidence.TheVariants.{Triple as TripleEvidence, NoIdentity, Central, Ideal}
+use Rattle.spl_evidence.specs.Claim.{Claim}
+use Rattle.spl_table.specs.Table.{field_of, algebra_of, ops_of}
+use Rattle.spl_table.specs.declared.table.Table.{Table}
+use Rattle.spl_table.specs.Triple.{IsFirstFailed}
+use Rattle.spl_table.specs.declared.triple.Triple.{Triple}
+use Rattle.spl_centre.specs.TraceIdeal.{IsTraceIdeal}
+use Rattle.spl_engine.specs.Kind.{IsOfKind, IsEvidence, HasNoFault}
+
+module _ (table : Table) where
+  abbrev o : Ops (Pair ℕ)
+  o = ops_of table
+
+  abbrev L : FieldLaws o
+  L = fractions_laws (field_of table)
+
+  abbrev A : Structure (Pair ℕ)
+  A = algebra_of table
+
+  over : IsOver o A
+  over = record { right_length = table.count; of_elements = table.over }
+
+  exclude : ClaimsExclude o A.dim A.constants
+  exclude = claims_exclude o L A.dim A.constants over
+
+  -- what evidence claims excludes that the algebra is central simple
+  excludes : (e : Evidence) → Claim o A e → IsCentralSimple o A.dim A.constants → ⊥
+  excludes (TripleEvidence i j k) c s = exclude.triple i j k c s.associative
+  excludes (NoIdentity left right) c s = let z = s.centre in exclude.no_identity left right c (record { one = z.one; is_one = z.is_one })
+  excludes (Central tuple) c s = exclude.central tuple c s.centre
+  excludes (Ideal tuples) c s = exclude.ideal tuples c s
+
+  evidence : (e : Evidence) → IsOfKind o A e → Claim o A e → IsEvidence o A e
+  evidence e kind claim = record {
+    kind = kind;
+    claim = claim;
+    not_central_simple = excludes e claim;
+    not_split = λ n some s. excludes e claim (split_is_central_simple o L A.dim A.constants over n some s);
+  }
+
+  pub of_triple : (t : Triple) → IsFirstFailed o A t → IsEvidence o A (TripleEvidence t.i t.j t.k)
+  of_triple t h = evidence (TripleEvidence t.i t.j t.k) h record {
+    i_low = h.i_low;
+    i_high = h.i_high;
+    j_low = h.j_low;
+    j_high = h.j_high;
+    k_low = h.k_low;
+    k_high = h.k_high;
+    differ = h.fails;
+  }
+
+  pub of_no_identity : (left right : List (ℕ × ℕ × Pair ℕ)) → IsAssociative o A → NoIdentityClaim o A.dim A.constants left right
+      → IsEvidence o A (NoIdentity left right)
+  of_no_identity left right associative claim = evidence (NoIdentity left right) (associative, exclude.no_identity left right claim) claim
+
+  pub of_central : (tuple : List (Pair ℕ)) → IsAssociative o A → HasIdentity o A.dim A.constants → CentralClaim o A.dim A.constants tuple
+      → IsEvidence o A (Central tuple)
+  of_central tuple associative identity claim =
+      evidence (Central tuple) record { associative = associative; identity = identity; large = exclude.central tuple claim } claim
+
+  pub of_ideal : (tuples : List (List (Pair ℕ))) → IsAssociative o A → HasSmallCentre o A.dim A.constants → IsTraceIdeal o A tuples
+      → IsEvidence o A (Ideal tuples)
+  of_ideal tuples associative centre h =
+      evidence (Ideal tuples) record {
+        associative = associative;
+        centre = centre;
+        degenerate = λ n. exclude.ideal tuples h.claim (central_simple_by_trace_form o L A.dim A.constants over associative centre n);
+        radical = h.spans;
+      } h.claim
+
+  pub of_none : IsAssociative o A → HasSmallCentre o A.dim A.constants → IsNondegenerate o A.dim A.constants → HasNoFault o A
+  of_none associative centre nondegenerate = record {
+    associative = associative;
+    centre = centre;
+    nondegenerate = nondegenerate;
+    central_simple = central_simple_by_trace_form o L A.dim A.constants over associative centre nondegenerate;
+  }

@@ -1,0 +1,15 @@
+use Rattle.std.proofs.Common.{ℕ, subst₂}
+use Rattle.spl_fraction.specs.Fraction.{Pair}
+use Rattle.spl_fraction.specs.Fractions.{field_of}
+use Rattle.spl_fraction.specs.FractionsOver.{fractions_over}
+use Rattle.spl_fraction.specs.declared.field.Fractions.{Fractions}
+use Rattle.spl_algebra.specs.Algebra.{Structure}
+use Rattle.spl_claims.specs.Claims.{CentralClaim}
+use Rattle.spl_engine.proofs.Findings.{of_central}
+use Rattle.spl_engine.proofs.decide.of_unital.Goals as goal
+
+pub returns-in-Some : goal.returns-in-Some
+returns-in-Some c =
+    of_central c.args.table.now c.in-Some.tuple c.requires.associative c.requires.identity
+    (subst₂ (λ (f : Fractions) (A : Structure (Pair ℕ)). CentralClaim (fractions_over (field_of f)) A.dim A.constants c.in-Some.tuple)
+    c.fractions.ensures c.algebra.ensures.algebra (rw c.in-Some.is at c.in_ok-tuple.ensures))

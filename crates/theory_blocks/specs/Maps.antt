@@ -1,0 +1,24 @@
+-- The maps from a set to a module, added and scaled value by value, as a module.
+use Rattle.std.proofs.Math.Path.{fun_ext}
+use Rattle.theory_rings.specs.Ring.{RingOn}
+use Rattle.theory_spaces.specs.Module.{ModuleOn}
+
+abbrev pub maps : {K W : Type 0} {R : RingOn K} (U : Type 0) → ModuleOn R W → ModuleOn R (U → W)
+maps U M = record {
+  additive = record {
+    monoid = record {
+      zero = λ u. M.zero;
+      ◌⊕◌ = λ f g. λ u. M.◌⊕◌ (f u) (g u);
+      add_assoc = λ f g h. fun_ext (λ u. M.add_assoc (f u) (g u) (h u));
+      add_comm = λ f g. fun_ext (λ u. M.add_comm (f u) (g u));
+      zero-add = λ f. fun_ext (λ u. M.zero-add (f u));
+    };
+    neg = λ f. λ u. M.neg (f u);
+    neg-add = λ f. fun_ext (λ u. M.neg-add (f u));
+  };
+  ◌•◌ = λ a f. λ u. M.◌•◌ a (f u);
+  scale-add = λ a f g. fun_ext (λ u. M.scale-add a (f u) (g u));
+  add-scale = λ a b f. fun_ext (λ u. M.add-scale a b (f u));
+  mul-scale = λ a b f. fun_ext (λ u. M.mul-scale a b (f u));
+  one-scale = λ f. fun_ext (λ u. M.one-scale (f u));
+}
