@@ -46,8 +46,8 @@ fn multiples_of<F: Field>(
     Ok(multiples)
 }
 
-/// The first of two or more rows of the basis of the centre that is no multiple of the identity. One of the first two is
-/// none.
+/// The first row of the basis of a centre of dimension 2 or more that is no multiple of the identity. It is one of the
+/// first two.
 fn outside<F: Field>(
     alloc: Global,
     f: &F,
