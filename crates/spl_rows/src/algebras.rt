@@ -1,5 +1,5 @@
 // The algebras of tables: identity, centre, trace form, generated ideals, and copies.
-ghost use Rattle.std.specs.Prelude.{All, IfOk};
+ghost use Rattle.std.specs.Prelude.{All};
 ghost use Rattle.theory_rings.specs.Ops.{IsElem};
 ghost use Rattle.spl_fraction.specs.Fractions.{field_of};
 ghost use Rattle.spl_fraction.specs.FractionsOver.{fractions_over};
@@ -8,7 +8,8 @@ ghost use Rattle.spl_claims.specs.Algebras.{HasIdentity};
 ghost use Rattle.spl_table.specs.Table.{algebra_of, ops_of};
 
 use crate::texts::{
-    FAILED_TRIPLE, FOUR_COPIES, MATRIX_UNITS, PATH_ALGEBRA, QUATERNIONS, ZERO_PRODUCT,
+    FAILED_TRIPLE, FOUR_COPIES, MATRIX_UNITS, PATH_ALGEBRA, PATH_ALGEBRA_OVER_3, QUATERNIONS,
+    ZERO_PRODUCT,
 };
 use spl_algebra::identity::One;
 use spl_centre::centre::{centre_fault, identity_or_refutation, trace_ideal};
@@ -106,6 +107,49 @@ fn centres_and_ideals(rt: HostRuntime) -> Result<(), Fail> {
         assert_eq!(rt; dimensions(alloc, &table)?, want);
         let a = table.algebra().copy(alloc, table.fractions())?;
         assert_eq!(rt; a.dim(), 4);
+    }
+    Ok(())
+}
+
+/// Whether the centre is larger than the multiples of the identity, and the dimension of the radical of the trace form.
+fn faults_with_identity(alloc: Global, table: &Table) -> Result<(bool, usize), NoMemory>
+    requires associative { IsAssociative (ops_of table.now) (algebra_of table.now) }
+    requires identity { HasIdentity (ops_of table.now) (algebra_of table.now).dim (algebra_of table.now).constants }
+{
+    let f = table.fractions();
+    let a = table.algebra();
+    let central = centre_fault(alloc, f, a)?;
+    let radical = match trace_ideal(alloc, f, a)? {
+        Some(tuples) => tuples.len(),
+        None => 0,
+    };
+    Ok((central.is_some(), radical))
+}
+
+/// The same; None where the algebra isn't associative or has no identity.
+fn faults(alloc: Global, table: &Table) -> Result<Option<(bool, usize)>, NoMemory> {
+    match first_failed_triple(alloc, table)? {
+        Some(_) => Ok(None),
+        None => match identity_or_refutation(alloc, table.fractions(), table.algebra())? {
+            One::Refuted { .. } => Ok(None),
+            One::Here { .. } => Ok(Some(faults_with_identity(alloc, table)?)),
+        },
+    }
+}
+
+#[test]
+fn faults_of_tables(rt: HostRuntime) -> Result<(), Fail> {
+    let alloc = rt.alloc();
+    for (text, want) in [
+        (ZERO_PRODUCT, None),
+        (FOUR_COPIES, Some((true, 0))),
+        (PATH_ALGEBRA, Some((false, 2))),
+        (PATH_ALGEBRA_OVER_3, Some((false, 3))),
+        (QUATERNIONS, Some((false, 0))),
+        (MATRIX_UNITS, Some((false, 0))),
+    ] {
+        let table = table_of(alloc, text)?;
+        assert_eq!(rt; faults(alloc, &table)?, want);
     }
     Ok(())
 }
