@@ -10,7 +10,7 @@ use Rattle.spl_table.specs.declared.refusal.Kind.TheVariants.{NotBuilt}
 use Rattle.spl_fraction.specs.Fractions.{field_of}
 use Rattle.spl_fraction.specs.FractionsOver.{fractions_over}
 use Rattle.spl_fraction.specs.declared.field.Fractions.{Fractions}
-use Rattle.spl_evidence.specs.Evidence.{Fits, IsEvidenceText}
+use Rattle.spl_evidence.specs.Evidence.{Fits}
 use Rattle.spl_evidence.specs.declared.evidence.Evidence.{Evidence}
 use Rattle.spl_evidence.proofs.Fits.{fits_of_claim}
 use Rattle.spl_engine.specs.Kind.{IsEvidence, HasNoFault}
@@ -82,13 +82,3 @@ module _ (table : Table) (f : Fractions) (n : ℕ) (same_field : f ≡ table.fra
       let P : ℕ → Type 0 = λ m. Fits (ops_of table) m e in
       let Q : Fractions → Type 0 = λ k. Fits (fractions_over (field_of k)) (n * n) e in
       subst Q (sym same_field) (subst P (sym square) (fits_of_claim (ops_of table) (algebra_of table) e holds.claim))
-
-  pub shows_evidence : (bytes : List ℕ) → IsEvidenceText (fractions_over (field_of f)) (n * n) bytes e → ShowsEvidence table bytes
-  shows_evidence bytes text = record {
-    evidence = e;
-    holds = holds;
-    text =
-        let P : ℕ → Type 0 = λ m. IsEvidenceText (ops_of table) m bytes e in
-        let Q : Fractions → Type 0 = λ k. IsEvidenceText (fractions_over (field_of k)) (n * n) bytes e in
-        subst P square (subst Q same_field text);
-  }

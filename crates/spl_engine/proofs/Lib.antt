@@ -1,2 +1,2 @@
 mod Findings
-mod Degrees
+pub mod Degrees

@@ -98,10 +98,13 @@ fn refuses_a_text_that_is_cut(rt: HostRuntime) -> Result<(), Fail> {
 #[test]
 fn takes_degree_32_and_not_33(rt: HostRuntime) -> Result<(), Fail> {
     let alloc = rt.alloc();
-    for (zeros, report) in [(32, "refused 5 NotBuilt\n"), (33, "refused 4 PolyDegree\n")] {
+    for (zeros, front) in [
+        (32, "spl-evidence 1\nnoidentity\n"),
+        (33, "refused 4 PolyDegree\n"),
+    ] {
         let input = power(alloc, zeros)?;
         let written = report_on(alloc, input.as_slice())?;
-        assert_eq!(rt; written.as_slice(), report.as_bytes());
+        assert!(rt; written.as_slice().starts_with(front.as_bytes()));
     }
     Ok(())
 }

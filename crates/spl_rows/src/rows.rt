@@ -1,8 +1,7 @@
 // Whole runs of the program over memory and over std's streams.
 use crate::texts::{
-    FAILED_TRIPLE, FAILED_TRIPLE_EVIDENCE, FOUR_COPIES, HIGH_DEGREE, INVERSE_QUATERNIONS,
-    MATRIX_UNITS, NO_DEGREE, NO_FIELD, PATH_ALGEBRA, PATH_ALGEBRA_OVER_3, QUATERNIONS,
-    ZERO_PRODUCT,
+    FAILED_TRIPLE, FAILED_TRIPLE_EVIDENCE, FOUR_COPIES, INVERSE_QUATERNIONS, MATRIX_UNITS,
+    NO_DEGREE, NO_FIELD, PATH_ALGEBRA, PATH_ALGEBRA_OVER_3, QUATERNIONS, ZERO_PRODUCT,
 };
 use spl_cli::run::run;
 use spl_cli::words::Words;
@@ -72,7 +71,6 @@ fn shows_why_it_is_not_central_simple(rt: HostRuntime) -> Result<(), Fail> {
     let alloc = rt.alloc();
     let cases = [
         (ZERO_PRODUCT, "spl-evidence 1\nnoidentity\n"),
-        (HIGH_DEGREE, "spl-evidence 1\nnoidentity\n"),
         (FOUR_COPIES, "spl-evidence 1\ncentral\ntuple "),
         (PATH_ALGEBRA, "spl-evidence 1\nideal 2\ntuple "),
         (PATH_ALGEBRA_OVER_3, "spl-evidence 1\nideal 3\ntuple "),

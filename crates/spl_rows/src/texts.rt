@@ -26,10 +26,6 @@ pub const PATH_ALGEBRA: &str =
 pub const PATH_ALGEBRA_OVER_3: &str =
     "spl-table 1\nfield 3 0\ndegree 2\n1 1 1 1\n1 3 3 1\n1 4 4 1\n2 2 2 1\n3 2 3 1\n4 2 4 1\nend\n";
 
-/// One product, b_1·b_1, is not zero: its constant at b_1 is a polynomial of degree 32.
-pub const HIGH_DEGREE: &str =
-    "spl-table 1\nfield 5 0\ndegree 2\n1 1 1 0,0,0,0,0,0,0,0,0,0,0,0,0,0,0,0,0,0,0,0,0,0,0,0,0,0,0,0,0,0,0,0,1\nend\n";
-
 /// The matrix units, but over the numbers below 4, which are no field.
 pub const NO_FIELD: &str =
     "spl-table 1\nfield 4 0\ndegree 2\n1 1 1 1\n1 2 2 1\n2 3 1 1\n2 4 2 1\n3 1 3 1\n3 2 4 1\n4 3 3 1\n4 4 4 1\nend\n";

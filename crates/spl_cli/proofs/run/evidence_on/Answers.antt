@@ -1,4 +1,4 @@
-use Rattle.spl_cli.proofs.Answering.{fits_of_evidence, shows_evidence}
+use Rattle.spl_cli.proofs.Answering.{fits_of_evidence}
 use Rattle.spl_cli.proofs.run.evidence_on.Goals as goal
 
 pub write_evidence-requires-clause-fits : goal.write_evidence-requires-clause-fits
