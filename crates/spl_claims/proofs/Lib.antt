@@ -6,7 +6,4 @@ pub mod Splittings
 pub mod SplitCentralSimple
 pub mod SplitClaims
 pub mod Examples
-pub mod TableSets
-pub mod TableOrders
-pub mod RamifiedTables
-pub mod RamifiedExample
+pub mod Ramified

@@ -3,5 +3,4 @@ pub mod Traces
 pub mod Split
 pub mod Claims
 pub mod Laws
-pub mod Ramified
 pub mod Examples

@@ -3,7 +3,7 @@ ghost use Rattle.std.specs.Prelude.{◌≡◌, ◌≤◌, ◌*◌, ℕ, IsTrue, 
 ghost use Rattle.theory_spaces.specs.Tuples.{IsTuple};
 ghost use Rattle.spl_claims.specs.Split.{IsSplit};
 ghost use Rattle.spl_claims.specs.Claims.{SplitClaim};
-ghost use Rattle.spl_claims.specs.Ramified.{IsIntegralBy, RamifiedClaim};
+ghost use Rattle.theory_orders.specs.Tables.{RamifiedTable};
 ghost use Rattle.spl_claims.specs.Examples.{root_table, root_order, root_radical};
 
 use theory_orders::ramified_laws::PlacedTuples;
@@ -12,10 +12,10 @@ use theory_orders::ramified_laws::PlacedTuples;
 /// where its dimension is n².
 pub fn ramified_excludes_split<F: PlacedTuples>()
     ensures excludes { (m : ℕ) (cs : List F.Value) (os js : List (List F.Value)) → IsTuple F.ops (m * m * m) cs
-        → RamifiedClaim F.ops m cs (IsIntegralBy F.ops F.laws F.valuation) F.p.0 os js
+        → RamifiedTable F.ops F.laws m cs F.valuation F.p os js
         → (n : ℕ) → 1 ≤ n → IsSplit F.ops m cs n → ⊥ }
     ensures excludes_claim { (m : ℕ) (cs : List F.Value) (os js : List (List F.Value)) → IsTuple F.ops (m * m * m) cs
-        → RamifiedClaim F.ops m cs (IsIntegralBy F.ops F.laws F.valuation) F.p.0 os js
+        → RamifiedTable F.ops F.laws m cs F.valuation F.p os js
         → (n : ℕ) (maps : List (List (List F.Value))) (units : List (List F.Value)) → 1 ≤ n → m ≡ n * n
         → SplitClaim F.ops m cs n maps units → ⊥ }
 {}
@@ -24,5 +24,5 @@ pub fn ramified_excludes_split<F: PlacedTuples>()
 /// of 1 and w, and its radical those of p and w.
 pub fn ramified_claim_exists<F: PlacedTuples>()
     ensures root { (IsTrue (F.valuation.integral F.q) → ⊥)
-        → RamifiedClaim F.ops 2 (root_table F.ops F.p.0) (IsIntegralBy F.ops F.laws F.valuation) F.p.0 (root_order F.ops F.p.0) (root_radical F.ops F.p.0) }
+        → RamifiedTable F.ops F.laws 2 (root_table F.ops F.p.0) F.valuation F.p (root_order F.ops F.p.0) (root_radical F.ops F.p.0) }
 {}

@@ -41,10 +41,11 @@ module _ {K V : Type 0} {R : RingOn K} (A : AlgebraOn R V) where
     -- what a central element sends to 0 is an ideal
     annihilated_ideal : IsIdeal ring (Annihilated A e)
     annihilated_ideal = record {
-      zero-in = mul-zero ring e;
-      add-in = λ x y g h. A.mul-add e x y ∙ ap₂ (λ p q. p ⊕ q) g h ∙ A.zero-add A.zero;
-      left-in = λ c x h. sym (A.mul_assoc e c x) ∙ ap (λ z. z ⊗ x) (central c) ∙ A.mul_assoc c e x ∙ ap (λ z. c ⊗ z) h ∙ mul-zero ring c;
-      right-in = λ x c h. sym (A.mul_assoc e x c) ∙ ap (λ z. z ⊗ c) h ∙ zero-mul ring c;
+      inside = λ x _. tt;
+      zero_in = mul-zero ring e;
+      add_in = λ x y g h. A.mul-add e x y ∙ ap₂ (λ p q. p ⊕ q) g h ∙ A.zero-add A.zero;
+      left = λ c x _ h. sym (A.mul_assoc e c x) ∙ ap (λ z. z ⊗ x) (central c) ∙ A.mul_assoc c e x ∙ ap (λ z. c ⊗ z) h ∙ mul-zero ring c;
+      right = λ c x _ h. sym (A.mul_assoc e x c) ∙ ap (λ z. z ⊗ c) h ∙ zero-mul ring c;
     }
 
     module _ (idem : e ⊗ e ≡ e) (u : V) where
@@ -91,8 +92,8 @@ module _ {K V : Type 0} (F : FieldOn K) (A : AlgebraOn F.ring V) (m : ℕ) (B : 
         size = r.nullity;
         vec = v;
         ideal = record {
-          left = λ i l x. r.kernel.spans (x ⊗ v i) (tt, J.left-in x (v i) (r.kernel.inside i l).1);
-          right = λ i l x. r.kernel.spans (v i ⊗ x) (tt, J.right-in (v i) x (r.kernel.inside i l).1);
+          left = λ i l x. r.kernel.spans (x ⊗ v i) (tt, J.left x (v i) tt (r.kernel.inside i l).1);
+          right = λ i l x. r.kernel.spans (v i ⊗ x) (tt, J.right x (v i) tt (r.kernel.inside i l).1);
         };
         spans = λ x h. r.kernel.spans x (tt, h);
         annihilated = linear_eq_zero N N (λ y. e ⊗ y) (left_linear A e) r.nullity v (λ i l. (r.kernel.inside i l).1);

@@ -22,10 +22,11 @@ module _ {K V : Type 0} {R : RingOn K} (A : AlgebraOn R V) where
   -- a span that is an ideal, as a set
   pub ideal_of_span : (n : ℕ) (g : ℕ → V) → IdealSpan A n g → IsIdeal A.ring (InSpan (module_of A) n g)
   ideal_of_span n g h = record {
-    zero-in = InSpan-zero (module_of A) n g;
-    add-in = InSpan-add (module_of A) n g;
-    left-in = ideal_left A n g h;
-    right-in = λ x c. ideal_right A n g h c x;
+    inside = λ x _. tt;
+    zero_in = InSpan-zero (module_of A) n g;
+    add_in = InSpan-add (module_of A) n g;
+    left = λ c x _. ideal_left A n g h c x;
+    right = λ c x _. ideal_right A n g h c x;
   }
 
 module _ {K V : Type 0} (F : FieldOn K) (A : AlgebraOn F.ring V) (m : ℕ) (B : Basis (module_of A) m) where

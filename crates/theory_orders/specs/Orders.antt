@@ -1,128 +1,61 @@
--- Sets of elements of an algebra, as facts about an element: orders, two-sided ideals with their sums, products and
--- powers, the radical, left orders, simple quotients, maximal and invertible ideals. (Reiner, Maximal Orders, sections 6,
--- 8, 22 and 39.)
-use Rattle.std.specs.Prelude.{◌≡◌, ℕ, zero, suc, ◌<◌, ◌⊎◌, Bool, IsTrue, List, [], ◌∷◌}
+-- The notions on sets at the operations of an algebra.
+use Rattle.std.specs.Prelude.{ℕ, List}
 use Rattle.theory_rings.specs.Ring.{RingOn}
-use Rattle.theory_rings.specs.Sum.{sum}
 use Rattle.theory_spaces.specs.Module.{AlgebraOn}
-
--- each member of I is one of J
-abbrev pub Within : {V : Type 0} → (V → Type 0) → (V → Type 0) → Type 0
-Within I J = (x : _) → I x → J x
-
--- the same members
-abbrev pub Same : {V : Type 0} → (V → Type 0) → (V → Type 0) → Type 0
-Same I J = Within I J × Within J I
-
--- in it, and not the same
-abbrev pub ProperlyWithin : {V : Type 0} → (V → Type 0) → (V → Type 0) → Type 0
-ProperlyWithin I J = Within I J × (Within J I → ⊥)
-
--- the set that a test tells
-abbrev pub Test : {V : Type 0} → (V → Bool) → V → Type 0
-Test t x = IsTrue (t x)
+use Rattle.theory_spaces.specs.Sets as sets
+pub use Rattle.theory_spaces.specs.Sets.{ring_ops, Within, Same, ProperlyWithin, Test}
 
 module _ {K V : Type 0} {R : RingOn K} (A : AlgebraOn R V) where
-  infixl 65 ◌⊕◌
-  infixl 70 ◌⊗◌
-  infixl 70 ◌•◌
-  open A use {◌⊕◌, ◌⊗◌, ◌•◌}
+  abbrev pub IsOrder : (V → Type 0) → Type 0
+  IsOrder = sets.IsOrder (ring_ops A.ring)
 
-  -- a set with one, closed under sums and products; a lattice that is one is an order
-  pub record IsOrder (L : V → Type 0) : Type 0 where
-    pub one_in : L A.one
-    pub zero_in : L A.zero
-    pub add_in : (x y : V) → L x → L y → L (x ⊕ y)
-    pub mul_in : (x y : V) → L x → L y → L (x ⊗ y)
+  abbrev pub IsIdeal : (V → Type 0) → (V → Type 0) → Type 0
+  IsIdeal = sets.IsIdeal (ring_ops A.ring)
 
-  -- a two-sided ideal of L
-  pub record IsIdeal (L J : V → Type 0) : Type 0 where
-    pub inside : Within J L
-    pub zero_in : J A.zero
-    pub add_in : (x y : V) → J x → J y → J (x ⊕ y)
-    pub left : (a x : V) → L a → J x → J (a ⊗ x)
-    pub right : (a x : V) → L a → J x → J (x ⊗ a)
+  abbrev pub SumOf : (V → Type 0) → V → Type 0
+  SumOf = sets.SumOf (ring_ops A.ring)
 
-  -- a finite sum of members of P
-  pub record SumOf (P : V → Type 0) (x : V) : Type 0 where
-    pub size : ℕ
-    pub term : ℕ → V
-    pub each : (i : ℕ) → i < size → P (term i)
-    pub gives : x ≡ sum A.monoid size term
-
-  -- a product of a member of I and one of J
   abbrev pub Product : (V → Type 0) → (V → Type 0) → V → Type 0
-  Product I J x = (a : V) × (b : V) × I a × J b × (x ≡ a ⊗ b)
+  Product = sets.Product (ring_ops A.ring)
 
-  -- I·J, the sums of such products
   abbrev pub Products : (V → Type 0) → (V → Type 0) → V → Type 0
-  Products I J = SumOf (Product I J)
+  Products = sets.Products (ring_ops A.ring)
 
-  -- J to the power e + 1
   abbrev pub Power : (V → Type 0) → ℕ → V → Type 0
-  Power J zero = J
-  Power J (suc e) = Products (Power J e) J
+  Power = sets.Power (ring_ops A.ring)
 
-  -- a product of members of the sets of a word, one of L first; the last factor stands first in the word
-  abbrev pub WordProduct : {X : Type 0} → (V → Type 0) → (X → V → Type 0) → List X → V → Type 0
-  WordProduct L M [] x = L x
-  WordProduct L M (i ∷ u) x = (y : V) × (m : V) × WordProduct L M u y × M i m × (x ≡ y ⊗ m)
-
-  -- p·L
   abbrev pub Multiple : K → (V → Type 0) → V → Type 0
-  Multiple p L x = (y : V) × L y × (x ≡ p • y)
+  Multiple = sets.Multiple (ring_ops A.ring) A.◌•◌
 
-  -- J is an ideal of L over p·L with a power in p·L, and holds each ideal with both properties
-  pub record Radical (p : K) (L J : V → Type 0) : Type 0 where
-    pub ideal : IsIdeal L J
-    pub over : Within (Multiple p L) J
-    pub exponent : ℕ
-    pub falls : Within (Power J exponent) (Multiple p L)
-    pub largest : (t : V → Bool) (e : ℕ) → IsIdeal L (Test t) → Within (Multiple p L) (Test t)
-        → Within (Power (Test t) e) (Multiple p L) → Within (Test t) J
+  abbrev pub Radical : K → (V → Type 0) → (V → Type 0) → Type 0
+  Radical = sets.Radical (ring_ops A.ring) A.◌•◌
 
-  -- the elements that send J into itself from the left
   abbrev pub LeftOrder : (V → Type 0) → V → Type 0
-  LeftOrder J a = (x : V) → J x → J (a ⊗ x)
+  LeftOrder = sets.LeftOrder (ring_ops A.ring)
 
-  -- L/J is simple: J is less than L, and no ideal lies strictly between
-  pub record SimpleQuotient (L J : V → Type 0) : Type 0 where
-    pub proper : Within L J → ⊥
-    pub nothing_between : (t : V → Bool) → IsIdeal L (Test t) → Within J (Test t) → Within (Test t) J ⊎ Within L (Test t)
+  abbrev pub SimpleQuotient : (V → Type 0) → (V → Type 0) → Type 0
+  SimpleQuotient = sets.SimpleQuotient (ring_ops A.ring)
 
-  -- l·a·r with l and r in L
   abbrev pub Around : (V → Type 0) → V → V → Type 0
-  Around L a x = (l : V) × (r : V) × L l × L r × (x ≡ (l ⊗ a) ⊗ r)
+  Around = sets.Around (ring_ops A.ring)
 
-  -- the ideal of L that a and J generate
   abbrev pub Generated : (V → Type 0) → (V → Type 0) → V → V → Type 0
-  Generated L J a = SumOf (λ x. Around L a x ⊎ J x)
+  Generated = sets.Generated (ring_ops A.ring)
 
-  -- L/J is simple, by elements: it is not 0, and each element that is not 0 generates it
-  pub record SimpleByElements (L J : V → Type 0) : Type 0 where
-    pub proper : J A.one → ⊥
-    pub generates : (a : V) → L a → J a ⊎ Generated L J a A.one
+  abbrev pub SimpleByElements : (V → Type 0) → (V → Type 0) → Type 0
+  SimpleByElements = sets.SimpleByElements (ring_ops A.ring)
 
-  -- a maximal two-sided ideal of L over p·L
-  pub record IsMaximalIdeal (p : K) (L M : V → Type 0) : Type 0 where
-    pub ideal : IsIdeal L M
-    pub over : Within (Multiple p L) M
-    pub simple : SimpleQuotient L M
+  abbrev pub IsMaximalIdeal : K → (V → Type 0) → (V → Type 0) → Type 0
+  IsMaximalIdeal = sets.IsMaximalIdeal (ring_ops A.ring) A.◌•◌
 
-  -- the elements that carry M into L from the left
   abbrev pub Inverse : (V → Type 0) → (V → Type 0) → V → Type 0
-  Inverse L M a = (x : V) → M x → L (a ⊗ x)
+  Inverse = sets.Inverse (ring_ops A.ring)
 
-  -- M is invertible: its products with its inverse from both sides are L
-  pub record IsInvertible (L M : V → Type 0) : Type 0 where
-    pub left : Same (Products (Inverse L M) M) L
-    pub right : Same (Products M (Inverse L M)) L
+  abbrev pub IsInvertible : (V → Type 0) → (V → Type 0) → Type 0
+  IsInvertible = sets.IsInvertible (ring_ops A.ring)
 
-  -- M is the one maximal ideal over p·L; it is the radical and invertible, and p·L is a power of it
-  pub record OnlyMaximalIdeal (p : K) (L M : V → Type 0) : Type 0 where
-    pub maximal : IsMaximalIdeal p L M
-    pub only : (t : V → Bool) → IsMaximalIdeal p L (Test t) → Same (Test t) M
-    pub radical : Radical p L M
-    pub invertible : IsInvertible L M
-    pub exponent : ℕ
-    pub power : Same (Power M exponent) (Multiple p L)
+  abbrev pub OnlyMaximalIdeal : K → (V → Type 0) → (V → Type 0) → Type 0
+  OnlyMaximalIdeal = sets.OnlyMaximalIdeal (ring_ops A.ring) A.◌•◌
+
+  abbrev pub WordProduct : {X : Type 0} → (V → Type 0) → (X → V → Type 0) → List X → V → Type 0
+  WordProduct = sets.WordProduct (ring_ops A.ring)

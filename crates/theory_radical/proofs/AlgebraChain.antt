@@ -129,10 +129,11 @@ module _ {K W V : Type 0} {F : FieldOn K} {p n : ℕ} (prime : IsPrime p) (L : L
 
   pub in_ideal : (i : ℕ) → IsIdeal A.ring (In i)
   in_ideal i = record {
-    zero-in = in-zero i;
-    add-in = Member-add A.ring S L.ring.additive (tr L m) p lift prime tr_is lift_is i;
-    left-in = Member-left A.ring S L.ring.additive (tr L m) p lift prime tr_is lift_is i;
-    right-in = Member-right A.ring S L.ring.additive (tr L m) p lift prime tr_is lift_is i;
+    inside = λ x _. tt;
+    zero_in = in-zero i;
+    add_in = Member-add A.ring S L.ring.additive (tr L m) p lift prime tr_is lift_is i;
+    left = λ a x _. Member-left A.ring S L.ring.additive (tr L m) p lift prime tr_is lift_is i a x;
+    right = λ a x _. Member-right A.ring S L.ring.additive (tr L m) p lift prime tr_is lift_is i x a;
   }
 
   pub in-scale : (i : ℕ) (c : K) (x : V) → In i x → In i (c • x)
@@ -144,10 +145,11 @@ module _ {K W V : Type 0} {F : FieldOn K} {p n : ℕ} (prime : IsPrime p) (L : L
   chain_ideal i =
       let I = in_ideal i in
       record {
-        zero-in = chain_in i A.zero I.zero-in;
-        add-in = λ x y h g. chain_in i (x ⊕ y) (I.add-in x y (in_chain i x h) (in_chain i y g));
-        left-in = λ c x h. chain_in i (c ⊗ x) (I.left-in c x (in_chain i x h));
-        right-in = λ x c h. chain_in i (x ⊗ c) (I.right-in x c (in_chain i x h));
+        inside = λ x _. tt;
+        zero_in = chain_in i A.zero I.zero_in;
+        add_in = λ x y h g. chain_in i (x ⊕ y) (I.add_in x y (in_chain i x h) (in_chain i y g));
+        left = λ c x _ h. chain_in i (c ⊗ x) (I.left c x tt (in_chain i x h));
+        right = λ c x _ h. chain_in i (x ⊗ c) (I.right c x tt (in_chain i x h));
       }
 
   pub val-add : (i : ℕ) (x y : V) → In i x → In i y → CongruentMod L.ring.monoid (p ^ suc i) (val i (x ⊕ y)) (L.ring.◌⊕◌ (val i x) (val i y))

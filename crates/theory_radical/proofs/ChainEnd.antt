@@ -121,7 +121,7 @@ module _ {K W V : Type 0} {F : FieldOn K} {p n : ℕ} (prime : IsPrime p) (L : L
 
   -- each member of the chain holds each nilpotent ideal
   pub chain_holds : (J : V → Type 0) → IsNilpotentIdeal A.ring J → (i : ℕ) (x : V) → J x → Chain L A m B i x
-  chain_holds J h i x j = chain_in prime L A m B i x (in_of_nilpotent i x (λ c. nilpotent_of_ideal A.ring J h (x ⊗ c) (h.ideal.right-in x c j)))
+  chain_holds J h i x j = chain_in prime L A m B i x (in_of_nilpotent i x (λ c. nilpotent_of_ideal A.ring J h (x ⊗ c) (h.ideal.right c x tt j)))
 
   -- a member that is nilpotent is the largest nilpotent ideal
   pub chain_stops : (i : ℕ) → IsNilpotentIdeal A.ring (Chain L A m B i) → IsLargestNilpotentIdeal A (Chain L A m B i)
@@ -157,7 +157,7 @@ module _ {K W V : Type 0} {F : FieldOn K} {p n : ℕ} (prime : IsPrime p) (L : L
     in_nilpotent a h =
         let d = fitting F A m (coords_of (module_of A) m B) a in
         let I = in_ideal prime L A m B n in
-        let z : a ⊗ d.cofactor ≡ A.zero = idempotent_in_zero (a ⊗ d.cofactor) d.idempotent (I.right-in a d.cofactor h) in
+        let z : a ⊗ d.cofactor ≡ A.zero = idempotent_in_zero (a ⊗ d.cofactor) d.idempotent (I.right d.cofactor a tt h) in
         record {
           exponent = d.exponent;
           vanishes = sym d.keeps ∙ ap (λ x. power A.ring a d.exponent ⊗ x) z ∙ mul-zero A.ring (power A.ring a d.exponent);

@@ -115,11 +115,11 @@ module _ {K V : Type 0} (F : FieldOn K) (A : AlgebraOn F.ring V) (m : ℕ) (C : 
   pub nil_ideal_products_vanish : IsIdeal A.ring J → ((x : V) → J x → IsNilpotent A.ring x) → ProductsVanish A.ring J m
   nil_ideal_products_vanish ideal nil = nil_products_vanish (record {
     subspace = record {
-      zero-in = ideal.zero-in;
-      add-in = ideal.add-in;
-      scale-in = λ c x h. subst J (A.scale-left c A.one x ∙ ap (A.◌•◌ c) (A.one-mul x)) (ideal.left-in (A.◌•◌ c A.one) x h);
+      zero-in = ideal.zero_in;
+      add-in = ideal.add_in;
+      scale-in = λ c x h. subst J (A.scale-left c A.one x ∙ ap (A.◌•◌ c) (A.one-mul x)) (ideal.left (A.◌•◌ c A.one) x tt h);
     };
-    mul-in = λ x y h _. ideal.right-in x y h;
+    mul-in = λ x y h _. ideal.right y x tt h;
     nilpotent = nil;
   })
 

@@ -118,7 +118,7 @@ module _ {K W V : Type 0} {F : FieldOn K} {p n : ℕ} (prime : IsPrime p) (L : L
       let y = c k • v k in
       let iy : I y = in-scale prime L A m B i (c k) (v k) last.0 in
       let J = in_ideal prime L A m B i in (
-        J.add-in x y f.0 iy,
+        J.add_in x y f.0 iy,
         λ g. residue-add x y f.0 iy g ∙ ap₂ F.◌⊕◌ (f.1 f.0) (residue-scale (c k) (v k) last.0 iy ∙ ap (F.◌⊗◌ (power F.ring (c k) q)) last.1),
       )
 
@@ -130,7 +130,7 @@ module _ {K W V : Type 0} {F : FieldOn K} {p n : ℕ} (prime : IsPrime p) (L : L
         let J = in_ideal prime L A m B i in
         let w = λ (j : ℕ). x ⊗ B.vec j in
         let e : x ⊗ y ≡ comb (module_of A) m (B.coord y) w = ap (λ t. x ⊗ t) (B.expand y) ∙ map-comb (module_of A) (module_of A) (λ t. x ⊗ t) (left_linear A x) m (B.coord y) B.vec in
-        let f = residue-comb m (B.coord y) w (λ _. F.zero) (λ j l. (J.right-in x (B.vec j) h, z j l (J.right-in x (B.vec j) h))) in
+        let f = residue-comb m (B.coord y) w (λ _. F.zero) (λ j l. (J.right (B.vec j) x tt h, z j l (J.right (B.vec j) x tt h))) in
         subst (ValVanishes prime L A m B i) (sym e) (vanishes_of_residue (comb (module_of A) m (B.coord y) w) f.0
         (f.1 f.0 ∙ sum_eq_zero F.monoid m (λ j. F.◌⊗◌ (power F.ring (B.coord y j) q) F.zero) (λ j _. mul-zero F.ring (power F.ring (B.coord y j) q)))),
   )
@@ -141,7 +141,7 @@ module _ {K W V : Type 0} {F : FieldOn K} {p n : ℕ} (prime : IsPrime p) (L : L
   in_comb : (k : ℕ) (c : ℕ → K) (v : ℕ → V) → ((s : ℕ) → s < k → I (v s)) → I (comb (module_of A) k c v)
   in_comb k c v h =
       let J = in_ideal prime L A m B i in
-      comb_in (module_of A) I (record { zero-in = J.zero-in; add-in = J.add-in; scale-in = in-scale prime L A m B i }) k c v h
+      comb_in (module_of A) I (record { zero-in = J.zero_in; add-in = J.add_in; scale-in = in-scale prime L A m B i }) k c v h
 
   -- the next member by equations
   pub residue_equations : ResidueEquations L A m B i
@@ -169,7 +169,7 @@ module _ {K W V : Type 0} {F : FieldOn K} {p n : ℕ} (prime : IsPrime p) (L : L
       at_basis : (j : ℕ) → j < m → I (combined j) × ((g : I (combined j)) → residue (combined j) g ≡ sum F.monoid k (λ s. F.◌⊗◌ (power F.ring (c s) q) (r s j)))
       at_basis j l = residue-comb k c (λ s. v s ⊗ B.vec j) (λ s. r s j) (λ s ls.
           let J = in_ideal prime L A m B i in
-          let g = J.right-in (v s) (B.vec j) (each s ls) in
+          let g = J.right (B.vec j) (v s) tt (each s ls) in
           (g, residue_is (v s ⊗ B.vec j) g (r s j) (given s j ls l)))
 
   is_trace_residue : (x : V) (h : I x) → TraceResidue L A m B i x (residue x h)

@@ -6,6 +6,9 @@ use Rattle.theory_rings.specs.Power.{power}
 use Rattle.theory_spaces.specs.Module.{AlgebraOn, module_of}
 use Rattle.theory_spaces.specs.Linear.{InSpan, IsSubmodule}
 use Rattle.theory_spaces.specs.Algebra.{IsNilpotent}
+use Rattle.theory_spaces.specs.Subspaces.{Whole}
+use Rattle.theory_spaces.specs.Sets as sets
+use Rattle.theory_spaces.specs.Sets.{ring_ops}
 
 module _ {V : Type 0} (R : RingOn V) where
   -- a (n − 1) · .. · a 0
@@ -14,11 +17,8 @@ module _ {V : Type 0} (R : RingOn V) where
   product a (suc n) = R.◌⊗◌ (a n) (product a n)
 
   -- closed under sums, and under products with all elements from both sides
-  pub record IsIdeal (J : V → Type 0) : Type 0 where
-    pub zero-in : J R.zero
-    pub add-in : (x y : V) → J x → J y → J (R.◌⊕◌ x y)
-    pub left-in : (c x : V) → J x → J (R.◌⊗◌ c x)
-    pub right-in : (x c : V) → J x → J (R.◌⊗◌ x c)
+  abbrev pub IsIdeal : (V → Type 0) → Type 0
+  IsIdeal J = sets.IsIdeal (ring_ops R) Whole J
 
   -- products of n members are 0
   abbrev pub ProductsVanish : (V → Type 0) → ℕ → Type 0

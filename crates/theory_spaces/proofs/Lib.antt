@@ -24,3 +24,4 @@ pub mod MatrixAlgebra
 pub mod Isomorphisms
 pub mod MinimalIdempotents
 pub mod LeftMatrices
+pub mod Carry

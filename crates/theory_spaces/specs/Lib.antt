@@ -8,6 +8,7 @@ pub mod Tuples
 pub mod Space
 pub mod Quotient
 pub mod Valuation
+pub mod Sets
 pub mod Subspaces
 pub mod Form
 pub mod AlgebraMap

@@ -1,13 +1,10 @@
-use Rattle.spl_claims.specs.Ramified.{IsIntegralBy}
-use Rattle.spl_claims.proofs.RamifiedTables.{ramified_excludes_split, ramified_excludes_split_claim}
-use Rattle.spl_claims.proofs.RamifiedExample.{integral_by}
+use Rattle.spl_claims.proofs.Ramified.{ramified_excludes_split, ramified_excludes_split_claim}
 use Rattle.spl_claims.proofs.ramified_laws.ramified_excludes_split.Goals as goal
 
 pub returns : goal.returns
 returns g c =
     let f = g.F.PlacedTuples in
-    let by = IsIntegralBy f.ops f.laws f.valuation in
     record {
-      excludes = ramified_excludes_split f.ops f.laws f.valuation f.p f.q f.uniformizer by (integral_by f.ops f.laws f.valuation);
-      excludes_claim = ramified_excludes_split_claim f.ops f.laws f.valuation f.p f.q f.uniformizer by (integral_by f.ops f.laws f.valuation);
+      excludes = ramified_excludes_split f.ops f.laws f.valuation f.p f.q f.uniformizer;
+      excludes_claim = ramified_excludes_split_claim f.ops f.laws f.valuation f.p f.q f.uniformizer;
     }
