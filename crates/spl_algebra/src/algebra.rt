@@ -6,7 +6,7 @@ ghost use Rattle.spl_algebra.specs.Algebra.{Structure, IsOver, IsElement, Associ
 use crate::basis::{associates, coordinates, row_of};
 use crate::products::product_of_slices;
 use spl_field::field::{Field, NoMemory};
-use spl_field::vector::Vector;
+use spl_field::list::Vector;
 use std::alloc::Global;
 use std::marker::Model;
 

@@ -5,7 +5,7 @@ ghost use Rattle.theory_spaces.specs.Tuples.{IsTuple, basis, product};
 
 use crate::products::{combination, first_of_combination, same};
 use spl_field::field::{Field, NoMemory};
-use spl_field::vector::Vector;
+use spl_field::list::Vector;
 use std::alloc::Global;
 
 /// The coordinates of the basis element i, of m.

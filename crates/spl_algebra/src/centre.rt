@@ -11,7 +11,7 @@ ghost use Rattle.spl_algebra.specs.Subspaces.{SpansCentre};
 
 use crate::algebra::Algebra;
 use spl_field::field::{Field, NoMemory};
-use spl_field::vector::Vector;
+use spl_field::list::Vector;
 use spl_matrix::matrix::Matrix;
 use spl_matrix::subspace::Subspace;
 use std::alloc::Global;

@@ -10,7 +10,7 @@ ghost use Rattle.spl_algebra.specs.IdentitySystem.{constant_place, constant_row,
 use crate::algebra::Algebra;
 use crate::basis::coordinates;
 use spl_field::field::{Field, NoMemory};
-use spl_field::vector::Vector;
+use spl_field::list::Vector;
 use spl_matrix::lists::Multipliers;
 use spl_matrix::matrix::Matrix;
 use spl_matrix::solve::Solution;

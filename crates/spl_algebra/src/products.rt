@@ -6,7 +6,7 @@ ghost use Rattle.theory_spaces.specs.Tuples.{IsTuple, product};
 ghost use Rattle.spl_algebra.specs.Products.{AddsEach, scaled_rows, sum_of_rows};
 
 use spl_field::field::{Field, NoMemory};
-use spl_field::vector::Vector;
+use spl_field::list::Vector;
 use std::alloc::Global;
 
 /// Adds c times the row to the sums. A zero of the row costs no multiplication.

@@ -13,7 +13,7 @@ use crate::products::same;
 use boxed::Boxed;
 use spl_field::field::{Field, NoMemory};
 use spl_field::small::SmallField;
-use spl_field::vector::Vector;
+use spl_field::list::Vector;
 use spl_matrix::matrix::Matrix;
 use spl_matrix::subspace::Subspace;
 use std::alloc::Global;

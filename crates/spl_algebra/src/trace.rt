@@ -10,7 +10,7 @@ ghost use Rattle.spl_algebra.specs.Contractions.{contracted, contracted_row, con
 
 use crate::algebra::Algebra;
 use spl_field::field::{Field, NoMemory};
-use spl_field::vector::Vector;
+use spl_field::list::Vector;
 use spl_matrix::matrix::Matrix;
 use std::alloc::Global;
 

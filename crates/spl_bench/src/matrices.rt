@@ -8,7 +8,7 @@ use crate::entries::{mixed, next, nonzero};
 use anyhow::Result;
 use spl_field::field::NoMemory;
 use spl_field::small::SmallField;
-use spl_field::vector::Vector;
+use spl_field::list::Vector;
 use spl_matrix::matrix::Matrix;
 use spl_matrix::solve::Solution;
 use spl_matrix::subspace::Subspace;

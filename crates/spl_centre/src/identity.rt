@@ -10,7 +10,7 @@ ghost use Rattle.spl_claims.specs.Claims.{CentralClaim};
 use spl_algebra::algebra::Algebra;
 use spl_algebra::identity::One;
 use spl_field::field::{Field, NoMemory};
-use spl_field::vector::Vector;
+use spl_field::list::Vector;
 use spl_matrix::matrix::Matrix;
 use spl_matrix::subspace::Subspace;
 use std::alloc::Global;

@@ -12,7 +12,7 @@ use spl_algebra::algebra::Algebra;
 use spl_algebra::identity::One;
 use spl_field::field::{Field, NoMemory};
 use spl_field::small::SmallField;
-use spl_field::vector::Vector;
+use spl_field::list::Vector;
 use spl_fraction::field::Fractions;
 use spl_fraction::fraction::Fraction;
 use spl_fraction::tuples::Tuple;

@@ -3,7 +3,7 @@ ghost use Rattle.std.specs.Prelude.{◌≡◌, ℕ, ◌*◌, ◌<◌, ◌≤◌,
 ghost use Rattle.spl_field.specs.Tables.{entry_at, AreElements};
 ghost use Rattle.spl_field.specs.Laws.{AreTables, AreFieldTables, HoldsAt, HoldsAtPair, Holds, FailsFirstAt, FailsFirstAtPair, FailsFirst, IsFirstFailure, number_of, second_below, third_below};
 
-use crate::codes::Codes;
+use crate::list::Codes;
 use crate::small::Tables;
 
 /// The laws, in their order.

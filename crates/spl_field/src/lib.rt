@@ -4,12 +4,11 @@
 #![tactic(auto)]
 
 pub mod admission;
-pub mod codes;
 mod digits;
 pub mod field;
 pub mod laws;
+pub mod list;
 pub mod small;
 mod tables;
 #[cfg(test)]
 mod tests;
-pub mod vector;

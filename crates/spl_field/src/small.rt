@@ -6,8 +6,8 @@ ghost use Rattle.spl_field.specs.Tables.{table_ops, table_power, AreElements, Ar
 ghost use Rattle.spl_field.specs.TableField.{field_laws};
 
 use crate::admission::{FieldFault, admits_numbers};
-use crate::codes::Codes;
 use crate::field::{Field, NoMemory};
+use crate::list::Codes;
 use crate::tables::{inverse_table, negative_table, product_table, root_table, sum_table};
 use std::alloc::Global;
 

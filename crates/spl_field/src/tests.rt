@@ -1,10 +1,9 @@
 // The calls at values from outside.
 use crate::admission::FieldFault;
-use crate::codes::Codes;
 use crate::field::{Field, NoMemory};
 use crate::laws::{LawAt, check_laws};
+use crate::list::{Codes, Vector};
 use crate::small::{SmallField, Tables};
-use crate::vector::Vector;
 use std::alloc::Global;
 use std::test::Fail;
 

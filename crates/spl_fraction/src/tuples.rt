@@ -3,7 +3,7 @@ ghost use Rattle.std.specs.Prelude.{◌≡◌, ◌<◌, ◌≤◌, ◌↔◌, []
 
 use crate::field::Fractions;
 use spl_field::field::NoMemory;
-use spl_field::vector::Vector;
+use spl_field::list::Vector;
 use std::alloc::Global;
 use std::marker::Model;
 

@@ -11,7 +11,7 @@ ghost use Rattle.spl_matrix.specs.Spanning.{IsLeadingPlace};
 use crate::matrix::Indices;
 use crate::reduced::{Reduced, reduced_rows};
 use spl_field::field::{Field, NoMemory};
-use spl_field::vector::Vector;
+use spl_field::list::Vector;
 use std::alloc::Global;
 
 /// The rows with a pivot of the reduced row echelon form of a matrix with w columns.

@@ -11,7 +11,7 @@ use crate::elimination::{augmented_of, eliminate};
 use crate::matrix::{Indices, Matrix};
 use crate::rows::Row;
 use spl_field::field::{Field, NoMemory};
-use spl_field::vector::Vector;
+use spl_field::list::Vector;
 use std::alloc::{AllocError, Global};
 
 /// A reduced row echelon form.

@@ -9,7 +9,7 @@ ghost use Rattle.spl_matrix.specs.Elimination.{cleared_row, pivoted, IsStep, IsE
 use crate::matrix::Indices;
 use crate::rows::Row;
 use spl_field::field::{Field, NoMemory};
-use spl_field::vector::Vector;
+use spl_field::list::Vector;
 use std::alloc::Global;
 use std::mem;
 

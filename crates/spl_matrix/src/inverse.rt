@@ -7,7 +7,7 @@ ghost use Rattle.spl_matrix.specs.Inverse.{IsInverse, AreDependent};
 use crate::echelon::echelon_of;
 use crate::matrix::Matrix;
 use spl_field::field::{Field, NoMemory};
-use spl_field::vector::Vector;
+use spl_field::list::Vector;
 use std::alloc::{AllocError, Global};
 
 /// The inverse of a matrix with as many columns as rows: the transform, where each column has a pivot.

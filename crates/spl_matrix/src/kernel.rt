@@ -11,7 +11,7 @@ use crate::basis::basis_of;
 use crate::matrix::{Indices, Matrix};
 use crate::subspace::{Subspace, span_of};
 use spl_field::field::{Field, NoMemory};
-use spl_field::vector::Vector;
+use spl_field::list::Vector;
 use std::alloc::Global;
 
 /// The place of j in the list, or the length of the list where j isn't in it.

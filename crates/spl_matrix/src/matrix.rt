@@ -4,7 +4,7 @@ ghost use Rattle.theory_rings.specs.Ops.{IsElem};
 ghost use Rattle.spl_matrix.specs.Matrix.{width_of, trace_of, IsMatrix, IsRectangular};
 
 use spl_field::field::{Field, NoMemory};
-use spl_field::vector::Vector;
+use spl_field::list::Vector;
 use std::alloc::Global;
 use std::marker::Model;
 

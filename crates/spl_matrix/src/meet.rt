@@ -10,7 +10,7 @@ ghost use Rattle.spl_matrix.specs.Spanning.{doubled_item, doubled, right_part};
 use crate::basis::basis_of;
 use crate::matrix::Matrix;
 use spl_field::field::{Field, NoMemory};
-use spl_field::vector::Vector;
+use spl_field::list::Vector;
 use std::alloc::{AllocError, Global};
 
 /// The rows of a, and after them those of b.

@@ -10,7 +10,7 @@ use crate::elimination::eliminate;
 use crate::matrix::{Indices, Matrix};
 use crate::rows::Row;
 use spl_field::field::{Field, NoMemory};
-use spl_field::vector::Vector;
+use spl_field::list::Vector;
 use std::alloc::Global;
 use std::mem;
 

@@ -7,7 +7,7 @@ ghost use Rattle.spl_matrix.specs.Matrix.{dot};
 ghost use Rattle.spl_matrix.specs.Elimination.{divided, reduced_by};
 
 use spl_field::field::{Field, NoMemory};
-use spl_field::vector::Vector;
+use spl_field::list::Vector;
 use std::alloc::Global;
 use std::marker::Model;
 

@@ -12,7 +12,7 @@ use crate::echelon::{Echelon, echelon_of};
 use crate::matrix::Matrix;
 use crate::rows::{dot_of, scaled};
 use spl_field::field::{Field, NoMemory};
-use spl_field::vector::Vector;
+use spl_field::list::Vector;
 use std::alloc::{AllocError, Global};
 
 /// m·v

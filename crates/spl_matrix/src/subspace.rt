@@ -11,7 +11,7 @@ use crate::matrix::Matrix;
 use crate::meet::{meet_rows, stacked};
 use crate::reduced::Reduced;
 use spl_field::field::{Field, NoMemory};
-use spl_field::vector::Vector;
+use spl_field::list::Vector;
 use std::alloc::Global;
 use std::marker::Model;
 

@@ -10,7 +10,7 @@ mod systems;
 
 use crate::matrix::Matrix;
 use spl_field::field::{Field, NoMemory};
-use spl_field::vector::Vector;
+use spl_field::list::Vector;
 use std::alloc::Global;
 
 /// 1 + .. + 1, n times.

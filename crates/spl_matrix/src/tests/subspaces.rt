@@ -8,7 +8,7 @@ use crate::tests::boxed::Boxed;
 use crate::tests::{is_matrix, is_row, matrix, vector};
 use spl_field::field::{Field, NoMemory};
 use spl_field::small::SmallField;
-use spl_field::vector::Vector;
+use spl_field::list::Vector;
 use std::alloc::Global;
 use std::test::Fail;
 

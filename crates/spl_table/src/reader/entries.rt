@@ -16,7 +16,7 @@ use crate::reader::entry::{EntryWords, read_entry};
 use crate::refusal::{Kind, TableFault};
 use spl_algebra::algebra::Constants;
 use spl_field::field::NoMemory;
-use spl_field::vector::Vector;
+use spl_field::list::Vector;
 use spl_fraction::field::Fractions;
 use spl_text::word::split_once;
 use std::alloc::Global;

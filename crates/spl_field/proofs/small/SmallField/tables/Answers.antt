@@ -1,4 +1,4 @@
-use Rattle.std.proofs.Common.{◌≡◌, ◌*◌, ◌<◌, List, ℕ, length, subst, subst₂, sym, ◌∙◌}
+use Rattle.std.proofs.Common.{◌≡◌, ◌*◌, ◌<◌, List, ℕ, subst, subst₂, sym, ◌∙◌}
 use Rattle.spl_field.specs.TableField.{product_of_merely}
 use Rattle.spl_field.specs.Tables.{entry_at, AreElements}
 use Rattle.spl_field.specs.Laws.{AreTables}

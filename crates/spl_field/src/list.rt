@@ -1,45 +1,44 @@
-// Lists of elements of a field.
-ghost use Rattle.std.specs.Prelude.{◌≡◌, ◌<◌, ◌≤◌, ◌↔◌, List, [], ◌∷◌, ◌++◌, length, ◌==◌, IfOk, IfSome, OnOk, OnErr, slice_index_or, All};
+// Lists, for contracts that see a list.
+ghost use Rattle.std.specs.Prelude.{◌≡◌, ◌<◌, ◌≤◌, ◌↔◌, [], ◌∷◌, ◌++◌, length, ◌==◌, IfOk, IfSome, OnOk, OnErr, slice_index_or, take, All};
 ghost use Rattle.theory_rings.specs.Ops.{IsElem};
 
 use crate::field::{Field, NoMemory};
 use std::alloc::Global;
 use std::marker::Model;
 
-/// A list of elements of a field. Contracts see it as a list; whose elements they are is a condition of the calls that
-/// take it.
+/// A list. It keeps the allocator that it grows by. Contracts see it as a list of its items.
 #[derive(Drop)]
-pub struct Vector<F: Field> {
-    items: Vec<F::Elem>,
+pub struct List<T: Drop> {
+    items: Vec<T>,
 }
 
-impl<F: Field> Model for Vector<F> {
+impl<T: Drop> Model for List<T> {
     ghost use Rattle.std.specs.Prelude.{List};
 
-    ghost Value = { List F.Elem };
+    ghost Value = { List T };
 
     ghost view = { λ v. v.items.items };
 }
 
-impl<F: Field> Vector<F> {
-    /// The empty list. It takes no memory; the list keeps the allocator.
+impl<T: Drop> List<T> {
+    /// The empty list. It takes no memory.
     pub fn new(alloc: Global) -> Self
         ensures { result ≡ [] }
     {
-        Vector {
+        List {
             items: Vec::new(alloc),
         }
     }
 
     /// The list of these items.
-    pub fn from_vec(items: Vec<F::Elem>) -> Self
+    pub fn from_vec(items: Vec<T>) -> Self
         ensures { result ≡ items.items }
     {
-        Vector { items }
+        List { items }
     }
 
     /// Appends the item. Where memory is wanting the list stays as it was, and the item is dropped.
-    pub fn push(&mut self, item: F::Elem) -> Result<(), NoMemory>
+    pub fn push(&mut self, item: T) -> Result<(), NoMemory>
         ensures ok { OnOk result (self.new ≡ self.old ++ item ∷ []) }
         ensures err { OnErr result (self.new ≡ self.old) }
     {
@@ -62,7 +61,7 @@ impl<F: Field> Vector<F> {
     }
 
     /// The item at place i, counted from 0; None exactly where i is past the end.
-    pub fn at(&self, i: usize) -> Option<&F::Elem>
+    pub fn at(&self, i: usize) -> Option<&T>
         ensures none { (result ≡ None) ↔ (length self.now ≤ i) }
         ensures some { IfSome result (λ r. (i < length self.now) × (r.now ≡ slice_index_or self.now i r.now)) }
     {
@@ -70,14 +69,40 @@ impl<F: Field> Vector<F> {
     }
 
     /// All items in order.
-    pub fn as_slice(&self) -> &[F::Elem]
+    pub fn as_slice(&self) -> &[T]
         ensures { result.now ≡ self.now }
     {
         self.items.as_slice()
     }
 
+    /// Drops the items from place n on.
+    pub fn truncate(&mut self, n: usize)
+        ensures { self.new ≡ take n self.old }
+    {
+        self.items.truncate(n);
+    }
+}
+
+/// A list of numbers below 256.
+pub type Codes = List<u8>;
+
+/// A list of elements of a field; whose elements they are is a condition of the calls that take it.
+pub type Vector<F> = List<<F as Field>::Elem>;
+
+impl<T: Drop + Copy> List<T> {
+    /// The list of these items. The one fault is want of memory.
+    pub fn from_slice(alloc: Global, items: &[T]) -> Result<Self, NoMemory>
+        ensures { IfOk result (λ v. v ≡ items.now) }
+    {
+        Ok(List {
+            items: Vec::from_slice(alloc, items)?,
+        })
+    }
+}
+
+impl<T: Drop> List<T> {
     /// An equal list of elements of f. The one fault is want of memory.
-    pub fn copy(&self, alloc: Global, f: &F) -> Result<Self, NoMemory>
+    pub fn copy<F: Field<Elem = T>>(&self, alloc: Global, f: &F) -> Result<Self, NoMemory>
         requires { All (IsElem (F.ops f.now)) self.now }
         ensures { IfOk result (λ v. v ≡ self.now) }
     {
@@ -85,6 +110,6 @@ impl<F: Field> Vector<F> {
         for item in &self.items {
             items.push(f.copy(alloc, item)?)?;
         }
-        Ok(Vector { items })
+        Ok(List { items })
     }
 }
