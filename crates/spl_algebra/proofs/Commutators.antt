@@ -12,10 +12,10 @@ use Rattle.theory_spaces.specs.Tuples.{IsTuple, product, basis, constant}
 use Rattle.theory_spaces.proofs.Tuples.{IsTuple-ext}
 use Rattle.theory_spaces.proofs.TupleProducts.{IsTuple-product, IsTuple-basis}
 use Rattle.theory_spaces.proofs.PairIndex.{pair-lt, row-lt, column-lt}
-use Rattle.spl_matrix.proofs.Sums.{sum_of-add, mul-sum_of, entry_table}
-use Rattle.spl_matrix.specs.Matrix.{entry, width_of}
-use Rattle.spl_matrix.specs.Subspace.{InSpan, IsKilled, SpansKernel}
-use Rattle.spl_claims.specs.Algebras.{IsCentral}
+use Rattle.theory_tables.proofs.Sums.{sum_of-add, mul-sum_of, entry_table}
+use Rattle.theory_tables.specs.Matrix.{entry, width_of}
+use Rattle.theory_tables.specs.Subspace.{InSpan, IsKilled, SpansKernel}
+use Rattle.theory_tables.specs.Algebras.{IsCentral}
 use Rattle.spl_algebra.specs.Contractions.{commutator_item, commutator_rows}
 use Rattle.spl_algebra.proofs.Terms.{add-zero}
 use Rattle.spl_algebra.proofs.Contractions.{constant-elem, at-product_basis, at-basis_product}

@@ -9,8 +9,8 @@ use Rattle.theory_rings.proofs.Rings.Elements.{at-elem, sum_of-elem, sum_of_cong
 use Rattle.theory_spaces.specs.Tuples.{product, basis, constant}
 use Rattle.theory_spaces.proofs.Tuples.{at-table}
 use Rattle.theory_spaces.proofs.TupleProducts.{product_basis}
-use Rattle.spl_matrix.proofs.Sums.{sum_of_comm, mul-sum_of}
-use Rattle.spl_claims.specs.Traces.{left_matrix, trace, trace_form}
+use Rattle.theory_tables.proofs.Sums.{sum_of_comm, mul-sum_of}
+use Rattle.theory_tables.specs.Traces.{left_matrix, trace, trace_form}
 use Rattle.spl_algebra.specs.Products.{sum_of_rows}
 use Rattle.spl_algebra.specs.Contractions.{contracted, contraction, basis_trace}
 use Rattle.spl_algebra.proofs.Rows.{constant-row, constant-column}

@@ -14,12 +14,12 @@ use Rattle.theory_rings.proofs.Sums.Lists.{length-table, get_or-table, table_con
 use Rattle.theory_spaces.specs.Tuples.{IsTuple, tuple_neg, basis, product, constant, IsTableOne}
 use Rattle.theory_spaces.proofs.Tuples.{at-table, IsTuple-table}
 use Rattle.theory_spaces.proofs.PairIndex.{pair-lt, row-lt, column-lt}
-use Rattle.spl_matrix.specs.Matrix.{entry, width_of, IsMatrix}
-use Rattle.spl_matrix.specs.Solve.{IsSolved, IsRefuted}
-use Rattle.spl_matrix.proofs.Sums.{sum_of-add, sum_of-next, entry-elem}
-use Rattle.spl_matrix.proofs.Spans.{sum_of-split}
-use Rattle.spl_matrix.proofs.Terms.{add-zero, zero-mul, mul-zero, mul-one, add-mul, cond_yes, cond_no}
-use Rattle.spl_claims.specs.Claims.{multiplier_at, NoIdentityClaim}
+use Rattle.theory_tables.specs.Matrix.{entry, width_of, IsMatrix}
+use Rattle.theory_tables.specs.Solve.{IsSolved, IsRefuted}
+use Rattle.theory_tables.proofs.Sums.{sum_of-add, sum_of-next, entry-elem}
+use Rattle.theory_tables.proofs.Spans.{sum_of-split}
+use Rattle.theory_tables.proofs.Terms.{add-zero, zero-mul, mul-zero, mul-one, add-mul, cond_yes, cond_no}
+use Rattle.theory_tables.specs.Claims.{multiplier_at, NoIdentityClaim}
 use Rattle.spl_algebra.specs.IdentitySystem.{constant_place, unit_item, constant_row, unit_row, IsIdentitySystem, ListsMultipliers}
 use Rattle.spl_algebra.specs.Products.{sum_of_rows}
 use Rattle.spl_algebra.proofs.Terms.{sum_of_eq_single, sum_of_eq_zero}

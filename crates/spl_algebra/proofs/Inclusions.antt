@@ -4,11 +4,11 @@ use Rattle.std.proofs.Common.{refl, sym, ◌∙◌, ap, arith, inl, inr, ext_get
 use Rattle.std.proofs.lemmas.Bool.{cases_eq, cases_lt}
 use Rattle.theory_rings.specs.Ops.{Ops, FieldLaws}
 use Rattle.theory_spaces.proofs.Tuples.{IsTuple-ext}
-use Rattle.spl_matrix.specs.Matrix.{entry}
-use Rattle.spl_matrix.specs.Subspace.{IsReducedBasis}
-use Rattle.spl_matrix.proofs.Terms.{cond_yes}
-use Rattle.spl_matrix.proofs.Sums.{sum_of-delta_mul, entry-elem}
-use Rattle.spl_matrix.proofs.Spans.{combined_congr}
+use Rattle.theory_tables.specs.Matrix.{entry}
+use Rattle.theory_tables.specs.Subspace.{IsReducedBasis}
+use Rattle.theory_tables.proofs.Terms.{cond_yes}
+use Rattle.theory_tables.proofs.Sums.{sum_of-delta_mul, entry-elem}
+use Rattle.theory_tables.proofs.Spans.{combined_congr}
 use Rattle.spl_matrix.proofs.ReducedBases.{cond_flip, begins, expand}
 use Rattle.spl_algebra.specs.Multiples.{RowsIn}
 

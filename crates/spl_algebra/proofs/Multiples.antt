@@ -8,11 +8,11 @@ use Rattle.theory_rings.proofs.Sums.Lists.{length-table, get_or-table}
 use Rattle.theory_rings.proofs.Rings.Elements.{at-elem, sum_of_congr}
 use Rattle.theory_spaces.specs.Tuples.{IsTuple, product, basis, constant}
 use Rattle.theory_spaces.proofs.TupleProducts.{IsTuple-product, IsTuple-basis}
-use Rattle.spl_matrix.specs.Matrix.{IsMatrix, entry}
-use Rattle.spl_matrix.specs.Subspace.{InSpan, SameSpan, IsReducedBasis}
-use Rattle.spl_matrix.proofs.Sums.{sums_assoc, entry-elem, All_step}
-use Rattle.spl_matrix.proofs.Spans.{InSpan-by, InSpan-member, InSpan_trans, rows_in, grow_at}
-use Rattle.spl_claims.specs.Algebras.{SpansIdeal}
+use Rattle.theory_tables.specs.Matrix.{IsMatrix, entry}
+use Rattle.theory_tables.specs.Subspace.{InSpan, SameSpan, IsReducedBasis}
+use Rattle.theory_tables.proofs.Sums.{sums_assoc, entry-elem, All_step}
+use Rattle.theory_tables.proofs.Spans.{InSpan-by, InSpan-member, InSpan_trans, rows_in, grow_at}
+use Rattle.theory_tables.specs.Algebras.{SpansIdeal}
 use Rattle.spl_algebra.specs.Multiples.{RowsIn, AddsMultiples, HoldsMultiples, IsBetween}
 use Rattle.spl_algebra.specs.Subspaces.{GeneratesIdeal}
 use Rattle.spl_algebra.proofs.Contractions.{constant-elem, at-product_basis, at-basis_product}

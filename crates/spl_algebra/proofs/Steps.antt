@@ -8,7 +8,7 @@ use Rattle.theory_rings.specs.Ops.{Ops, IsElem, FieldLaws}
 use Rattle.theory_rings.specs.Sum.{at, table}
 use Rattle.theory_rings.proofs.Sums.Lists.{length-table, get_or-table}
 use Rattle.theory_spaces.specs.Tuples.{IsTuple}
-use Rattle.spl_matrix.proofs.Sums.{All_step}
+use Rattle.theory_tables.proofs.Sums.{All_step}
 use Rattle.spl_algebra.specs.Products.{AddsEach, scaled_rows}
 use Rattle.spl_algebra.proofs.Terms.{add-zero, mul-zero, zero-mul, sum_of-next}
 use Rattle.theory_rings.proofs.Rings.Elements.{at-elem, sum_of-elem}

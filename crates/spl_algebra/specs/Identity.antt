@@ -1,7 +1,7 @@
 -- What the answer to the question for an identity shows.
 use Rattle.theory_rings.specs.Ops.{Ops}
 use Rattle.theory_spaces.specs.Tuples.{IsTableOne}
-use Rattle.spl_claims.specs.Claims.{NoIdentityClaim}
+use Rattle.theory_tables.specs.Claims.{NoIdentityClaim}
 use Rattle.spl_algebra.specs.Algebra.{Structure}
 use Rattle.spl_algebra.specs.declared.identity.One.{One}
 use Rattle.spl_algebra.specs.declared.identity.One.TheVariants.{Here, Refuted}

@@ -2,9 +2,9 @@
 use Rattle.std.specs.Prelude.{◌<◌, ℕ, List, [], length, get_or}
 use Rattle.theory_rings.specs.Ops.{Ops}
 use Rattle.theory_spaces.specs.Tuples.{basis, product}
-use Rattle.spl_matrix.specs.Matrix.{IsMatrix}
-use Rattle.spl_matrix.specs.Subspace.{InSpan, IsReducedBasis}
-use Rattle.spl_claims.specs.Algebras.{SpansIdeal}
+use Rattle.theory_tables.specs.Matrix.{IsMatrix}
+use Rattle.theory_tables.specs.Subspace.{InSpan, IsReducedBasis}
+use Rattle.theory_tables.specs.Algebras.{SpansIdeal}
 
 module _ {E : Type 0} (o : Ops E) (m : ℕ) where
   -- each row of one list is a combination of those of the other

@@ -2,8 +2,8 @@
 use Rattle.std.specs.Prelude.{◌↔◌, List}
 use Rattle.theory_rings.specs.Ops.{Ops}
 use Rattle.theory_spaces.specs.Tuples.{IsTuple}
-use Rattle.spl_matrix.specs.Subspace.{InSpan}
-use Rattle.spl_claims.specs.Algebras.{IsCentral, SpansIdeal}
+use Rattle.theory_tables.specs.Subspace.{InSpan}
+use Rattle.theory_tables.specs.Algebras.{IsCentral, SpansIdeal}
 use Rattle.spl_algebra.specs.Algebra.{Structure}
 
 module _ {E : Type 0} (o : Ops E) (A : Structure E) where

@@ -1,8 +1,8 @@
 // Generated ideals.
 ghost use Rattle.std.specs.Prelude.{◌≡◌, ◌*◌, ◌^◌, ◌<◌, IfOk, OnOk, length};
 ghost use Rattle.theory_spaces.specs.Tuples.{IsTuple, basis, product};
-ghost use Rattle.spl_matrix.specs.Matrix.{IsMatrix};
-ghost use Rattle.spl_matrix.specs.Subspace.{IsReducedBasis, IsSubspace};
+ghost use Rattle.theory_tables.specs.Matrix.{IsMatrix};
+ghost use Rattle.theory_tables.specs.Subspace.{IsReducedBasis, IsSubspace};
 ghost use Rattle.spl_algebra.specs.Algebra.{IsOver};
 ghost use Rattle.spl_algebra.specs.Multiples.{AddsMultiples, HoldsMultiples};
 ghost use Rattle.spl_algebra.specs.Subspaces.{GeneratesIdeal};

@@ -3,8 +3,8 @@ ghost use Rattle.std.specs.Prelude.{◌≡◌, ◌+◌, ◌*◌, ◌^◌, ◌<�
 ghost use Rattle.theory_rings.specs.Ops.{IsElem};
 ghost use Rattle.theory_rings.specs.Sum.{table};
 ghost use Rattle.theory_spaces.specs.Tuples.{IsTuple};
-ghost use Rattle.spl_matrix.specs.Matrix.{IsMatrix};
-ghost use Rattle.spl_claims.specs.Traces.{left_matrix, trace_form};
+ghost use Rattle.theory_tables.specs.Matrix.{IsMatrix};
+ghost use Rattle.theory_tables.specs.Traces.{left_matrix, trace_form};
 ghost use Rattle.spl_algebra.specs.Algebra.{IsOver, IsElement};
 ghost use Rattle.spl_algebra.specs.Contractions.{contracted, contracted_row, contraction, basis_trace};
 

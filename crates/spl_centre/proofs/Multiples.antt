@@ -13,14 +13,14 @@ use Rattle.theory_spaces.specs.Tuples.{IsTuple, Tuple, tuple_scale, basis, const
 use Rattle.theory_spaces.proofs.Modules.{linear_ext, left_linear}
 use Rattle.theory_spaces.proofs.Tuples.{at-table, IsTuple-table, IsTuple-ext, Tuple-path}
 use Rattle.theory_spaces.proofs.TupleProducts.{product-one, scale-product, IsTuple-basis}
-use Rattle.spl_matrix.specs.Matrix.{entry, IsMatrix}
-use Rattle.spl_matrix.specs.Subspace.{InSpan, IsReducedBasis}
-use Rattle.spl_matrix.proofs.Spans.{InSpan-by, InSpan-member}
-use Rattle.spl_matrix.proofs.Sums.{sum_of_zeros, entry-elem, All_step}
-use Rattle.spl_matrix.proofs.Terms.{zero-mul, mul-zero, mul-one}
-use Rattle.spl_claims.specs.Algebras.{IsCentral, IsMultiple, HasSmallCentre}
-use Rattle.spl_claims.specs.Claims.{CentralClaim}
-use Rattle.spl_claims.proofs.Bridge.{as_tuple, algebra, algebra_is, one-is, table_basis, vec-is, product_basis-at}
+use Rattle.theory_tables.specs.Matrix.{entry, IsMatrix}
+use Rattle.theory_tables.specs.Subspace.{InSpan, IsReducedBasis}
+use Rattle.theory_tables.proofs.Spans.{InSpan-by, InSpan-member}
+use Rattle.theory_tables.proofs.Sums.{sum_of_zeros, entry-elem, All_step}
+use Rattle.theory_tables.proofs.Terms.{zero-mul, mul-zero, mul-one}
+use Rattle.theory_tables.specs.Algebras.{IsCentral, IsMultiple, HasSmallCentre}
+use Rattle.theory_tables.specs.Claims.{CentralClaim}
+use Rattle.theory_tables.proofs.Bridge.{as_tuple, algebra, algebra_is, one-is, table_basis, vec-is, product_basis-at}
 
 module _ {E : Type 0} (o : Ops E) (L : FieldLaws o) (m : ℕ) where
   pub IsTuple-scale : (c : E) (a : List E) → IsElem o c → IsTuple o m a → IsTuple o m (tuple_scale o m c a)

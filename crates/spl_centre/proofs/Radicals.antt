@@ -9,15 +9,15 @@ use Rattle.theory_rings.proofs.Sums.Lists.{length-table, get_or-table}
 use Rattle.theory_spaces.specs.Tuples.{IsTuple, tuple_zero, basis, product, AssociativeTable}
 use Rattle.theory_spaces.proofs.Tuples.{at-table, IsTuple-table, IsTuple-ext}
 use Rattle.theory_spaces.proofs.TupleProducts.{IsTuple-basis, IsTuple-product}
-use Rattle.spl_matrix.specs.Matrix.{entry, width_of}
-use Rattle.spl_matrix.specs.Subspace.{InSpan, IsReducedBasis, SpansKernel}
-use Rattle.spl_matrix.proofs.Spans.{InSpan-member}
+use Rattle.theory_tables.specs.Matrix.{entry, width_of}
+use Rattle.theory_tables.specs.Subspace.{InSpan, IsReducedBasis, SpansKernel}
+use Rattle.theory_tables.proofs.Spans.{InSpan-member}
 use Rattle.spl_matrix.proofs.ReducedBases.{reduced_basis_is_independent}
 use Rattle.spl_matrix.proofs.Regular.{full_basis_spans}
-use Rattle.spl_claims.specs.Algebras.{HasIdentity}
-use Rattle.spl_claims.specs.Traces.{trace, trace_form, InTraceRadical, IsNondegenerate}
-use Rattle.spl_claims.specs.Claims.{IdealClaim}
-use Rattle.spl_claims.proofs.TraceRadical.{trace_radical}
+use Rattle.theory_tables.specs.Algebras.{HasIdentity}
+use Rattle.theory_tables.specs.Traces.{trace, trace_form, InTraceRadical, IsNondegenerate}
+use Rattle.theory_tables.specs.Claims.{IdealClaim}
+use Rattle.theory_tables.proofs.TraceRadical.{trace_radical}
 
 module _ {E : Type 0} (o : Ops E) (m : ℕ) (cs : List E) where
   abbrev form_row : ℕ → List E

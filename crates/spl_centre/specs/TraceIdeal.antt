@@ -2,10 +2,10 @@
 use Rattle.std.specs.Prelude.{◌↔◌, List}
 use Rattle.theory_rings.specs.Ops.{Ops}
 use Rattle.theory_spaces.specs.Tuples.{IsTuple}
-use Rattle.spl_matrix.specs.Subspace.{InSpan}
+use Rattle.theory_tables.specs.Subspace.{InSpan}
 use Rattle.spl_algebra.specs.Algebra.{Structure}
-use Rattle.spl_claims.specs.Traces.{InTraceRadical}
-use Rattle.spl_claims.specs.Claims.{IdealClaim}
+use Rattle.theory_tables.specs.Traces.{InTraceRadical}
+use Rattle.theory_tables.specs.Claims.{IdealClaim}
 
 -- the tuples are a basis of an ideal, neither 0 nor everything, and it is the radical of the trace form
 pub record IsTraceIdeal {E : Type 0} (o : Ops E) (A : Structure E) (tuples : List (List E)) : Type 0 where

@@ -6,9 +6,9 @@ ghost use Rattle.spl_fraction.specs.Fractions.{field_of};
 ghost use Rattle.spl_fraction.specs.FractionsOver.{fractions_over};
 ghost use Rattle.spl_algebra.specs.Algebra.{IsOver, IsAssociative};
 ghost use Rattle.spl_algebra.specs.Identity.{IsOne};
-ghost use Rattle.spl_claims.specs.Algebras.{HasIdentity, HasSmallCentre};
-ghost use Rattle.spl_claims.specs.Traces.{IsNondegenerate};
-ghost use Rattle.spl_claims.specs.Claims.{CentralClaim};
+ghost use Rattle.theory_tables.specs.Algebras.{HasIdentity, HasSmallCentre};
+ghost use Rattle.theory_tables.specs.Traces.{IsNondegenerate};
+ghost use Rattle.theory_tables.specs.Claims.{CentralClaim};
 ghost use Rattle.spl_centre.specs.TraceIdeal.{IsTraceIdeal};
 
 use crate::identity::fault_of;

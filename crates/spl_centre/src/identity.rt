@@ -1,11 +1,11 @@
 // The identity of an algebra that has one, its multiples, and the first central element that is none of them.
 ghost use Rattle.std.specs.Prelude.{◌≡◌, ◌≢◌, ◌↔◌, ◌<◌, ◌≤◌, ℕ, List, length, IfOk, MatchOption};
 ghost use Rattle.theory_spaces.specs.Tuples.{IsTableOne};
-ghost use Rattle.spl_matrix.specs.Subspace.{InSpan, IsSubspace};
+ghost use Rattle.theory_tables.specs.Subspace.{InSpan, IsSubspace};
 ghost use Rattle.spl_algebra.specs.Algebra.{IsOver, IsAssociative, IsElement};
 ghost use Rattle.spl_algebra.specs.Subspaces.{SpansCentre};
-ghost use Rattle.spl_claims.specs.Algebras.{HasIdentity, HasSmallCentre, IsMultiple};
-ghost use Rattle.spl_claims.specs.Claims.{CentralClaim};
+ghost use Rattle.theory_tables.specs.Algebras.{HasIdentity, HasSmallCentre, IsMultiple};
+ghost use Rattle.theory_tables.specs.Claims.{CentralClaim};
 
 use spl_algebra::algebra::Algebra;
 use spl_algebra::identity::One;

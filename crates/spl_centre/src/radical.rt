@@ -1,10 +1,10 @@
 // The radical of the trace form.
 ghost use Rattle.std.specs.Prelude.{◌≡◌, ◌≢◌, ◌↔◌, ◌<◌, ◌≤◌, ℕ, List, length, IfOk};
 ghost use Rattle.theory_spaces.specs.Tuples.{IsTuple};
-ghost use Rattle.spl_matrix.specs.Subspace.{InSpan, IsSubspace};
+ghost use Rattle.theory_tables.specs.Subspace.{InSpan, IsSubspace};
 ghost use Rattle.spl_algebra.specs.Algebra.{IsOver, IsAssociative};
-ghost use Rattle.spl_claims.specs.Algebras.{HasIdentity};
-ghost use Rattle.spl_claims.specs.Traces.{InTraceRadical};
+ghost use Rattle.theory_tables.specs.Algebras.{HasIdentity};
+ghost use Rattle.theory_tables.specs.Traces.{InTraceRadical};
 
 use spl_algebra::algebra::Algebra;
 use spl_field::field::{Field, NoMemory};

@@ -4,13 +4,13 @@ use Rattle.theory_rings.specs.Ops.{Ops, FieldLaws}
 use Rattle.spl_fraction.specs.Fraction.{Pair}
 use Rattle.spl_fraction.specs.FractionsOver.{fractions_laws}
 use Rattle.spl_algebra.specs.Algebra.{Structure, IsOver, IsAssociative}
-use Rattle.spl_claims.specs.Algebras.{HasIdentity, HasSmallCentre, IsCentralSimple}
-use Rattle.spl_claims.specs.Traces.{IsNondegenerate}
-use Rattle.spl_claims.specs.Claims.{NoIdentityClaim, CentralClaim}
-use Rattle.spl_claims.specs.Laws.{ClaimsExclude}
-use Rattle.spl_claims.proofs.Exclusions.{claims_exclude}
-use Rattle.spl_claims.proofs.CentralSimple.{central_simple_by_trace_form}
-use Rattle.spl_claims.proofs.SplitCentralSimple.{split_is_central_simple}
+use Rattle.theory_tables.specs.Algebras.{HasIdentity, HasSmallCentre, IsCentralSimple}
+use Rattle.theory_tables.specs.Traces.{IsNondegenerate}
+use Rattle.theory_tables.specs.Claims.{NoIdentityClaim, CentralClaim}
+use Rattle.theory_tables.specs.Laws.{ClaimsExclude}
+use Rattle.theory_tables.proofs.Exclusions.{claims_exclude}
+use Rattle.theory_tables.proofs.CentralSimple.{central_simple_by_trace_form}
+use Rattle.theory_tables.proofs.SplitCentralSimple.{split_is_central_simple}
 use Rattle.spl_evidence.specs.declared.evidence.Evidence.{Evidence}
 use Rattle.spl_evidence.specs.declared.evidence.Evidence.TheVariants.{Triple as TripleEvidence, NoIdentity, Central, Ideal}
 use Rattle.spl_evidence.specs.Claim.{Claim}

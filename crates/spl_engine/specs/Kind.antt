@@ -3,12 +3,12 @@
 use Rattle.std.specs.Prelude.{◌↔◌, ◌≤◌, ℕ, List}
 use Rattle.theory_rings.specs.Ops.{Ops}
 use Rattle.theory_spaces.specs.Tuples.{IsTuple}
-use Rattle.spl_matrix.specs.Subspace.{InSpan}
+use Rattle.theory_tables.specs.Subspace.{InSpan}
 use Rattle.spl_algebra.specs.Algebra.{Structure, IsAssociative}
 use Rattle.spl_fraction.specs.Fraction.{Pair}
-use Rattle.spl_claims.specs.Algebras.{HasIdentity, HasSmallCentre, IsCentralSimple}
-use Rattle.spl_claims.specs.Traces.{InTraceRadical, IsNondegenerate}
-use Rattle.spl_claims.specs.Split.{IsSplit}
+use Rattle.theory_tables.specs.Algebras.{HasIdentity, HasSmallCentre, IsCentralSimple}
+use Rattle.theory_tables.specs.Traces.{InTraceRadical, IsNondegenerate}
+use Rattle.theory_tables.specs.Split.{IsSplit}
 use Rattle.spl_evidence.specs.declared.evidence.Evidence.{Evidence}
 use Rattle.spl_evidence.specs.declared.evidence.Evidence.TheVariants.{Triple, NoIdentity, Central, Ideal}
 use Rattle.spl_evidence.specs.Claim.{Claim}

@@ -1,7 +1,7 @@
 // The decision.
 ghost use Rattle.std.specs.Prelude.{◌≡◌, IfOk, MatchOption};
 ghost use Rattle.spl_algebra.specs.Algebra.{IsAssociative};
-ghost use Rattle.spl_claims.specs.Algebras.{HasIdentity, HasSmallCentre};
+ghost use Rattle.theory_tables.specs.Algebras.{HasIdentity, HasSmallCentre};
 ghost use Rattle.spl_table.specs.Table.{algebra_of, ops_of};
 ghost use Rattle.spl_engine.specs.Kind.{IsEvidence, HasNoFault};
 

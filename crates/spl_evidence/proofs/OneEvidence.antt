@@ -12,7 +12,7 @@ use Rattle.spl_text.specs.Text.{Lacks, IsNumber, line}
 use Rattle.spl_text.proofs.Words.{Lacks-from_test, Lacks-append, Lacks-decimal, number_unique, number_and_rest}
 use Rattle.spl_fraction.specs.Fraction.{Pair}
 use Rattle.spl_fraction.specs.FractionsOver.{fractions_over}
-use Rattle.spl_claims.specs.Claims.{AreMultipliers}
+use Rattle.theory_tables.specs.Claims.{AreMultipliers}
 use Rattle.spl_evidence.specs.declared.evidence.Evidence.{Evidence}
 use Rattle.spl_evidence.specs.declared.evidence.Evidence.TheVariants.{Triple, NoIdentity, Central, Ideal}
 use Rattle.spl_evidence.specs.Evidence.{Fits, fractions_text, tuple_line, multiplier_line, first_line, end_line, body, IsEvidenceText}

@@ -6,7 +6,7 @@ use Rattle.theory_spaces.specs.Tuples.{IsTuple}
 use Rattle.spl_text.specs.Text.{line}
 use Rattle.spl_fraction.specs.Fraction.{Pair}
 use Rattle.spl_fraction.specs.CanonicalText.{canonical_text}
-use Rattle.spl_claims.specs.Claims.{AreMultipliers}
+use Rattle.theory_tables.specs.Claims.{AreMultipliers}
 use Rattle.spl_evidence.specs.declared.evidence.Evidence.{Evidence}
 use Rattle.spl_evidence.specs.declared.evidence.Evidence.TheVariants.{Triple, NoIdentity, Central, Ideal}
 

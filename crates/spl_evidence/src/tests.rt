@@ -4,7 +4,7 @@ ghost use Rattle.theory_rings.specs.Ops.{IsElem};
 ghost use Rattle.theory_spaces.specs.Tuples.{IsTuple};
 ghost use Rattle.spl_fraction.specs.Fractions.{field_of};
 ghost use Rattle.spl_fraction.specs.FractionsOver.{fractions_over};
-ghost use Rattle.spl_claims.specs.Claims.{AreMultipliers};
+ghost use Rattle.theory_tables.specs.Claims.{AreMultipliers};
 
 use crate::evidence::Evidence;
 use crate::writing::write_evidence;

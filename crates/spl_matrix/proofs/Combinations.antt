@@ -3,13 +3,13 @@ use Rattle.std.proofs.Common.{◌≡◌, ◌≢◌, inl, inr, ℕ, ◌<◌, ◌�
 use Rattle.std.proofs.lemmas.Bool.{cases_eq}
 use Rattle.theory_rings.specs.Ops.{Ops, IsElem, FieldLaws}
 use Rattle.theory_rings.specs.Sum.{sum_of}
-use Rattle.spl_matrix.specs.Matrix.{entry}
+use Rattle.theory_tables.specs.Matrix.{entry}
 use Rattle.spl_matrix.specs.Elimination.{pivoted, Combines}
 use Rattle.theory_rings.proofs.Rings.Elements.{sum_of_congr, sum_of-elem}
 use Rattle.spl_matrix.proofs.Forms.{inv_in, new_lead, new_other}
 use Rattle.spl_matrix.proofs.ReducedBases.{cond_flip}
-use Rattle.spl_matrix.proofs.Terms.{add-zero, mul-one, zero-mul, add-mul, mul-inv, cond_yes, cond_no, cond_either}
-use Rattle.spl_matrix.proofs.Sums.{sum_of-add, mul-sum_of, sum_of_zeros, sum_of-delta_mul, sums_assoc, cancel}
+use Rattle.theory_tables.proofs.Terms.{add-zero, mul-one, zero-mul, add-mul, mul-inv, cond_yes, cond_no, cond_either}
+use Rattle.theory_tables.proofs.Sums.{sum_of-add, mul-sum_of, sum_of_zeros, sum_of-delta_mul, sums_assoc, cancel}
 
 module _ {E : Type 0} (o : Ops E) (L : FieldLaws o) where
   -- c times row m of the identity, times a column

@@ -4,12 +4,12 @@ use Rattle.std.proofs.lemmas.Bool.{cases_eq, cases_lt}
 use Rattle.std.proofs.lemmas.List.{get_or_append_left, get_or_push, length_push}
 use Rattle.theory_rings.specs.Ops.{Ops, IsElem, FieldLaws}
 use Rattle.theory_rings.specs.Sum.{at}
-use Rattle.spl_matrix.specs.Matrix.{entry}
+use Rattle.theory_tables.specs.Matrix.{entry}
 use Rattle.spl_matrix.specs.Elimination.{lead_of, reduced_by, pivoted_row, pivoted}
-use Rattle.spl_matrix.specs.Echelon.{IsReduced}
+use Rattle.theory_tables.specs.Echelon.{IsReduced}
 use Rattle.theory_rings.proofs.Sums.Lists.{get_or-table}
 use Rattle.spl_matrix.proofs.Pivots.{pivoted_row-same}
-use Rattle.spl_matrix.proofs.Terms.{add-zero, add-neg, mul-one, mul-zero, mul-inv, cond_yes, cond_no}
+use Rattle.theory_tables.proofs.Terms.{add-zero, add-neg, mul-one, mul-zero, mul-inv, cond_yes, cond_no}
 
 module _ {E : Type 0} (o : Ops E) (L : FieldLaws o) (h n : ℕ) (rows : List (List E)) (rows_in : (i j : ℕ) → IsElem o (entry o rows i j))
     (p r col : ℕ) (col_in : col < n) (p_in : p < h) (r_le : r ≤ p) (nonzero : entry o rows p col ≢ o.zero) where

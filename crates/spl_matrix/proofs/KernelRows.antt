@@ -11,13 +11,13 @@ use Rattle.theory_rings.proofs.Rings.RingLaws as ring
 use Rattle.theory_rings.proofs.Rings.Solver.{◌⊠◌, minus, unit, ring2}
 use Rattle.theory_rings.proofs.Sums.Lists.{length-table, get_or-table}
 use Rattle.theory_spaces.specs.Tuples.{IsTuple}
-use Rattle.spl_matrix.specs.Matrix.{entry, IsMatrix}
-use Rattle.spl_matrix.specs.Echelon.{IsReduced}
-use Rattle.spl_matrix.specs.Subspace.{InSpan, SameSpan, IsKilled, SpansKernel}
+use Rattle.theory_tables.specs.Matrix.{entry, IsMatrix}
+use Rattle.theory_tables.specs.Echelon.{IsReduced}
+use Rattle.theory_tables.specs.Subspace.{InSpan, SameSpan, IsKilled, SpansKernel}
 use Rattle.spl_matrix.specs.Spanning.{IsPlace, kernel_item, AreKernelRows}
-use Rattle.spl_matrix.proofs.Terms.{add-zero, add-neg, mul-zero, zero-mul, cond_yes, cond_no, cond_either}
-use Rattle.spl_matrix.proofs.Sums.{sum_of-add, mul-sum_of, sum_of_zeros, sum_of-delta_mul, sums_assoc, entry-elem, table_matrix, entry_table}
-use Rattle.spl_matrix.proofs.Spans.{combined, InSpan-by, InSpan-zero, InSpan-member, SameSpan-by, rows_in, IsKilled_trans, SameSpan_sym}
+use Rattle.theory_tables.proofs.Terms.{add-zero, add-neg, mul-zero, zero-mul, cond_yes, cond_no, cond_either}
+use Rattle.theory_tables.proofs.Sums.{sum_of-add, mul-sum_of, sum_of_zeros, sum_of-delta_mul, sums_assoc, entry-elem, table_matrix, entry_table}
+use Rattle.theory_tables.proofs.Spans.{combined, InSpan-by, InSpan-zero, InSpan-member, SameSpan-by, rows_in, IsKilled_trans, SameSpan_sym}
 use Rattle.spl_matrix.proofs.ReducedBases.{cond_flip}
 
 module _ {E : Type 0} (o : Ops E) (L : FieldLaws o) where

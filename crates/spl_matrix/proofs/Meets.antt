@@ -12,14 +12,14 @@ use Rattle.theory_rings.proofs.Sums.Lists.{length-table, get_or-table}
 use Rattle.theory_spaces.specs.Tuples.{IsTuple}
 use Rattle.theory_spaces.proofs.Families.{join, join-below, join-above}
 use Rattle.theory_spaces.proofs.Tuples.{at-table, IsTuple-table}
-use Rattle.spl_matrix.specs.Matrix.{entry, IsMatrix}
-use Rattle.spl_matrix.specs.Echelon.{IsReduced}
-use Rattle.spl_matrix.specs.Subspace.{InSpan, SameSpan, IsReducedBasis, SpansMeet}
+use Rattle.theory_tables.specs.Matrix.{entry, IsMatrix}
+use Rattle.theory_tables.specs.Echelon.{IsReduced}
+use Rattle.theory_tables.specs.Subspace.{InSpan, SameSpan, IsReducedBasis, SpansMeet}
 use Rattle.spl_matrix.specs.Spanning.{doubled_item, doubled, right_part}
-use Rattle.spl_matrix.proofs.Terms.{add-zero, add-neg, mul-zero, zero-mul, cond_yes, cond_no, cond_either}
-use Rattle.spl_matrix.proofs.Sums.{sum_of_zeros, mul-sum_of, entry-elem, table_matrix, entry_table}
-use Rattle.spl_matrix.proofs.Spans.{combined, combined_congr, InSpan-by, InSpan-member, InSpan_trans, sum_of-split}
-use Rattle.spl_matrix.proofs.Stacks.{entry-left, combined-stacked, combined-elem, join-elem}
+use Rattle.theory_tables.proofs.Terms.{add-zero, add-neg, mul-zero, zero-mul, cond_yes, cond_no, cond_either}
+use Rattle.theory_tables.proofs.Sums.{sum_of_zeros, mul-sum_of, entry-elem, table_matrix, entry_table}
+use Rattle.theory_tables.proofs.Spans.{combined, combined_congr, InSpan-by, InSpan-member, InSpan_trans, sum_of-split}
+use Rattle.theory_tables.proofs.Stacks.{entry-left, combined-stacked, combined-elem, join-elem}
 use Rattle.spl_matrix.proofs.ReducedBases.{weights-pivot}
 
 module _ {E : Type 0} (o : Ops E) (L : FieldLaws o) where

@@ -5,11 +5,11 @@ use Rattle.theory_rings.specs.Ops.{Ops, FieldLaws}
 use Rattle.theory_rings.specs.Sum.{table, at}
 use Rattle.theory_spaces.specs.Tuples.{IsTuple}
 use Rattle.theory_spaces.proofs.Tuples.{at-table}
-use Rattle.spl_matrix.specs.Matrix.{IsMatrix}
-use Rattle.spl_matrix.specs.Echelon.{IsReduced}
-use Rattle.spl_matrix.specs.Subspace.{InSpan, SameSpan, IsReducedBasis, SpansSum}
-use Rattle.spl_matrix.proofs.Spans.{combined, combined_congr}
-use Rattle.spl_matrix.proofs.Stacks.{spans_sum}
+use Rattle.theory_tables.specs.Matrix.{IsMatrix}
+use Rattle.theory_tables.specs.Echelon.{IsReduced}
+use Rattle.theory_tables.specs.Subspace.{InSpan, SameSpan, IsReducedBasis, SpansSum}
+use Rattle.theory_tables.proofs.Spans.{combined, combined_congr}
+use Rattle.theory_tables.proofs.Stacks.{spans_sum}
 use Rattle.spl_matrix.proofs.ReducedBases.{weights-pivot}
 
 module _ {E : Type 0} (o : Ops E) (L : FieldLaws o) where

@@ -10,10 +10,10 @@ use Rattle.theory_rings.proofs.Rings.Elements.{at-elem}
 use Rattle.theory_rings.proofs.Sums.Lists.{length-table, get_or-table}
 use Rattle.theory_spaces.specs.Tuples.{IsTuple}
 use Rattle.theory_spaces.proofs.Tuples.{IsTuple-table}
-use Rattle.spl_matrix.specs.Matrix.{entry, IsMatrix}
+use Rattle.theory_tables.specs.Matrix.{entry, IsMatrix}
 use Rattle.spl_matrix.specs.Elimination.{divided, lead_of, reduced_by, cleared_row, pivoted_row, pivoted}
-use Rattle.spl_matrix.proofs.Sums.{entry-elem}
-use Rattle.spl_matrix.proofs.Terms.{add-zero, zero-mul, neg-zero, cond_yes, cond_no}
+use Rattle.theory_tables.proofs.Sums.{entry-elem}
+use Rattle.theory_tables.proofs.Terms.{add-zero, zero-mul, neg-zero, cond_yes, cond_no}
 
 module _ {E : Type 0} (o : Ops E) where
   pub pivoted_row-same : (n : ℕ) (rows : List (List E)) (p r col i : ℕ) → i ≡ r → pivoted_row o n rows p r col i ≡ lead_of o n rows p col

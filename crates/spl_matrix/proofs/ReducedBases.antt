@@ -8,13 +8,13 @@ use Rattle.theory_rings.specs.Sum.{at}
 use Rattle.theory_rings.proofs.Rings.Elements.{at-elem, sum_of_congr}
 use Rattle.theory_spaces.specs.Tuples.{IsTuple}
 use Rattle.theory_spaces.proofs.Tuples.{IsTuple-ext}
-use Rattle.spl_matrix.specs.Matrix.{entry, IsMatrix}
-use Rattle.spl_matrix.specs.Echelon.{IsReduced}
-use Rattle.spl_matrix.specs.Subspace.{InSpan, SameSpan, IsReducedBasis, AreIndependent, SameSubspaceSameRows, ReducedBasisIsIndependent}
+use Rattle.theory_tables.specs.Matrix.{entry, IsMatrix}
+use Rattle.theory_tables.specs.Echelon.{IsReduced}
+use Rattle.theory_tables.specs.Subspace.{InSpan, SameSpan, IsReducedBasis, AreIndependent, SameSubspaceSameRows, ReducedBasisIsIndependent}
 use Rattle.spl_matrix.specs.Spanning.{IsLeadingPlace}
-use Rattle.spl_matrix.proofs.Terms.{mul-zero, zero-mul, cond_yes, cond_no, cond_either}
-use Rattle.spl_matrix.proofs.Sums.{sum_of_zeros, sum_of-delta_mul, entry-elem}
-use Rattle.spl_matrix.proofs.Spans.{combined, combined_congr, rows_in, SameSpan_sym}
+use Rattle.theory_tables.proofs.Terms.{mul-zero, zero-mul, cond_yes, cond_no, cond_either}
+use Rattle.theory_tables.proofs.Sums.{sum_of_zeros, sum_of-delta_mul, entry-elem}
+use Rattle.theory_tables.proofs.Spans.{combined, combined_congr, rows_in, SameSpan_sym}
 
 -- some of n numbers is j, or none is
 pub find_place : (n : ℕ) (p : ℕ → ℕ) (j : ℕ) → ((s : ℕ) × (s < n) × (p s ≡ j)) ⊎ ((s : ℕ) → s < n → p s ≢ j)

@@ -7,17 +7,17 @@ use Rattle.theory_rings.specs.Elements.{Elem, Elem-path, elements}
 use Rattle.theory_rings.specs.Sum.{sum_of, at}
 use Rattle.theory_rings.proofs.Rings.Elements.{at-elem, sum_of_congr}
 use Rattle.theory_spaces.proofs.Decide.{NotAllZero, pivot}
-use Rattle.spl_matrix.specs.Matrix.{entry, IsMatrix}
-use Rattle.spl_matrix.specs.Echelon.{IsEchelon}
-use Rattle.spl_matrix.specs.Inverse.{IsInverse, AreDependent}
-use Rattle.spl_matrix.specs.Subspace.{InSpan, IsReducedBasis}
+use Rattle.theory_tables.specs.Matrix.{entry, IsMatrix}
+use Rattle.theory_tables.specs.Echelon.{IsEchelon}
+use Rattle.theory_tables.specs.Inverse.{IsInverse, AreDependent}
+use Rattle.theory_tables.specs.Subspace.{InSpan, IsReducedBasis}
 use Rattle.theory_spaces.specs.Tuples.{IsTuple}
 use Rattle.spl_matrix.proofs.Combinations.{sum_of-mul_delta}
-use Rattle.spl_matrix.proofs.Inverses.{IsInverse-left}
+use Rattle.theory_tables.proofs.Inverses.{IsInverse-left}
 use Rattle.spl_matrix.proofs.ReducedBases.{cond_flip, combined-pivot}
-use Rattle.spl_matrix.proofs.Spans.{combined, InSpan-by}
-use Rattle.spl_matrix.proofs.Sums.{sum_of_zeros, sums_assoc, entry-elem, entry_table}
-use Rattle.spl_matrix.proofs.Terms.{zero-mul, cond_yes}
+use Rattle.theory_tables.proofs.Spans.{combined, InSpan-by}
+use Rattle.theory_tables.proofs.Sums.{sum_of_zeros, sums_assoc, entry-elem, entry_table}
+use Rattle.theory_tables.proofs.Terms.{zero-mul, cond_yes}
 
 -- n numbers below n that go up are 0, 1, .., n − 1
 goes_up-id : (n : ℕ) (p : ℕ → ℕ) → ((s : ℕ) → s < n → p s < n) → ((s t : ℕ) → s < t → t < n → p s < p t) → (s : ℕ) → s < n → p s ≡ s

@@ -7,17 +7,17 @@ use Rattle.theory_rings.proofs.Rings.Elements.{at-elem, sum_of_congr}
 use Rattle.theory_rings.proofs.Sums.Lists.{get_or-table, length-table, All-table, table_congr}
 use Rattle.theory_spaces.specs.Tuples.{IsTuple}
 use Rattle.theory_spaces.proofs.Tuples.{IsTuple-table}
-use Rattle.spl_matrix.specs.Matrix.{entry, product, IsMatrix}
+use Rattle.theory_tables.specs.Matrix.{entry, product, IsMatrix}
 use Rattle.spl_matrix.specs.Elimination.{lead_of, reduced_by, pivoted_row, pivoted, IsStep, Combines, IsEliminated, augmented_item, augmented, columns}
-use Rattle.spl_matrix.specs.Echelon.{IsReduced, IsEchelon, IsInvertible}
-use Rattle.spl_matrix.specs.Subspace.{SameSpan}
+use Rattle.theory_tables.specs.Echelon.{IsReduced, IsEchelon, IsInvertible}
+use Rattle.theory_tables.specs.Subspace.{SameSpan}
 use Rattle.spl_matrix.proofs.Combinations.{sum_of-mul_delta, Combines-refl, Combines-trans, pivoted_forth, pivoted_back}
 use Rattle.spl_matrix.proofs.Forms.{form_after, form_skipped}
-use Rattle.spl_matrix.proofs.Inverses.{IsInverse-left}
+use Rattle.theory_tables.proofs.Inverses.{IsInverse-left}
 use Rattle.spl_matrix.proofs.Pivots.{lead_of-tuple}
-use Rattle.spl_matrix.proofs.Spans.{InSpan-by, SameSpan-by}
-use Rattle.spl_matrix.proofs.Terms.{cond_yes, cond_no, cond_either}
-use Rattle.spl_matrix.proofs.Sums.{entry-elem, table_matrix, entry_table}
+use Rattle.theory_tables.proofs.Spans.{InSpan-by, SameSpan-by}
+use Rattle.theory_tables.proofs.Terms.{cond_yes, cond_no, cond_either}
+use Rattle.theory_tables.proofs.Sums.{entry-elem, table_matrix, entry_table}
 
 module _ {E : Type 0} (o : Ops E) (L : FieldLaws o) where
   pivoted-shape : (h n : ℕ) (rows : List (List E)) (p r col : ℕ) → IsMatrix o n rows → IsMatrix o n (pivoted o h n rows p r col)

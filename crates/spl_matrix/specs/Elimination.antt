@@ -2,8 +2,8 @@
 use Rattle.std.specs.Prelude.{◌≡◌, ◌≢◌, ◌⊎◌, ◌+◌, ◌<◌, ◌≤◌, ℕ, List, [], ◌∷◌, ◌++◌, length, get_or, cond, nat_eq, nat_lt}
 use Rattle.theory_rings.specs.Ops.{Ops, IsElem}
 use Rattle.theory_rings.specs.Sum.{sum_of, table, at}
-use Rattle.spl_matrix.specs.Matrix.{entry, IsMatrix}
-use Rattle.spl_matrix.specs.Echelon.{IsReduced}
+use Rattle.theory_tables.specs.Matrix.{entry, IsMatrix}
+use Rattle.theory_tables.specs.Echelon.{IsReduced}
 
 module _ {E : Type 0} (o : Ops E) where
   -- the row divided by its item in column col

@@ -3,7 +3,7 @@ use Rattle.std.specs.Prelude.{ℕ, List}
 use Rattle.theory_rings.specs.Ops.{Ops}
 use Rattle.spl_matrix.specs.declared.solve.Solution.{Solution}
 use Rattle.spl_matrix.specs.declared.solve.Solution.TheVariants.{Solved, Refuted}
-use Rattle.spl_matrix.specs.Solve.{IsSolved, IsRefuted}
+use Rattle.theory_tables.specs.Solve.{IsSolved, IsRefuted}
 
 -- it solves the system, or refutes it
 abbrev pub IsSolution : {F E : Type 0} → Ops E → ℕ → ℕ → List (List E) → List E → Solution F E → Type 0

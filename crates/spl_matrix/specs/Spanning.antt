@@ -2,7 +2,7 @@
 use Rattle.std.specs.Prelude.{◌≡◌, ◌≢◌, ◌⊎◌, ◌+◌, ◌-◌, ◌<◌, ◌≤◌, ℕ, Bool, List, [], length, get_or, cond, nat_eq, nat_lt}
 use Rattle.theory_rings.specs.Ops.{Ops}
 use Rattle.theory_rings.specs.Sum.{table, at}
-use Rattle.spl_matrix.specs.Matrix.{entry}
+use Rattle.theory_tables.specs.Matrix.{entry}
 
 -- x is the place of j in the list, or the length of the list where j isn't in it
 pub record IsPlace (xs : List ℕ) (j x : ℕ) : Type 0 where

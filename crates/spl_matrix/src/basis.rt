@@ -3,9 +3,9 @@ ghost use Rattle.std.specs.Prelude.{◌≡◌, ◌≢◌, ◌<◌, ◌≤◌, �
 ghost use Rattle.theory_rings.specs.Ops.{IsElem};
 ghost use Rattle.theory_rings.specs.Sum.{sum_of, table, at};
 ghost use Rattle.theory_spaces.specs.Tuples.{IsTuple};
-ghost use Rattle.spl_matrix.specs.Matrix.{entry, IsMatrix};
-ghost use Rattle.spl_matrix.specs.Echelon.{IsReduced};
-ghost use Rattle.spl_matrix.specs.Subspace.{SameSpan, IsReducedBasis};
+ghost use Rattle.theory_tables.specs.Matrix.{entry, IsMatrix};
+ghost use Rattle.theory_tables.specs.Echelon.{IsReduced};
+ghost use Rattle.theory_tables.specs.Subspace.{SameSpan, IsReducedBasis};
 ghost use Rattle.spl_matrix.specs.Spanning.{IsLeadingPlace};
 
 use crate::matrix::Indices;

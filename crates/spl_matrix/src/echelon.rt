@@ -3,8 +3,8 @@ ghost use Rattle.std.specs.Prelude.{◌≡◌, ◌≢◌, ◌+◌, ◌^◌, ◌<
 ghost use Rattle.theory_rings.specs.Ops.{IsElem};
 ghost use Rattle.theory_rings.specs.Sum.{sum_of, table, at};
 ghost use Rattle.theory_spaces.specs.Tuples.{IsTuple};
-ghost use Rattle.spl_matrix.specs.Matrix.{entry, IsMatrix, width_of};
-ghost use Rattle.spl_matrix.specs.Echelon.{IsEchelon};
+ghost use Rattle.theory_tables.specs.Matrix.{entry, IsMatrix, width_of};
+ghost use Rattle.theory_tables.specs.Echelon.{IsEchelon};
 ghost use Rattle.spl_matrix.specs.Elimination.{columns};
 
 use crate::elimination::{augmented_of, eliminate};

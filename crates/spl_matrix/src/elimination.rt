@@ -3,7 +3,7 @@ ghost use Rattle.std.specs.Prelude.{◌≡◌, ◌≢◌, ◌+◌, ◌^◌, ◌<
 ghost use Rattle.theory_rings.specs.Ops.{IsElem};
 ghost use Rattle.theory_rings.specs.Sum.{table, at};
 ghost use Rattle.theory_spaces.specs.Tuples.{IsTuple};
-ghost use Rattle.spl_matrix.specs.Matrix.{entry, IsMatrix};
+ghost use Rattle.theory_tables.specs.Matrix.{entry, IsMatrix};
 ghost use Rattle.spl_matrix.specs.Elimination.{cleared_row, pivoted, IsStep, IsEliminated, augmented_item, augmented};
 
 use crate::matrix::Indices;

@@ -1,8 +1,8 @@
 // Inverses of square matrices.
 ghost use Rattle.std.specs.Prelude.{◌≡◌, ◌+◌, ◌^◌, ◌<◌, ◌↔◌, List, length, IfOk, IfSome, All};
 ghost use Rattle.theory_rings.specs.Ops.{IsElem};
-ghost use Rattle.spl_matrix.specs.Matrix.{width_of, IsMatrix};
-ghost use Rattle.spl_matrix.specs.Inverse.{IsInverse, AreDependent};
+ghost use Rattle.theory_tables.specs.Matrix.{width_of, IsMatrix};
+ghost use Rattle.theory_tables.specs.Inverse.{IsInverse, AreDependent};
 
 use crate::echelon::echelon_of;
 use crate::matrix::Matrix;

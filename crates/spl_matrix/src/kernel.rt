@@ -3,8 +3,8 @@ ghost use Rattle.std.specs.Prelude.{◌≡◌, ◌+◌, ◌<◌, ◌≤◌, ℕ,
 ghost use Rattle.theory_rings.specs.Ops.{IsElem};
 ghost use Rattle.theory_rings.specs.Sum.{table};
 ghost use Rattle.theory_spaces.specs.Tuples.{IsTuple};
-ghost use Rattle.spl_matrix.specs.Matrix.{IsMatrix, width_of};
-ghost use Rattle.spl_matrix.specs.Subspace.{IsSubspace, SpansKernel};
+ghost use Rattle.theory_tables.specs.Matrix.{IsMatrix, width_of};
+ghost use Rattle.theory_tables.specs.Subspace.{IsSubspace, SpansKernel};
 ghost use Rattle.spl_matrix.specs.Spanning.{IsPlace, kernel_item, AreKernelRows};
 
 use crate::basis::basis_of;

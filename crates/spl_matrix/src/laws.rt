@@ -1,6 +1,6 @@
 // Laws of linear systems and subspaces.
-ghost use Rattle.spl_matrix.specs.Solve.{NotBoth};
-ghost use Rattle.spl_matrix.specs.Subspace.{SameSubspaceSameRows, ReducedBasisIsIndependent};
+ghost use Rattle.theory_tables.specs.Solve.{NotBoth};
+ghost use Rattle.theory_tables.specs.Subspace.{SameSubspaceSameRows, ReducedBasisIsIndependent};
 
 use spl_field::field::Field;
 

@@ -1,7 +1,7 @@
 // Matrices, as lists of rows of one length, and lists of indices.
 ghost use Rattle.std.specs.Prelude.{◌≡◌, ◌<◌, ◌≤◌, ◌↔◌, List, [], ◌∷◌, ◌++◌, length, IfOk, IfSome, OnOk, OnErr, slice_index_or, All, take};
 ghost use Rattle.theory_rings.specs.Ops.{IsElem};
-ghost use Rattle.spl_matrix.specs.Matrix.{width_of, trace_of, IsMatrix, IsRectangular};
+ghost use Rattle.theory_tables.specs.Matrix.{width_of, trace_of, IsMatrix, IsRectangular};
 
 use spl_field::field::{Field, NoMemory};
 use spl_field::list::Vector;
@@ -76,7 +76,7 @@ impl<F: Field> Model for Matrix<F> {
 
     ghost Value = { List (List F.Elem) };
 
-    ghost use Rattle.spl_matrix.specs.Matrix.{IsRectangular};
+    ghost use Rattle.theory_tables.specs.Matrix.{IsRectangular};
 
     ghost view = { λ m. m.rows.items };
 

@@ -3,8 +3,8 @@ ghost use Rattle.std.specs.Prelude.{◌≡◌, ◌+◌, ◌-◌, ◌^◌, ◌<�
 ghost use Rattle.theory_rings.specs.Ops.{IsElem};
 ghost use Rattle.theory_rings.specs.Sum.{table, at};
 ghost use Rattle.theory_spaces.specs.Tuples.{IsTuple};
-ghost use Rattle.spl_matrix.specs.Matrix.{entry, IsMatrix};
-ghost use Rattle.spl_matrix.specs.Subspace.{IsReducedBasis, SpansMeet};
+ghost use Rattle.theory_tables.specs.Matrix.{entry, IsMatrix};
+ghost use Rattle.theory_tables.specs.Subspace.{IsReducedBasis, SpansMeet};
 ghost use Rattle.spl_matrix.specs.Spanning.{doubled_item, doubled, right_part};
 
 use crate::basis::basis_of;

@@ -2,9 +2,9 @@
 ghost use Rattle.std.specs.Prelude.{◌≡◌, ◌<◌, ℕ, List, [], length, IfOk, get_or, All};
 ghost use Rattle.theory_rings.specs.Ops.{IsElem};
 ghost use Rattle.theory_spaces.specs.Tuples.{IsTuple};
-ghost use Rattle.spl_matrix.specs.Matrix.{IsMatrix};
-ghost use Rattle.spl_matrix.specs.Echelon.{IsReduced};
-ghost use Rattle.spl_matrix.specs.Subspace.{SameSpan};
+ghost use Rattle.theory_tables.specs.Matrix.{IsMatrix};
+ghost use Rattle.theory_tables.specs.Echelon.{IsReduced};
+ghost use Rattle.theory_tables.specs.Subspace.{SameSpan};
 
 use crate::elimination::eliminate;
 use crate::matrix::{Indices, Matrix};

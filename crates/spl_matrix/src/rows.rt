@@ -3,7 +3,7 @@ ghost use Rattle.std.specs.Prelude.{◌≡◌, ◌≢◌, ◌<◌, List, [], ◌
 ghost use Rattle.theory_rings.specs.Ops.{IsElem};
 ghost use Rattle.theory_rings.specs.Sum.{table, at};
 ghost use Rattle.theory_spaces.specs.Tuples.{IsTuple};
-ghost use Rattle.spl_matrix.specs.Matrix.{dot};
+ghost use Rattle.theory_tables.specs.Matrix.{dot};
 ghost use Rattle.spl_matrix.specs.Elimination.{divided, reduced_by};
 
 use spl_field::field::{Field, NoMemory};

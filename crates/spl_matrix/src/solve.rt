@@ -3,10 +3,10 @@ ghost use Rattle.std.specs.Prelude.{◌≡◌, ◌≢◌, ◌+◌, ◌^◌, ◌<
 ghost use Rattle.theory_rings.specs.Ops.{IsElem};
 ghost use Rattle.theory_rings.specs.Sum.{table, at};
 ghost use Rattle.theory_spaces.specs.Tuples.{IsTuple};
-ghost use Rattle.spl_matrix.specs.Matrix.{entry, image, width_of, IsMatrix};
-ghost use Rattle.spl_matrix.specs.Echelon.{IsEchelon};
+ghost use Rattle.theory_tables.specs.Matrix.{entry, image, width_of, IsMatrix};
+ghost use Rattle.theory_tables.specs.Echelon.{IsEchelon};
 ghost use Rattle.spl_matrix.specs.Solution.{IsSolution};
-ghost use Rattle.spl_matrix.specs.Solve.{IsSolved, IsRefuted, IsScattered};
+ghost use Rattle.theory_tables.specs.Solve.{IsSolved, IsRefuted, IsScattered};
 
 use crate::echelon::{Echelon, echelon_of};
 use crate::matrix::Matrix;

@@ -2,9 +2,9 @@
 ghost use Rattle.std.specs.Prelude.{◌≡◌, ◌<◌, ◌≤◌, ◌↔◌, ℕ, List, [], length, IfOk, IsTrue, All};
 ghost use Rattle.theory_rings.specs.Ops.{IsElem};
 ghost use Rattle.theory_spaces.specs.Tuples.{IsTuple};
-ghost use Rattle.spl_matrix.specs.Matrix.{IsMatrix};
-ghost use Rattle.spl_matrix.specs.Echelon.{IsReduced};
-ghost use Rattle.spl_matrix.specs.Subspace.{InSpan, SameSpan, IsReducedBasis, IsSubspace, SpansSum, SpansMeet};
+ghost use Rattle.theory_tables.specs.Matrix.{IsMatrix};
+ghost use Rattle.theory_tables.specs.Echelon.{IsReduced};
+ghost use Rattle.theory_tables.specs.Subspace.{InSpan, SameSpan, IsReducedBasis, IsSubspace, SpansSum, SpansMeet};
 
 use crate::basis::{basis_of, gathered, is_combination, pivots_of};
 use crate::matrix::Matrix;
@@ -24,7 +24,7 @@ pub struct Subspace<F: Field> {
 }
 
 impl<F: Field> Model for Subspace<F> {
-    ghost use Rattle.spl_matrix.specs.Subspace.{Rows};
+    ghost use Rattle.theory_tables.specs.Subspace.{Rows};
 
     ghost Value = { Rows F.Elem };
 

@@ -2,7 +2,7 @@
 ghost use Rattle.std.specs.Prelude.{◌≡◌, List, length, IfOk, All};
 ghost use Rattle.theory_rings.specs.Ops.{IsElem};
 ghost use Rattle.theory_spaces.specs.Tuples.{IsTuple};
-ghost use Rattle.spl_matrix.specs.Matrix.{width_of, IsMatrix};
+ghost use Rattle.theory_tables.specs.Matrix.{width_of, IsMatrix};
 
 mod boxed;
 mod subspaces;

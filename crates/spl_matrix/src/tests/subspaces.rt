@@ -1,6 +1,6 @@
 // Subspaces and kernels.
 ghost use Rattle.std.specs.Prelude.{◌≡◌, IfOk};
-ghost use Rattle.spl_matrix.specs.Subspace.{IsSubspace};
+ghost use Rattle.theory_tables.specs.Subspace.{IsSubspace};
 
 use crate::matrix::Matrix;
 use crate::subspace::Subspace;

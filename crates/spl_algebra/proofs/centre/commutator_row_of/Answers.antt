@@ -1,5 +1,5 @@
 use Rattle.std.proofs.Common.{◌+◌, ◌*◌, length, ◌∙◌, ap₂}
-use Rattle.spl_matrix.proofs.Sums.{table_step, read_at}
+use Rattle.theory_tables.proofs.Sums.{table_step, read_at}
 use Rattle.spl_algebra.specs.Contractions.{commutator_item}
 use Rattle.spl_algebra.proofs.Steps.{IsTuple-push}
 use Rattle.spl_algebra.proofs.Contractions.{constant_within}

@@ -1,6 +1,6 @@
 use Rattle.std.proofs.Common.{◌≡◌, ◌/◌, ◌%◌}
 use Rattle.theory_rings.specs.Sum.{table}
-use Rattle.spl_matrix.specs.Matrix.{IsMatrix}
+use Rattle.theory_tables.specs.Matrix.{IsMatrix}
 use Rattle.spl_algebra.specs.Contractions.{commutator_item}
 use Rattle.spl_algebra.proofs.centre.commutator_rows_of.Given as goal
 

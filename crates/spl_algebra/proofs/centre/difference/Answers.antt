@@ -1,6 +1,6 @@
 use Rattle.std.proofs.Common.{◌≡◌, refl, sym, ◌∙◌, ap}
 use Rattle.std.proofs.lemmas.Result.{IfOk-weaker}
-use Rattle.spl_matrix.proofs.Terms.{neg-zero}
+use Rattle.theory_tables.proofs.Terms.{neg-zero}
 use Rattle.spl_algebra.proofs.Terms.{add-zero}
 use Rattle.spl_algebra.proofs.centre.difference.Goals as goal
 

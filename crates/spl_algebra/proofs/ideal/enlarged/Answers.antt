@@ -1,5 +1,5 @@
 use Rattle.std.proofs.Common.{ℕ, List, length, subst, arith}
-use Rattle.spl_matrix.specs.Matrix.{IsMatrix}
+use Rattle.theory_tables.specs.Matrix.{IsMatrix}
 use Rattle.spl_algebra.specs.Multiples.{HoldsMultiples}
 use Rattle.spl_algebra.proofs.Multiples.{HoldsMultiples-same}
 use Rattle.spl_algebra.proofs.ideal.enlarged.Goals as goal

@@ -1,6 +1,6 @@
 use Rattle.std.proofs.Common.{◌∷◌, ◌++◌, [], sym, ◌∙◌, ap}
 use Rattle.theory_spaces.specs.Tuples.{IsTuple}
-use Rattle.spl_matrix.proofs.Sums.{All_step}
+use Rattle.theory_tables.proofs.Sums.{All_step}
 use Rattle.spl_algebra.proofs.Multiples.{AddsMultiples-none, AddsMultiples-push}
 use Rattle.spl_algebra.proofs.ideal.push_multiples.Goals as goal
 

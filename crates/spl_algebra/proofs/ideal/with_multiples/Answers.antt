@@ -1,5 +1,5 @@
 use Rattle.std.proofs.Common.{◌≡◌, ◌<◌, ◌∙◌, [], List, length, ap, get_or, subst}
-use Rattle.spl_matrix.proofs.Sums.{row_at}
+use Rattle.theory_tables.proofs.Sums.{row_at}
 use Rattle.spl_algebra.specs.Multiples.{AddsMultiples}
 use Rattle.spl_algebra.proofs.Multiples.{HoldsMultiples-none, HoldsMultiples-more}
 use Rattle.spl_algebra.proofs.ideal.with_multiples.Goals as goal

@@ -1,6 +1,6 @@
 use Rattle.std.proofs.Common.{◌≡◌, arith, ◌*◌, ◌+◌}
 use Rattle.theory_spaces.specs.Tuples.{IsTuple}
-use Rattle.spl_matrix.proofs.Sums.{All_step}
+use Rattle.theory_tables.proofs.Sums.{All_step}
 use Rattle.spl_algebra.proofs.IdentityRows.{identity_system}
 use Rattle.spl_algebra.proofs.identity.system.Goals as goal
 

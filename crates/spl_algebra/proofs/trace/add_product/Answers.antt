@@ -1,5 +1,5 @@
 use Rattle.std.proofs.Common.{refl, ◌∙◌}
-use Rattle.spl_matrix.proofs.Spans.{add_zero_left, add_zero_right}
+use Rattle.theory_tables.proofs.Spans.{add_zero_left, add_zero_right}
 use Rattle.spl_algebra.proofs.trace.add_product.Goals as goal
 
 pub returns-then-eq-clause-value : goal.returns-then-eq-clause-value

@@ -1,6 +1,6 @@
 use Rattle.std.proofs.Common.{◌+◌, ◌*◌, ◌<◌, length}
 use Rattle.theory_spaces.specs.Tuples.{constant}
-use Rattle.spl_matrix.proofs.Sums.{sum_step, read_at}
+use Rattle.theory_tables.proofs.Sums.{sum_step, read_at}
 use Rattle.spl_algebra.proofs.Contractions.{constant_within}
 use Rattle.spl_algebra.proofs.trace.basis_trace_of.Goals as goal
 

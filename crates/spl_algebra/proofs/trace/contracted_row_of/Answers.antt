@@ -1,5 +1,5 @@
 use Rattle.std.proofs.Common.{◌+◌, ◌*◌, ◌<◌, length, arith}
-use Rattle.spl_matrix.proofs.Sums.{table_step}
+use Rattle.theory_tables.proofs.Sums.{table_step}
 use Rattle.spl_algebra.specs.Contractions.{contracted}
 use Rattle.spl_algebra.proofs.Steps.{IsTuple-push}
 use Rattle.spl_algebra.proofs.trace.contracted_row_of.Goals as goal

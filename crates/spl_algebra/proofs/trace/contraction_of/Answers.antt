@@ -1,6 +1,6 @@
 use Rattle.std.proofs.Common.{◌*◌, ◌<◌, length, arith}
 use Rattle.theory_spaces.specs.Tuples.{IsTuple}
-use Rattle.spl_matrix.proofs.Sums.{table_step, All_step}
+use Rattle.theory_tables.proofs.Sums.{table_step, All_step}
 use Rattle.spl_algebra.specs.Contractions.{contracted_row}
 use Rattle.spl_algebra.proofs.trace.contraction_of.Goals as goal
 

@@ -1,6 +1,6 @@
 use Rattle.std.proofs.Common.{◌≡◌, ◌*◌, length}
 use Rattle.theory_rings.specs.Sum.{table}
-use Rattle.spl_matrix.specs.Matrix.{IsMatrix}
+use Rattle.theory_tables.specs.Matrix.{IsMatrix}
 use Rattle.spl_algebra.specs.Contractions.{contracted_row}
 use Rattle.spl_algebra.proofs.trace.contraction_of.Given as goal
 

@@ -1,6 +1,6 @@
 use Rattle.std.proofs.Common.{◌≡◌, length}
 use Rattle.spl_field.specs.SmallField.{small_ops}
-use Rattle.spl_matrix.specs.Matrix.{IsMatrix}
+use Rattle.theory_tables.specs.Matrix.{IsMatrix}
 use Rattle.spl_bench.proofs.matrices.matrix.Given as goal
 
 abbrev pub invariant-loop : goal.invariant-loop

@@ -1,4 +1,4 @@
-use Rattle.spl_claims.proofs.Exclusions.{claims_exclude}
+use Rattle.theory_tables.proofs.Exclusions.{claims_exclude}
 use Rattle.spl_centre.proofs.identity.identity_of.Goals as goal
 
 pub unreachable-requires : goal.unreachable-requires

@@ -1,5 +1,5 @@
 use Rattle.std.proofs.Common.{◌++◌, ◌∷◌, [], ◌∙◌, ap, subst}
-use Rattle.spl_matrix.specs.Subspace.{SameSpan}
+use Rattle.theory_tables.specs.Subspace.{SameSpan}
 use Rattle.spl_centre.proofs.Multiples.{span_of_one}
 use Rattle.spl_centre.proofs.identity.multiples_of.Goals as goal
 

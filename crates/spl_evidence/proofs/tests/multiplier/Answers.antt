@@ -2,7 +2,7 @@ use Rattle.std.proofs.Common.{◌≢◌, ℕ, zero, suc, ◌<◌, ◌≤◌, Lis
 use Rattle.theory_rings.specs.Ops.{Ops, IsElem, FieldLaws}
 use Rattle.spl_fraction.specs.Fraction.{Pair}
 use Rattle.spl_fraction.specs.FractionsOver.{fractions_over, fractions_laws}
-use Rattle.spl_claims.specs.Claims.{AreMultipliers}
+use Rattle.theory_tables.specs.Claims.{AreMultipliers}
 use Rattle.spl_evidence.proofs.tests.multiplier.Goals as goal
 
 -- what holds of the one item

@@ -1,8 +1,8 @@
 use Rattle.std.proofs.Common.{◌≡◌, ℕ, List, length, take, sym, ap, ◌∙◌, subst}
-use Rattle.spl_matrix.specs.Echelon.{IsReduced}
-use Rattle.spl_matrix.specs.Subspace.{SameSpan}
-use Rattle.spl_matrix.proofs.Spans.{SameSpan_trans}
-use Rattle.spl_matrix.proofs.PivotRows.{kept_same}
+use Rattle.theory_tables.specs.Echelon.{IsReduced}
+use Rattle.theory_tables.specs.Subspace.{SameSpan}
+use Rattle.theory_tables.proofs.Spans.{SameSpan_trans}
+use Rattle.theory_tables.proofs.PivotRows.{kept_same}
 use Rattle.spl_matrix.proofs.basis.basis_of.Goals as goal
 
 pub returns-clause-same : goal.returns-clause-same

@@ -1,7 +1,7 @@
 use Rattle.std.proofs.Common.{◌≡◌}
 use Rattle.theory_rings.specs.Ops.{IsElem}
 use Rattle.theory_rings.specs.Sum.{sum_of, at}
-use Rattle.spl_matrix.specs.Matrix.{entry}
+use Rattle.theory_tables.specs.Matrix.{entry}
 use Rattle.spl_matrix.proofs.basis.combined_item.Given as goal
 
 abbrev pub invariant-loop-i : goal.invariant-loop-i

@@ -1,6 +1,6 @@
 use Rattle.std.proofs.Common.{◌≡◌, ℕ, ◌<◌, length}
 use Rattle.theory_rings.specs.Sum.{sum_of, at}
-use Rattle.spl_matrix.specs.Matrix.{entry}
+use Rattle.theory_tables.specs.Matrix.{entry}
 use Rattle.spl_matrix.proofs.basis.is_combination.Given as goal
 
 abbrev pub invariant-loop-j : goal.invariant-loop-j

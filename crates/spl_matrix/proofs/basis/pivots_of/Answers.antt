@@ -1,8 +1,8 @@
 use Rattle.std.proofs.Common.{◌≡◌, ◌+◌, ◌<◌, List, [], length, get_or, ap, ◌∙◌, subst, arith}
 use Rattle.std.proofs.lemmas.List.{length_push}
 use Rattle.spl_matrix.specs.Spanning.{IsLeadingPlace}
-use Rattle.spl_matrix.proofs.Sums.{row_at}
-use Rattle.spl_matrix.proofs.Spans.{grow_at}
+use Rattle.theory_tables.proofs.Sums.{row_at}
+use Rattle.theory_tables.proofs.Spans.{grow_at}
 use Rattle.spl_matrix.proofs.ReducedBases.{leading_pivots}
 use Rattle.spl_matrix.proofs.basis.pivots_of.Goals as goal
 

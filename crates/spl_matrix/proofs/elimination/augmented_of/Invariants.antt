@@ -1,6 +1,6 @@
 use Rattle.std.proofs.Common.{◌≡◌, ◌+◌, [], length, get_or}
 use Rattle.theory_rings.specs.Sum.{table}
-use Rattle.spl_matrix.specs.Matrix.{IsMatrix}
+use Rattle.theory_tables.specs.Matrix.{IsMatrix}
 use Rattle.spl_matrix.specs.Elimination.{augmented_item}
 use Rattle.spl_matrix.proofs.elimination.augmented_of.Given as goal
 

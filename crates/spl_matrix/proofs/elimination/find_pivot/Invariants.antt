@@ -1,5 +1,5 @@
 use Rattle.std.proofs.Common.{◌≡◌, ℕ, ◌<◌, ◌≤◌}
-use Rattle.spl_matrix.specs.Matrix.{entry}
+use Rattle.theory_tables.specs.Matrix.{entry}
 use Rattle.spl_matrix.proofs.elimination.find_pivot.Given as goal
 
 abbrev pub invariant-loop-i : goal.invariant-loop-i

@@ -4,7 +4,7 @@ use Rattle.std.proofs.lemmas.List.{length-set, get_or_default}
 use Rattle.theory_spaces.specs.Tuples.{IsTuple}
 use Rattle.spl_matrix.specs.Elimination.{lead_of}
 use Rattle.spl_matrix.proofs.Pivots.{taken_row, pivoted_by, lead_by, lead_of-tuple}
-use Rattle.spl_matrix.proofs.Terms.{cond_either}
+use Rattle.theory_tables.proofs.Terms.{cond_either}
 use Rattle.spl_matrix.proofs.elimination.pivot.Goals as goal
 
 pub clear_column-requires-clause-shape : goal.clear_column-requires-clause-shape

@@ -1,8 +1,8 @@
 use Rattle.std.proofs.Common.{ℕ, ◌<◌, List, length, get_or, subst}
 use Rattle.std.proofs.lemmas.Result.{IfOk-weaker}
-use Rattle.spl_matrix.specs.Subspace.{Rows, SameSpan, SpansKernel}
+use Rattle.theory_tables.specs.Subspace.{Rows, SameSpan, SpansKernel}
 use Rattle.spl_matrix.specs.Spanning.{IsPlace, AreKernelRows}
-use Rattle.spl_matrix.proofs.Spans.{SameSpan_trans}
+use Rattle.theory_tables.proofs.Spans.{SameSpan_trans}
 use Rattle.spl_matrix.proofs.KernelRows.{vectors, same_vectors, spans_kernel}
 use Rattle.spl_matrix.proofs.kernel.kernel_of.Goals as goal
 

@@ -1,7 +1,7 @@
 use Rattle.std.proofs.Common.{◌≡◌, ℕ, List, subst, sym, arith}
 use Rattle.std.proofs.lemmas.List.Elements.{All-nil}
 use Rattle.theory_spaces.specs.Tuples.{IsTuple}
-use Rattle.spl_matrix.specs.Matrix.{IsMatrix}
+use Rattle.theory_tables.specs.Matrix.{IsMatrix}
 use Rattle.spl_matrix.specs.Spanning.{AreKernelRows}
 use Rattle.spl_matrix.proofs.KernelRows.{AreKernelRows-none}
 use Rattle.spl_matrix.proofs.kernel.kernel_rows_of.Goals as goal

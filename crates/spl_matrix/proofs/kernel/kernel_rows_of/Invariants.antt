@@ -1,4 +1,4 @@
-use Rattle.spl_matrix.specs.Matrix.{IsMatrix}
+use Rattle.theory_tables.specs.Matrix.{IsMatrix}
 use Rattle.spl_matrix.specs.Spanning.{AreKernelRows}
 use Rattle.spl_matrix.proofs.kernel.kernel_rows_of.Given as goal
 

@@ -1,6 +1,6 @@
 use Rattle.std.proofs.Common.{◌≡◌}
 use Rattle.theory_rings.specs.Ops.{IsElem}
-use Rattle.spl_matrix.specs.Matrix.{trace_of}
+use Rattle.theory_tables.specs.Matrix.{trace_of}
 use Rattle.spl_matrix.proofs.matrix.diagonal_sum.Given as goal
 
 abbrev pub invariant-loop-i : goal.invariant-loop-i

@@ -2,7 +2,7 @@ use Rattle.std.proofs.Common.{◌+◌, [], get_or, nat_lt}
 use Rattle.theory_rings.specs.Sum.{table}
 use Rattle.theory_spaces.specs.Tuples.{IsTuple}
 use Rattle.spl_matrix.specs.Spanning.{doubled_item}
-use Rattle.spl_matrix.proofs.Sums.{table_step, All_step, row_at}
+use Rattle.theory_tables.proofs.Sums.{table_step, All_step, row_at}
 use Rattle.spl_matrix.proofs.meet.doubled_of.Goals as goal
 
 pub loop-i-preserved : goal.loop-i-preserved

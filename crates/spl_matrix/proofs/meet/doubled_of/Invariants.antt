@@ -1,6 +1,6 @@
 use Rattle.std.proofs.Common.{◌≡◌, ◌+◌, [], get_or, nat_lt}
 use Rattle.theory_rings.specs.Sum.{table}
-use Rattle.spl_matrix.specs.Matrix.{IsMatrix}
+use Rattle.theory_tables.specs.Matrix.{IsMatrix}
 use Rattle.spl_matrix.specs.Spanning.{doubled_item}
 use Rattle.spl_matrix.proofs.meet.doubled_of.Given as goal
 

@@ -1,6 +1,6 @@
 use Rattle.std.proofs.Common.{◌≡◌, ◌+◌, List, ◌∙◌, ap, arith}
 use Rattle.std.proofs.lemmas.Result.{IfOk-weaker}
-use Rattle.spl_matrix.specs.Subspace.{IsReducedBasis, SpansMeet}
+use Rattle.theory_tables.specs.Subspace.{IsReducedBasis, SpansMeet}
 use Rattle.spl_matrix.specs.Spanning.{right_part}
 use Rattle.spl_matrix.proofs.Meets.{meet_of}
 use Rattle.spl_matrix.proofs.meet.meet_rows.Goals as goal

@@ -1,8 +1,8 @@
 use Rattle.std.proofs.Common.{◌+◌, ◌<◌, length, arith}
 use Rattle.theory_rings.specs.Sum.{table}
 use Rattle.theory_spaces.specs.Tuples.{IsTuple}
-use Rattle.spl_matrix.specs.Matrix.{entry}
-use Rattle.spl_matrix.proofs.Sums.{table_step, All_step, row_at}
+use Rattle.theory_tables.specs.Matrix.{entry}
+use Rattle.theory_tables.proofs.Sums.{table_step, All_step, row_at}
 use Rattle.spl_matrix.proofs.meet.right_part_of.Goals as goal
 
 pub loop-i-preserved : goal.loop-i-preserved

@@ -1,6 +1,6 @@
 use Rattle.std.proofs.Common.{◌≡◌, ◌+◌}
 use Rattle.theory_rings.specs.Sum.{table}
-use Rattle.spl_matrix.specs.Matrix.{entry, IsMatrix}
+use Rattle.theory_tables.specs.Matrix.{entry, IsMatrix}
 use Rattle.spl_matrix.proofs.meet.right_part_of.Given as goal
 
 abbrev pub invariant-loop-i : goal.invariant-loop-i

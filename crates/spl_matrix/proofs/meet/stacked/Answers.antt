@@ -1,7 +1,7 @@
 use Rattle.std.proofs.Common.{[], subst, sym}
 use Rattle.theory_spaces.specs.Tuples.{IsTuple}
-use Rattle.spl_matrix.proofs.Sums.{All_step, row_at}
-use Rattle.spl_matrix.proofs.Stacks.{stacked_step}
+use Rattle.theory_tables.proofs.Sums.{All_step, row_at}
+use Rattle.theory_tables.proofs.Stacks.{stacked_step}
 use Rattle.spl_matrix.proofs.meet.stacked.Goals as goal
 
 pub loop-i-preserved : goal.loop-i-preserved

@@ -1,5 +1,5 @@
 use Rattle.std.proofs.Common.{◌≡◌, ◌++◌, take}
-use Rattle.spl_matrix.specs.Matrix.{IsMatrix}
+use Rattle.theory_tables.specs.Matrix.{IsMatrix}
 use Rattle.spl_matrix.proofs.meet.stacked.Given as goal
 
 abbrev pub invariant-loop-i : goal.invariant-loop-i

@@ -1,7 +1,7 @@
 use Rattle.std.proofs.Common.{◌≡◌, List, length, drop, sym, ap, subst, ◌∙◌}
 use Rattle.std.proofs.lemmas.List.{take_at}
 use Rattle.spl_matrix.specs.Elimination.{IsEliminated}
-use Rattle.spl_matrix.specs.Subspace.{SameSpan}
+use Rattle.theory_tables.specs.Subspace.{SameSpan}
 use Rattle.spl_matrix.proofs.Steps.{same_span}
 use Rattle.spl_matrix.proofs.reduced.reduced_rows.Goals as goal
 

@@ -5,8 +5,8 @@ use Rattle.theory_rings.specs.Ops.{IsElem}
 use Rattle.theory_rings.specs.Sum.{at}
 use Rattle.theory_rings.proofs.Rings.Elements.{at-elem}
 use Rattle.spl_matrix.proofs.Changes.{ChangedBelow, ChangedBelow-set, ChangedBelow-skip, ChangedBelow-all}
-use Rattle.spl_matrix.proofs.Sums.{read_at}
-use Rattle.spl_matrix.proofs.Terms.{add-zero, mul-zero}
+use Rattle.theory_tables.proofs.Sums.{read_at}
+use Rattle.theory_tables.proofs.Terms.{add-zero, mul-zero}
 use Rattle.spl_matrix.proofs.rows.add_multiple.Goals as goal
 use Rattle.spl_matrix.proofs.rows.add_multiple.Goals.{then-not-eq+in_ok-term+in_ok-row, else-not-eq}
 

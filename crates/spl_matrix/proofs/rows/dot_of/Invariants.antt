@@ -1,6 +1,6 @@
 use Rattle.std.proofs.Common.{◌≡◌}
 use Rattle.theory_rings.specs.Ops.{IsElem}
-use Rattle.spl_matrix.specs.Matrix.{dot}
+use Rattle.theory_tables.specs.Matrix.{dot}
 use Rattle.spl_matrix.proofs.rows.dot_of.Given as goal
 
 abbrev pub invariant-loop-i : goal.invariant-loop-i

@@ -4,7 +4,7 @@ use Rattle.std.proofs.lemmas.List.Elements.{All-set}
 use Rattle.theory_rings.specs.Ops.{IsElem}
 use Rattle.theory_rings.specs.Sum.{at}
 use Rattle.spl_matrix.proofs.Changes.{ChangedBelow, ChangedBelow-set, ChangedBelow-skip, ChangedBelow-all}
-use Rattle.spl_matrix.proofs.Terms.{mul-zero}
+use Rattle.theory_tables.proofs.Terms.{mul-zero}
 use Rattle.spl_matrix.proofs.rows.scale.Goals as goal
 use Rattle.spl_matrix.proofs.rows.scale.Goals.{then-not-eq+in_ok-row, else-not-eq}
 

@@ -1,8 +1,8 @@
 use Rattle.std.proofs.Common.{◌≡◌, ℕ, ◌+◌, length, ap, ◌∙◌}
 use Rattle.theory_rings.specs.Sum.{sum_of, at}
 use Rattle.theory_rings.specs.Ops.{IsElem}
-use Rattle.spl_matrix.specs.Matrix.{entry, dot}
-use Rattle.spl_matrix.proofs.Sums.{table_step, All_step, row_at}
+use Rattle.theory_tables.specs.Matrix.{entry, dot}
+use Rattle.theory_tables.proofs.Sums.{table_step, All_step, row_at}
 use Rattle.std.proofs.lemmas.List.{length_push}
 use Rattle.spl_matrix.proofs.solve.image_of.Goals as goal
 

@@ -1,6 +1,6 @@
 use Rattle.std.proofs.Common.{◌≡◌, length}
 use Rattle.theory_rings.specs.Sum.{table, sum_of, at}
-use Rattle.spl_matrix.specs.Matrix.{entry}
+use Rattle.theory_tables.specs.Matrix.{entry}
 use Rattle.theory_spaces.specs.Tuples.{IsTuple}
 use Rattle.spl_matrix.proofs.solve.image_of.Given as goal
 

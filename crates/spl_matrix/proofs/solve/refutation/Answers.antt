@@ -1,10 +1,10 @@
 use Rattle.std.proofs.Common.{◌≡◌, ℕ, ◌<◌, List, [], length, get_or, ap, subst, ◌∙◌, arith}
 use Rattle.theory_rings.specs.Sum.{at}
 use Rattle.theory_spaces.specs.Tuples.{IsTuple}
-use Rattle.spl_matrix.proofs.Sums.{read_at, row_at}
+use Rattle.theory_tables.proofs.Sums.{read_at, row_at}
 use Rattle.theory_rings.proofs.Rings.Elements.{at-elem}
 use Rattle.theory_rings.proofs.Sums.Lists.{get_or-table}
-use Rattle.spl_matrix.proofs.Solves.{refuted}
+use Rattle.theory_tables.proofs.Solves.{refuted}
 use Rattle.spl_matrix.proofs.solve.refutation.Goals as goal
 
 pub returns : goal.returns

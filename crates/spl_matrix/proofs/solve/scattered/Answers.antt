@@ -1,9 +1,9 @@
 use Rattle.std.proofs.Common.{◌≡◌, ◌+◌, length, ap, ◌∙◌}
 use Rattle.std.proofs.lemmas.List.{length_push}
 use Rattle.theory_rings.specs.Ops.{IsElem}
-use Rattle.spl_matrix.specs.Solve.{IsScattered}
-use Rattle.spl_matrix.proofs.Sums.{All_step}
-use Rattle.spl_matrix.proofs.Spans.{grow_at}
+use Rattle.theory_tables.specs.Solve.{IsScattered}
+use Rattle.theory_tables.proofs.Sums.{All_step}
+use Rattle.theory_tables.proofs.Spans.{grow_at}
 use Rattle.spl_matrix.proofs.solve.scattered.Goals as goal
 
 pub loop-j-preserved : goal.loop-j-preserved

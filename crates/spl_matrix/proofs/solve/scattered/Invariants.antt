@@ -1,7 +1,7 @@
 use Rattle.std.proofs.Common.{ℕ, ◌<◌}
 use Rattle.theory_rings.specs.Sum.{at}
 use Rattle.theory_spaces.specs.Tuples.{IsTuple}
-use Rattle.spl_matrix.specs.Solve.{IsScattered}
+use Rattle.theory_tables.specs.Solve.{IsScattered}
 use Rattle.spl_matrix.proofs.solve.scattered.Given as goal
 
 abbrev pub invariant-loop-j : goal.invariant-loop-j

@@ -1,10 +1,10 @@
 use Rattle.std.proofs.Common.{◌≡◌, ℕ, ◌<◌, ◌≤◌, List, length, sym, ap, subst, ◌∙◌, arith}
 use Rattle.theory_rings.specs.Sum.{at}
 use Rattle.theory_spaces.specs.Tuples.{IsTuple}
-use Rattle.spl_matrix.specs.Matrix.{image}
-use Rattle.spl_matrix.specs.Solve.{IsScattered}
+use Rattle.theory_tables.specs.Matrix.{image}
+use Rattle.theory_tables.specs.Solve.{IsScattered}
 use Rattle.theory_rings.proofs.Rings.Elements.{at-elem}
-use Rattle.spl_matrix.proofs.Solves.{solved}
+use Rattle.theory_tables.proofs.Solves.{solved}
 use Rattle.spl_matrix.proofs.solve.solve_of.Goals as goal
 
 pub returns : goal.returns

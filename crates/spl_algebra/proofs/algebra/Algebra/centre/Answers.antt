@@ -1,7 +1,7 @@
 use Rattle.std.proofs.Common.{◌≡◌, [], length, ◌∙◌, ap₂}
 use Rattle.std.proofs.lemmas.Result.{IfOk-weaker}
-use Rattle.spl_matrix.specs.Matrix.{width_of}
-use Rattle.spl_matrix.specs.Subspace.{Rows, SpansKernel}
+use Rattle.theory_tables.specs.Matrix.{width_of}
+use Rattle.theory_tables.specs.Subspace.{Rows, SpansKernel}
 use Rattle.spl_algebra.specs.Contractions.{commutator_rows}
 use Rattle.spl_algebra.specs.Subspaces.{SpansCentre}
 use Rattle.spl_algebra.proofs.Commutators.{commutator_rows-some, spans_centre}

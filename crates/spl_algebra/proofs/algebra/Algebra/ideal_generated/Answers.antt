@@ -1,7 +1,7 @@
 use Rattle.std.proofs.Common.{◌≡◌, ◌≤◌, ◌<◌, ◌-◌, ℕ, List, All, length, sym, ◌∙◌, ap, subst, arith}
 use Rattle.theory_rings.specs.Ops.{IsElem}
-use Rattle.spl_matrix.specs.Matrix.{IsMatrix}
-use Rattle.spl_matrix.specs.Subspace.{IsReducedBasis}
+use Rattle.theory_tables.specs.Matrix.{IsMatrix}
+use Rattle.theory_tables.specs.Subspace.{IsReducedBasis}
 use Rattle.spl_algebra.specs.Subspaces.{GeneratesIdeal}
 use Rattle.spl_algebra.proofs.Inclusions.{dimension-le}
 use Rattle.spl_algebra.proofs.Multiples.{IsBetween-self, IsBetween-more, generates}

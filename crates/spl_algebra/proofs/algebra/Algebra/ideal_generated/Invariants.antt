@@ -1,5 +1,5 @@
 use Rattle.std.proofs.Common.{◌≡◌, ◌-◌, length}
-use Rattle.spl_matrix.specs.Subspace.{IsReducedBasis}
+use Rattle.theory_tables.specs.Subspace.{IsReducedBasis}
 use Rattle.spl_algebra.specs.Multiples.{HoldsMultiples, IsBetween}
 use Rattle.spl_algebra.proofs.algebra.Algebra.ideal_generated.Given as goal
 

@@ -1,7 +1,7 @@
 use Rattle.std.proofs.Common.{◌∙◌, ◌*◌, ap, sym, subst, take, drop, All, length}
 use Rattle.theory_rings.specs.Ops.{IsElem}
-use Rattle.spl_matrix.specs.Matrix.{width_of}
-use Rattle.spl_matrix.specs.Solve.{IsSolved, IsRefuted}
+use Rattle.theory_tables.specs.Matrix.{width_of}
+use Rattle.theory_tables.specs.Solve.{IsSolved, IsRefuted}
 use Rattle.spl_algebra.specs.IdentitySystem.{ListsMultipliers}
 use Rattle.spl_algebra.proofs.IdentityRows.{refutes_identity, opposite_is_one}
 use Rattle.spl_algebra.proofs.algebra.Algebra.identity.Goals as goal

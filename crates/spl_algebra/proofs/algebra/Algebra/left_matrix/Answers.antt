@@ -1,6 +1,6 @@
 use Rattle.std.proofs.Common.{◌≡◌, ◌*◌, List, length, refl, sym, ◌∙◌, ap}
 use Rattle.std.proofs.lemmas.Result.{IfOk-weaker}
-use Rattle.spl_claims.specs.Traces.{left_matrix}
+use Rattle.theory_tables.specs.Traces.{left_matrix}
 use Rattle.spl_algebra.specs.Contractions.{contraction}
 use Rattle.spl_algebra.proofs.Contractions.{last_within, contraction-left_of}
 use Rattle.spl_algebra.proofs.algebra.Algebra.left_matrix.Goals as goal

@@ -1,7 +1,7 @@
 use Rattle.std.proofs.Common.{◌≡◌, ◌*◌, List, length, refl, sym, ◌∙◌, ap, ap₂}
 use Rattle.std.proofs.lemmas.Result.{IfOk-weaker}
 use Rattle.theory_rings.specs.Sum.{table}
-use Rattle.spl_claims.specs.Traces.{trace_form}
+use Rattle.theory_tables.specs.Traces.{trace_form}
 use Rattle.spl_algebra.specs.Contractions.{contraction, basis_trace}
 use Rattle.spl_algebra.proofs.Contractions.{first_within, contraction-form_of}
 use Rattle.spl_algebra.proofs.algebra.Algebra.trace_form.Goals as goal

@@ -3,7 +3,7 @@ use Rattle.std.proofs.lemmas.List.{take_at}
 use Rattle.theory_rings.specs.Sum.{at}
 use Rattle.theory_rings.proofs.Sums.Lists.{length-table}
 use Rattle.spl_matrix.proofs.Pivots.{divided_by}
-use Rattle.spl_matrix.proofs.Sums.{read_at}
+use Rattle.theory_tables.proofs.Sums.{read_at}
 use Rattle.spl_matrix.proofs.rows.Row.divide.Goals as goal
 
 pub returns : goal.returns

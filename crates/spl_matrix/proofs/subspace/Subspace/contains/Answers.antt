@@ -1,8 +1,8 @@
 use Rattle.std.proofs.Common.{◌≡◌, ◌↔◌, ℕ, ◌<◌, Bool, IsTrue, length, ◌∙◌, ap}
 use Rattle.std.proofs.lemmas.Result.{IfOk-weaker}
 use Rattle.theory_rings.specs.Sum.{at}
-use Rattle.spl_matrix.specs.Subspace.{InSpan}
-use Rattle.spl_matrix.proofs.Spans.{combined}
+use Rattle.theory_tables.specs.Subspace.{InSpan}
+use Rattle.theory_tables.proofs.Spans.{combined}
 use Rattle.spl_matrix.proofs.Members.{contains_of}
 use Rattle.spl_matrix.proofs.subspace.Subspace.contains.Goals as goal
 

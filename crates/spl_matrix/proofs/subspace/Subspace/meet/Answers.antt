@@ -1,5 +1,5 @@
 use Rattle.std.proofs.Common.{◌≡◌, ℕ, List, ◌∙◌, ap, subst}
-use Rattle.spl_matrix.specs.Subspace.{SpansMeet}
+use Rattle.theory_tables.specs.Subspace.{SpansMeet}
 use Rattle.spl_matrix.proofs.subspace.Subspace.meet.Goals as goal
 
 pub returns-clause-members : goal.returns-clause-members

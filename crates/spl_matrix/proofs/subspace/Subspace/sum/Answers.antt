@@ -1,7 +1,7 @@
 use Rattle.std.proofs.Common.{◌≡◌, ◌++◌, ◌∙◌, ℕ, List, ap, ap₂, subst}
 use Rattle.std.proofs.lemmas.Result.{IfOk-weaker}
-use Rattle.spl_matrix.specs.Matrix.{IsMatrix}
-use Rattle.spl_matrix.specs.Subspace.{Rows, SameSpan, SpansSum}
+use Rattle.theory_tables.specs.Matrix.{IsMatrix}
+use Rattle.theory_tables.specs.Subspace.{Rows, SameSpan, SpansSum}
 use Rattle.spl_matrix.proofs.Members.{sum_of_spans}
 use Rattle.spl_matrix.proofs.subspace.Subspace.sum.Goals as goal
 

@@ -1,9 +1,0 @@
-pub mod Bridge
-pub mod Exclusions
-pub mod TraceRadical
-pub mod CentralSimple
-pub mod Splittings
-pub mod SplitCentralSimple
-pub mod SplitClaims
-pub mod Examples
-pub mod Ramified

@@ -1,5 +1,0 @@
-use Rattle.spl_claims.proofs.TraceRadical.{trace_radical}
-use Rattle.spl_claims.proofs.laws.trace_radical_is_an_ideal.Goals as goal
-
-pub returns : goal.returns
-returns g c = let f = g.F.TupleField in record { radical = trace_radical f.ops f.laws }

@@ -1,7 +1,0 @@
-use Rattle.spl_claims.proofs.SplitClaims.{split_claim_splits}
-use Rattle.spl_claims.proofs.split_laws.split_claim_splits.Goals as goal
-
-pub returns : goal.returns
-returns g c =
-    let f = g.F.TupleField in
-    record { splits = λ m n cs maps units size S. split_claim_splits f.ops f.laws m cs n maps units size S }

@@ -1,5 +1,0 @@
-use Rattle.spl_claims.proofs.Examples.{zero_maps_split_nothing}
-use Rattle.spl_claims.proofs.split_laws.zero_maps_split_nothing.Goals as goal
-
-pub returns : goal.returns
-returns g c = let f = g.F.TupleField in record { nothing = zero_maps_split_nothing f.ops f.laws }

@@ -1,0 +1,17 @@
+pub mod Bridge
+pub mod Exclusions
+pub mod TraceRadical
+pub mod CentralSimple
+pub mod Splittings
+pub mod SplitCentralSimple
+pub mod SplitClaims
+pub mod Examples
+pub mod Ramified
+pub mod Terms
+pub mod Sums
+pub mod Spans
+pub mod Stacks
+pub mod Inverses
+pub mod PivotRows
+pub mod Refutations
+pub mod Solves

@@ -1,0 +1,11 @@
+pub mod Algebras
+pub mod Traces
+pub mod Split
+pub mod Claims
+pub mod Laws
+pub mod Examples
+pub mod Matrix
+pub mod Inverse
+pub mod Echelon
+pub mod Solve
+pub mod Subspace
