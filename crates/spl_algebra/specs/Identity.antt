@@ -2,7 +2,7 @@
 use Rattle.theory_rings.specs.Ops.{Ops}
 use Rattle.theory_spaces.specs.Tuples.{IsTableOne}
 use Rattle.theory_tables.specs.Claims.{NoIdentityClaim}
-use Rattle.spl_algebra.specs.Algebra.{Structure}
+use Rattle.theory_tables.specs.Structure.{Structure}
 use Rattle.spl_algebra.specs.declared.identity.One.{One}
 use Rattle.spl_algebra.specs.declared.identity.One.TheVariants.{Here, Refuted}
 

@@ -1,4 +1,3 @@
-pub mod Algebra
 pub mod Products
 pub mod Identity
 pub mod IdentitySystem

@@ -4,7 +4,7 @@ use Rattle.theory_rings.specs.Ops.{Ops}
 use Rattle.theory_spaces.specs.Tuples.{IsTuple}
 use Rattle.theory_tables.specs.Subspace.{InSpan}
 use Rattle.theory_tables.specs.Algebras.{IsCentral, SpansIdeal}
-use Rattle.spl_algebra.specs.Algebra.{Structure}
+use Rattle.theory_tables.specs.Structure.{Structure}
 
 module _ {E : Type 0} (o : Ops E) (A : Structure E) where
   -- the combinations of the rows are the central elements

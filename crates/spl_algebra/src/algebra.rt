@@ -1,7 +1,7 @@
 // Algebras by their structure constants.
 ghost use Rattle.std.specs.Prelude.{◌≡◌, ℕ, ◌*◌, ◌+◌, ◌^◌, ◌<◌, ◌≤◌, ◌↔◌, List, length, IfOk, IsTrue};
 ghost use Rattle.theory_rings.specs.Ops.{Ops, IsElem};
-ghost use Rattle.spl_algebra.specs.Algebra.{Structure, IsOver, IsElement, AssociatesAt, basis_of, product_of};
+ghost use Rattle.theory_tables.specs.Structure.{Structure, IsOver, IsElement, AssociatesAt, basis_of, product_of};
 
 use crate::basis::{associates, coordinates, row_of};
 use crate::products::product_of_slices;
@@ -25,7 +25,7 @@ pub struct Algebra<F: Field> {
 
 impl<F: Field> Model for Algebra<F> {
     ghost use Rattle.std.specs.Prelude.{◌≡◌, ◌*◌, ◌^◌, ◌<◌, ◌≤◌, length};
-    ghost use Rattle.spl_algebra.specs.Algebra.{Structure};
+    ghost use Rattle.theory_tables.specs.Structure.{Structure};
 
     ghost Value = { Structure F.Elem };
 

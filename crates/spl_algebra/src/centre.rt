@@ -5,7 +5,7 @@ ghost use Rattle.theory_rings.specs.Sum.{table};
 ghost use Rattle.theory_spaces.specs.Tuples.{IsTuple};
 ghost use Rattle.theory_tables.specs.Matrix.{IsMatrix};
 ghost use Rattle.theory_tables.specs.Subspace.{IsSubspace};
-ghost use Rattle.spl_algebra.specs.Algebra.{IsOver};
+ghost use Rattle.theory_tables.specs.Structure.{IsOver};
 ghost use Rattle.spl_algebra.specs.Contractions.{commutator_item, commutator_rows};
 ghost use Rattle.spl_algebra.specs.Subspaces.{SpansCentre};
 

@@ -3,7 +3,7 @@ ghost use Rattle.std.specs.Prelude.{◌≡◌, ◌*◌, ◌^◌, ◌<◌, IfOk, 
 ghost use Rattle.theory_spaces.specs.Tuples.{IsTuple, basis, product};
 ghost use Rattle.theory_tables.specs.Matrix.{IsMatrix};
 ghost use Rattle.theory_tables.specs.Subspace.{IsReducedBasis, IsSubspace};
-ghost use Rattle.spl_algebra.specs.Algebra.{IsOver};
+ghost use Rattle.theory_tables.specs.Structure.{IsOver};
 ghost use Rattle.spl_algebra.specs.Multiples.{AddsMultiples, HoldsMultiples};
 ghost use Rattle.spl_algebra.specs.Subspaces.{GeneratesIdeal};
 

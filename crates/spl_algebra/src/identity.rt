@@ -3,7 +3,7 @@ ghost use Rattle.std.specs.Prelude.{◌≡◌, ◌+◌, ◌*◌, ◌^◌, ◌<�
 ghost use Rattle.theory_rings.specs.Ops.{IsElem};
 ghost use Rattle.theory_rings.specs.Sum.{table};
 ghost use Rattle.theory_spaces.specs.Tuples.{IsTuple, tuple_neg};
-ghost use Rattle.spl_algebra.specs.Algebra.{IsOver};
+ghost use Rattle.theory_tables.specs.Structure.{IsOver};
 ghost use Rattle.spl_algebra.specs.Identity.{IsOne};
 ghost use Rattle.spl_algebra.specs.IdentitySystem.{constant_place, constant_row, unit_row, unit_item, IsIdentitySystem, ListsMultipliers};
 

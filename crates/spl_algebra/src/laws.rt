@@ -1,6 +1,6 @@
 // What holds of algebras whoever computes in them.
 ghost use Rattle.theory_rings.specs.Ops.{Ops};
-ghost use Rattle.spl_algebra.specs.Algebra.{Structure, AssociativeEverywhere};
+ghost use Rattle.theory_tables.specs.Structure.{Structure, AssociativeEverywhere};
 
 use spl_field::field::Field;
 

@@ -2,7 +2,7 @@
 ghost use Rattle.std.specs.Prelude.{◌≡◌, length, IfOk};
 ghost use Rattle.theory_rings.specs.Ops.{IsElem};
 ghost use Rattle.theory_spaces.specs.Tuples.{IsTuple};
-ghost use Rattle.spl_algebra.specs.Algebra.{IsOver};
+ghost use Rattle.theory_tables.specs.Structure.{IsOver};
 
 mod boxed;
 mod identities;

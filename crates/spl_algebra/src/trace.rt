@@ -5,7 +5,7 @@ ghost use Rattle.theory_rings.specs.Sum.{table};
 ghost use Rattle.theory_spaces.specs.Tuples.{IsTuple};
 ghost use Rattle.theory_tables.specs.Matrix.{IsMatrix};
 ghost use Rattle.theory_tables.specs.Traces.{left_matrix, trace_form};
-ghost use Rattle.spl_algebra.specs.Algebra.{IsOver, IsElement};
+ghost use Rattle.theory_tables.specs.Structure.{IsOver, IsElement};
 ghost use Rattle.spl_algebra.specs.Contractions.{contracted, contracted_row, contraction, basis_trace};
 
 use crate::algebra::Algebra;

@@ -3,7 +3,7 @@ use Rattle.std.specs.Prelude.{◌↔◌, List}
 use Rattle.theory_rings.specs.Ops.{Ops}
 use Rattle.theory_spaces.specs.Tuples.{IsTuple}
 use Rattle.theory_tables.specs.Subspace.{InSpan}
-use Rattle.spl_algebra.specs.Algebra.{Structure}
+use Rattle.theory_tables.specs.Structure.{Structure}
 use Rattle.theory_tables.specs.Traces.{InTraceRadical}
 use Rattle.theory_tables.specs.Claims.{IdealClaim}
 

@@ -4,7 +4,7 @@ ghost use Rattle.theory_rings.specs.Ops.{IsElem};
 ghost use Rattle.spl_field.specs.SmallField.{characteristic};
 ghost use Rattle.spl_fraction.specs.Fractions.{field_of};
 ghost use Rattle.spl_fraction.specs.FractionsOver.{fractions_over};
-ghost use Rattle.spl_algebra.specs.Algebra.{IsOver, IsAssociative};
+ghost use Rattle.theory_tables.specs.Structure.{IsOver, IsAssociative};
 ghost use Rattle.spl_algebra.specs.Identity.{IsOne};
 ghost use Rattle.theory_tables.specs.Algebras.{HasIdentity, HasSmallCentre};
 ghost use Rattle.theory_tables.specs.Traces.{IsNondegenerate};

@@ -2,7 +2,7 @@
 ghost use Rattle.std.specs.Prelude.{◌≡◌, ◌≢◌, ◌↔◌, ◌<◌, ◌≤◌, ℕ, List, length, IfOk, MatchOption};
 ghost use Rattle.theory_spaces.specs.Tuples.{IsTableOne};
 ghost use Rattle.theory_tables.specs.Subspace.{InSpan, IsSubspace};
-ghost use Rattle.spl_algebra.specs.Algebra.{IsOver, IsAssociative, IsElement};
+ghost use Rattle.theory_tables.specs.Structure.{IsOver, IsAssociative, IsElement};
 ghost use Rattle.spl_algebra.specs.Subspaces.{SpansCentre};
 ghost use Rattle.theory_tables.specs.Algebras.{HasIdentity, HasSmallCentre, IsMultiple};
 ghost use Rattle.theory_tables.specs.Claims.{CentralClaim};

@@ -2,7 +2,7 @@
 ghost use Rattle.std.specs.Prelude.{◌≡◌, ◌≢◌, ◌↔◌, ◌<◌, ◌≤◌, ℕ, List, length, IfOk};
 ghost use Rattle.theory_spaces.specs.Tuples.{IsTuple};
 ghost use Rattle.theory_tables.specs.Subspace.{InSpan, IsSubspace};
-ghost use Rattle.spl_algebra.specs.Algebra.{IsOver, IsAssociative};
+ghost use Rattle.theory_tables.specs.Structure.{IsOver, IsAssociative};
 ghost use Rattle.theory_tables.specs.Algebras.{HasIdentity};
 ghost use Rattle.theory_tables.specs.Traces.{InTraceRadical};
 

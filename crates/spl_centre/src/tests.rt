@@ -5,7 +5,7 @@ ghost use Rattle.theory_spaces.specs.Tuples.{IsTuple};
 ghost use Rattle.spl_field.specs.SmallField.{characteristic};
 ghost use Rattle.spl_fraction.specs.Fractions.{field_of};
 ghost use Rattle.spl_fraction.specs.FractionsOver.{fractions_over};
-ghost use Rattle.spl_algebra.specs.Algebra.{IsOver, IsAssociative};
+ghost use Rattle.theory_tables.specs.Structure.{IsOver, IsAssociative};
 
 use crate::centre::{KAlgebra, centre_fault, identity_or_refutation, trace_ideal};
 use spl_algebra::algebra::Algebra;

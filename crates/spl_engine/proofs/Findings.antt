@@ -3,7 +3,7 @@ use Rattle.std.specs.Prelude.{ℕ, List}
 use Rattle.theory_rings.specs.Ops.{Ops, FieldLaws}
 use Rattle.spl_fraction.specs.Fraction.{Pair}
 use Rattle.spl_fraction.specs.FractionsOver.{fractions_laws}
-use Rattle.spl_algebra.specs.Algebra.{Structure, IsOver, IsAssociative}
+use Rattle.theory_tables.specs.Structure.{Structure, IsOver, IsAssociative}
 use Rattle.theory_tables.specs.Algebras.{HasIdentity, HasSmallCentre, IsCentralSimple}
 use Rattle.theory_tables.specs.Traces.{IsNondegenerate}
 use Rattle.theory_tables.specs.Claims.{NoIdentityClaim, CentralClaim}

@@ -1,6 +1,6 @@
 // The decision.
 ghost use Rattle.std.specs.Prelude.{◌≡◌, IfOk, MatchOption};
-ghost use Rattle.spl_algebra.specs.Algebra.{IsAssociative};
+ghost use Rattle.theory_tables.specs.Structure.{IsAssociative};
 ghost use Rattle.theory_tables.specs.Algebras.{HasIdentity, HasSmallCentre};
 ghost use Rattle.spl_table.specs.Table.{algebra_of, ops_of};
 ghost use Rattle.spl_engine.specs.Kind.{IsEvidence, HasNoFault};

@@ -2,7 +2,7 @@
 use Rattle.std.specs.Prelude.{ℕ}
 use Rattle.theory_rings.specs.Ops.{Ops}
 use Rattle.spl_fraction.specs.Fraction.{Pair}
-use Rattle.spl_algebra.specs.Algebra.{Structure}
+use Rattle.theory_tables.specs.Structure.{Structure}
 use Rattle.theory_tables.specs.Claims.{TripleClaim, NoIdentityClaim, CentralClaim, IdealClaim}
 use Rattle.spl_evidence.specs.declared.evidence.Evidence.{Evidence}
 use Rattle.spl_evidence.specs.declared.evidence.Evidence.TheVariants.{Triple, NoIdentity, Central, Ideal}

@@ -3,7 +3,7 @@ ghost use Rattle.std.specs.Prelude.{All};
 ghost use Rattle.theory_rings.specs.Ops.{IsElem};
 ghost use Rattle.spl_fraction.specs.Fractions.{field_of};
 ghost use Rattle.spl_fraction.specs.FractionsOver.{fractions_over};
-ghost use Rattle.spl_algebra.specs.Algebra.{IsAssociative};
+ghost use Rattle.theory_tables.specs.Structure.{IsAssociative};
 ghost use Rattle.theory_tables.specs.Algebras.{HasIdentity};
 ghost use Rattle.spl_table.specs.Table.{algebra_of, ops_of};
 

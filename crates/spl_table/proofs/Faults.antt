@@ -9,7 +9,7 @@ use Rattle.spl_text.specs.Text.{Lacks, IsText, line}
 use Rattle.spl_text.proofs.Words.{not_within, split_unique}
 use Rattle.spl_field.specs.SmallField.{characteristic, modulus_of, small_ops}
 use Rattle.spl_field.specs.declared.small.SmallField.{SmallField}
-use Rattle.spl_algebra.specs.Algebra.{Structure}
+use Rattle.theory_tables.specs.Structure.{Structure}
 use Rattle.spl_fraction.specs.Fraction.{Pair}
 use Rattle.spl_fraction.specs.Fractions.{field_of as base_of}
 use Rattle.spl_fraction.specs.declared.field.Fractions.{Fractions}

@@ -2,7 +2,7 @@
 use Rattle.std.specs.Prelude.{◌≡◌, ◌⊎◌, ℕ, ◌+◌, ◌-◌, ◌<◌}
 use Rattle.std.proofs.Common.{subst, arith, ⊎_elim}
 use Rattle.theory_rings.specs.Ops.{Ops}
-use Rattle.spl_algebra.specs.Algebra.{Structure, AssociatesAt}
+use Rattle.theory_tables.specs.Structure.{Structure, AssociatesAt}
 use Rattle.spl_table.specs.Triple.{AssociatesAtPair, FailsFirstAtPair, IsFirstFailed}
 
 module _ {E : Type 0} (o : Ops E) (A : Structure E) where

@@ -8,7 +8,7 @@ use Rattle.spl_fraction.specs.Fraction.{Pair, IsLowestTerms, IsFraction}
 use Rattle.spl_fraction.specs.Fractions.{field_of as base_of}
 use Rattle.spl_fraction.specs.FractionsOver.{fractions_over}
 use Rattle.spl_fraction.specs.declared.field.Fractions.{Fractions}
-use Rattle.spl_algebra.specs.Algebra.{Structure}
+use Rattle.theory_tables.specs.Structure.{Structure}
 use Rattle.spl_table.specs.TableText.{Entry, TableText, constant_at}
 use Rattle.spl_table.specs.declared.table.Table.{Table}
 

@@ -1,7 +1,7 @@
 -- The first triple of basis elements at which an algebra fails to be associative.
 use Rattle.std.specs.Prelude.{ℕ, ◌+◌, ◌-◌, ◌<◌, ◌≤◌}
 use Rattle.theory_rings.specs.Ops.{Ops}
-use Rattle.spl_algebra.specs.Algebra.{Structure, AssociatesAt}
+use Rattle.theory_tables.specs.Structure.{Structure, AssociatesAt}
 use Rattle.spl_table.specs.TableText.{ComesBefore}
 use Rattle.spl_table.specs.declared.triple.Triple.{Triple}
 

@@ -28,7 +28,7 @@ pub struct Table {
 }
 
 impl Table {
-    ghost use Rattle.spl_algebra.specs.Algebra.{IsOver};
+    ghost use Rattle.theory_tables.specs.Structure.{IsOver};
     ghost use Rattle.spl_table.specs.Table.{fractions_of, field_of, degree_of, algebra_of, ops_of};
 
     /// The table of a field of fractions, a degree n and n⁶ constants: that at the basis elements i, j and k, counted from

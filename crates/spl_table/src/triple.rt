@@ -1,6 +1,6 @@
 // The search for a failed law of associativity.
 ghost use Rattle.std.specs.Prelude.{◌≡◌, ℕ, ◌+◌, ◌^◌, ◌<◌, IfOk, MatchOption};
-ghost use Rattle.spl_algebra.specs.Algebra.{IsOver, IsAssociative};
+ghost use Rattle.theory_tables.specs.Structure.{IsOver, IsAssociative};
 ghost use Rattle.spl_table.specs.Table.{algebra_of, ops_of};
 ghost use Rattle.spl_table.specs.Triple.{AssociatesAtPair, FailsFirstAt, FailsFirstAtPair, IsFirstFailed};
 

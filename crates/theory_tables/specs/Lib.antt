@@ -1,3 +1,4 @@
+pub mod Structure
 pub mod Algebras
 pub mod Traces
 pub mod Split

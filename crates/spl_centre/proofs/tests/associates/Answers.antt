@@ -2,7 +2,7 @@ use Rattle.std.proofs.Common.{◌≡◌, ℕ, ◌+◌, ◌*◌, ◌/◌, ◌%◌
 use Rattle.std.proofs.lemmas.Nat.{div-mul-add, mod-mul-add}
 use Rattle.spl_fraction.specs.Fractions.{field_of}
 use Rattle.spl_fraction.specs.FractionsOver.{fractions_over}
-use Rattle.spl_algebra.specs.Algebra.{AssociatesAt}
+use Rattle.theory_tables.specs.Structure.{AssociatesAt}
 use Rattle.spl_centre.proofs.tests.associates.Goals as goal
 
 abbrev number : ℕ → ℕ → ℕ → ℕ

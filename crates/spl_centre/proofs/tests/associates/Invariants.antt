@@ -1,7 +1,7 @@
 use Rattle.std.proofs.Common.{◌<◌, ◌/◌, ◌%◌, ℕ}
 use Rattle.spl_fraction.specs.Fractions.{field_of}
 use Rattle.spl_fraction.specs.FractionsOver.{fractions_over}
-use Rattle.spl_algebra.specs.Algebra.{AssociatesAt}
+use Rattle.theory_tables.specs.Structure.{AssociatesAt}
 use Rattle.spl_centre.proofs.tests.associates.Given as goal
 
 abbrev pub invariant-loop-t : goal.invariant-loop-t

@@ -3,7 +3,7 @@ use Rattle.spl_fraction.specs.Fraction.{Pair}
 use Rattle.spl_fraction.specs.Fractions.{field_of}
 use Rattle.spl_fraction.specs.FractionsOver.{fractions_over}
 use Rattle.spl_fraction.specs.declared.field.Fractions.{Fractions}
-use Rattle.spl_algebra.specs.Algebra.{Structure}
+use Rattle.theory_tables.specs.Structure.{Structure}
 use Rattle.theory_tables.specs.Claims.{NoIdentityClaim}
 use Rattle.spl_engine.proofs.Findings.{of_no_identity}
 use Rattle.spl_engine.proofs.decide.of_associative.Goals as goal

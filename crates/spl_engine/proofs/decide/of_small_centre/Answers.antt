@@ -4,7 +4,7 @@ use Rattle.spl_fraction.specs.Fraction.{Pair}
 use Rattle.spl_fraction.specs.Fractions.{field_of}
 use Rattle.spl_fraction.specs.FractionsOver.{fractions_over}
 use Rattle.spl_fraction.specs.declared.field.Fractions.{Fractions}
-use Rattle.spl_algebra.specs.Algebra.{Structure}
+use Rattle.theory_tables.specs.Structure.{Structure}
 use Rattle.theory_tables.specs.Traces.{IsNondegenerate}
 use Rattle.spl_centre.specs.TraceIdeal.{IsTraceIdeal}
 use Rattle.spl_engine.proofs.Degrees.{square_apart}

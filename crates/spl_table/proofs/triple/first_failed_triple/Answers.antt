@@ -1,6 +1,6 @@
 use Rattle.std.proofs.Common.{ℕ, subst}
 use Rattle.std.specs.Prelude.{IfOk, MatchOption}
-use Rattle.spl_algebra.specs.Algebra.{Structure, IsAssociative}
+use Rattle.theory_tables.specs.Structure.{Structure, IsAssociative}
 use Rattle.spl_fraction.specs.Fraction.{Pair}
 use Rattle.spl_fraction.specs.Fractions.{field_of}
 use Rattle.spl_fraction.specs.FractionsOver.{fractions_over}

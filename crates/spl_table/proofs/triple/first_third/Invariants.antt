@@ -1,5 +1,5 @@
 use Rattle.std.proofs.Common.{ℕ, ◌<◌}
-use Rattle.spl_algebra.specs.Algebra.{AssociatesAt}
+use Rattle.theory_tables.specs.Structure.{AssociatesAt}
 use Rattle.spl_table.proofs.triple.first_third.Given as goal
 
 abbrev pub invariant-loop-k : goal.invariant-loop-k
