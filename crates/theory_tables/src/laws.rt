@@ -1,25 +1,24 @@
 // What the claims of evidence stand on: the radical of the trace form, what makes an algebra central simple, and what each
 // claim excludes, for an algebra of any dimension by structure constants in any field.
 ghost use Rattle.std.specs.Prelude.{ℕ, List};
+ghost use Rattle.theory_rings.specs.Ops.{Ops, FieldLaws};
 ghost use Rattle.theory_tables.specs.Laws.{TraceRadicalLaw, CentralSimpleByTraceForm, ClaimsExcludeCentralSimple};
-
-use theory_spaces::table_laws::TupleField;
 
 /// The radical of the trace form of an associative algebra with an identity is a two-sided ideal, the kernel of the matrix of
 /// the form. It holds each nilpotent ideal, and not the identity where the dimension is not 0 in the field.
-pub fn trace_radical_is_an_ideal<F: TupleField>()
-    ensures radical { (m : ℕ) (cs : List F.Elem) → TraceRadicalLaw F.ops m cs }
+pub fn trace_radical_is_an_ideal<E>()
+    ensures radical { (o : Ops E) → FieldLaws o → (m : ℕ) (cs : List E) → TraceRadicalLaw o m cs }
 {}
 
 /// An associative algebra whose centre is the multiples of an identity, and whose trace form is nondegenerate, is central
 /// simple.
-pub fn central_simple_by_trace_form<F: TupleField>()
-    ensures simple { (m : ℕ) (cs : List F.Elem) → CentralSimpleByTraceForm F.ops m cs }
+pub fn central_simple_by_trace_form<E>()
+    ensures simple { (o : Ops E) → FieldLaws o → (m : ℕ) (cs : List E) → CentralSimpleByTraceForm o m cs }
 {}
 
 /// Two products of three basis elements that differ exclude that the algebra is associative, multipliers that refute the
 /// equations of an identity exclude an identity, a central element that is no multiple of an identity excludes a small
 /// centre, and fewer than m tuples that span an ideal, at least one and independent, exclude a central simple algebra.
-pub fn claims_exclude_central_simple<F: TupleField>()
-    ensures excludes { (m : ℕ) (cs : List F.Elem) → ClaimsExcludeCentralSimple F.ops m cs }
+pub fn claims_exclude_central_simple<E>()
+    ensures excludes { (o : Ops E) → FieldLaws o → (m : ℕ) (cs : List E) → ClaimsExcludeCentralSimple o m cs }
 {}

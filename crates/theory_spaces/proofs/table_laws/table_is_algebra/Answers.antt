@@ -2,7 +2,8 @@ use Rattle.theory_spaces.proofs.TupleProducts.{tuple_algebra, tuple_algebra_is, 
 use Rattle.theory_spaces.proofs.table_laws.table_is_algebra.Goals as goal
 
 pub returns : goal.returns
-returns g c = λ n cs one elements associative h.
-    let o = g.F.TupleField.ops in
-    let L = g.F.TupleField.laws in
-    (tuple_algebra o L n cs elements one h associative, tuple_algebra_is o L n cs elements one h associative, tuple_basis o L n cs elements one h associative)
+returns g c = λ o L n cs one elements associative h. (
+  tuple_algebra o L n cs elements one h associative,
+  tuple_algebra_is o L n cs elements one h associative,
+  tuple_basis o L n cs elements one h associative,
+)

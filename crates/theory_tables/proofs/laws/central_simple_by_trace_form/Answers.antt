@@ -2,4 +2,4 @@ use Rattle.theory_tables.proofs.CentralSimple.{central_simple_by_trace_form}
 use Rattle.theory_tables.proofs.laws.central_simple_by_trace_form.Goals as goal
 
 pub returns : goal.returns
-returns g c = let f = g.F.TupleField in record { simple = central_simple_by_trace_form f.ops f.laws }
+returns g c = record { simple = λ o L. central_simple_by_trace_form o L }

@@ -2,4 +2,4 @@ use Rattle.theory_tables.proofs.Exclusions.{claims_exclude}
 use Rattle.theory_tables.proofs.laws.claims_exclude_central_simple.Goals as goal
 
 pub returns : goal.returns
-returns g c = let f = g.F.TupleField in record { excludes = claims_exclude f.ops f.laws }
+returns g c = record { excludes = λ o L. claims_exclude o L }

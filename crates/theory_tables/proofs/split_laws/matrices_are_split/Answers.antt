@@ -2,4 +2,4 @@ use Rattle.theory_tables.proofs.Examples.{matrix_table_is_split, matrix_table_sp
 use Rattle.theory_tables.proofs.split_laws.matrices_are_split.Goals as goal
 
 pub returns : goal.returns
-returns g c = let f = g.F.TupleField in record { split = matrix_table_is_split f.ops f.laws; claim = matrix_table_split_claim f.ops f.laws }
+returns g c = record { split = λ o L. matrix_table_is_split o L; claim = λ o L. matrix_table_split_claim o L }

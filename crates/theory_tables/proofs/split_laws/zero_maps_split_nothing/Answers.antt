@@ -2,4 +2,4 @@ use Rattle.theory_tables.proofs.Examples.{zero_maps_split_nothing}
 use Rattle.theory_tables.proofs.split_laws.zero_maps_split_nothing.Goals as goal
 
 pub returns : goal.returns
-returns g c = let f = g.F.TupleField in record { nothing = zero_maps_split_nothing f.ops f.laws }
+returns g c = record { nothing = λ o L. zero_maps_split_nothing o L }
