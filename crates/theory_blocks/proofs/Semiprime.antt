@@ -38,17 +38,17 @@ module _ {K V : Type 0} (F : FieldOn K) (A : AlgebraOn F.ring V) (m : ℕ) (B : 
 
   module _ (x : V) where
     -- the products of x with two vectors of the basis
-    abbrev around : ℕ → V
+    abbrev pub around : ℕ → V
     around t = two_sided F A m B t x
 
     abbrev In : V → Type 0
     In = InSpan M (m * m) around
 
-    around-in : (a b : V) → In ((a ⊗ x) ⊗ b)
+    pub around-in : (a b : V) → In ((a ⊗ x) ⊗ b)
     around-in a b = span-at M (m * m) (two_sided F A m B) (λ y. (a ⊗ y) ⊗ b) (sandwich_in F A m B a b) x
 
     -- the ideal that x generates
-    around_ideal : IdealSpan A (m * m) around
+    pub around_ideal : IdealSpan A (m * m) around
     around_ideal = record {
       left = λ t _ c. subst In (ap (λ z. z ⊗ B.vec (t % m)) (A.mul_assoc c (B.vec (t / m)) x) ∙ A.mul_assoc c (B.vec (t / m) ⊗ x) (B.vec (t % m)))
           (around-in (c ⊗ B.vec (t / m)) (B.vec (t % m)));

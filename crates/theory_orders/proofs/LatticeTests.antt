@@ -11,6 +11,7 @@ use Rattle.theory_spaces.specs.Valuation.{ValuationOn, Integer, integers, restri
 use Rattle.theory_spaces.proofs.Families.{push, push-below, push-at, below_suc}
 use Rattle.theory_spaces.proofs.Modules.{zero-scale, comb_congr, comb-push, comb_injective, InSpan_trans, InSpan-member}
 use Rattle.theory_spaces.proofs.Spaces.{extend_or_span}
+use Rattle.theory_spaces.proofs.SpanTests.{answer, answer-sound, answer-complete}
 use Rattle.theory_spaces.proofs.Lattices.{lattice_basis}
 
 -- what each test below n tells is decided for all together
@@ -76,20 +77,6 @@ module _ {K V : Type 0} (F : FieldOn K) (Z : ValuationOn F) (M : ModuleOn F.ring
       ∙ sym (M.add-scale F.one (F.neg F.one) x) ∙ ap (λ a. a • x) (add-neg F.additive F.one) ∙ zero-scale M x in
       F.one-nonzero (sym (neg_neg F.additive F.one) ∙ ap F.neg (sym (push-at r (F.neg F.one) s.weights) ∙ h.only_zero d e r (omega arith)) ∙ neg_zero F.additive)
 
-  answer : {P : Type 0} → P ⊎ (P → ⊥) → Bool
-  answer (inl _) = true
-  answer (inr _) = false
-
-  answer-true : {P : Type 0} (d : P ⊎ (P → ⊥)) → P → IsTrue (answer d)
-  unfolding answer
-  answer-true (inl _) h = refl
-  answer-true (inr n) h = absurd (n h)
-
-  true-answer : {P : Type 0} (d : P ⊎ (P → ⊥)) → IsTrue (answer d) → P
-  unfolding answer
-  true-answer (inl h) _ = h
-  true-answer (inr n) e = cc
-
   module _ (m : ℕ) (C : Coords M m) where
     pub in_lattice : (n : ℕ) (v : ℕ → V) (x : V) → InSpan L n v x ⊎ (InSpan L n v x → ⊥)
     in_lattice n v x =
@@ -110,11 +97,11 @@ module _ {K V : Type 0} (F : FieldOn K) (Z : ValuationOn F) (M : ModuleOn F.ring
 
     pub lattice_test-in : (n : ℕ) (v : ℕ → V) (x : V) → IsTrue (lattice_test n v x) → InSpan L n v x
     unfolding lattice_test
-    lattice_test-in n v x = true-answer (in_lattice n v x)
+    lattice_test-in n v x = answer-sound (in_lattice n v x)
 
     pub in-lattice_test : (n : ℕ) (v : ℕ → V) (x : V) → InSpan L n v x → IsTrue (lattice_test n v x)
     unfolding lattice_test
-    in-lattice_test n v x = answer-true (in_lattice n v x)
+    in-lattice_test n v x = answer-complete (in_lattice n v x)
 
     -- whether a lattice lies in another
     pub lattice_within : (n : ℕ) (v : ℕ → V) (k : ℕ) (w : ℕ → V) → ((x : V) → InSpan L n v x → InSpan L k w x) ⊎ (((x : V) → InSpan L n v x → InSpan L k w x) → ⊥)

@@ -1,5 +1,5 @@
 -- In an algebra of dimension m products of m members of a nil subalgebra are 0, so that a nil ideal is nilpotent.
-use Rattle.std.specs.Prelude.{◌≡◌, ℕ, zero, suc, ◌+◌}
+use Rattle.std.specs.Prelude.{◌≡◌, ℕ, zero, suc, ◌+◌, ◌*◌, ◌<◌}
 use Rattle.std.proofs.Common.{refl, sym, ◌∙◌, ap, ap₂, subst, arith, ⊎_elim}
 use Rattle.theory_rings.specs.Ring.{RingOn, FieldOn}
 use Rattle.theory_rings.specs.Power.{power}
@@ -25,6 +25,26 @@ module _ {V : Type 0} (R : RingOn V) where
   -- what a nilpotent element fixes is 0
   pub fixed_by_nilpotent : (z u : V) → u ⊗ z ≡ z → IsNilpotent R u → z ≡ R.zero
   fixed_by_nilpotent z u e h = sym (fixed_by_power z u e h.exponent) ∙ ap (λ w. w ⊗ z) h.vanishes ∙ zero-mul R z
+
+  pub product_congr : (n : ℕ) (a b : ℕ → V) → ((i : ℕ) → i < n → a i ≡ b i) → product R a n ≡ product R b n
+  product_congr zero a b h = refl
+  product_congr (suc n) a b h = ap₂ (λ x y. x ⊗ y) (h n (omega arith)) (product_congr n a b (λ i l. h i (omega arith)))
+
+  pub product-split : (a : ℕ → V) (n m : ℕ) → product R a (n + m) ≡ product R (λ j. a (n + j)) m ⊗ product R a n
+  product-split a n zero = let e : n + zero ≡ n = omega arith in ap (product R a) e ∙ sym (R.one-mul (product R a n))
+  product-split a n (suc m) =
+      let e : n + suc m ≡ suc (n + m) = omega arith in
+      ap (product R a) e ∙ ap (λ x. a (n + m) ⊗ x) (product-split a n m)
+      ∙ sym (R.mul_assoc (a (n + m)) (product R (λ j. a (n + j)) m) (product R a n))
+
+  -- a product of products
+  pub product-product : (a : ℕ → V) (n m : ℕ)
+      → product R a (n * m) ≡ product R (λ i. product R (λ j. a (i * m + j)) m) n
+  product-product a zero m = let e : zero * m ≡ zero = omega arith in ap (product R a) e
+  product-product a (suc n) m =
+      let e : suc n * m ≡ n * m + m = omega arith in
+      ap (product R a) e ∙ product-split a (n * m) m
+      ∙ ap (λ x. product R (λ j. a (n * m + j)) m ⊗ x) (product-product a n m)
 
   -- a power is a product of equal factors
   pub product_const : (x : V) (n : ℕ) → product R (λ _. x) n ≡ power R x n

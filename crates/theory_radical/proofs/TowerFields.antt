@@ -115,7 +115,7 @@ module _ {K : Type 0} (R : CommRingOn K) {is_zero : K → Bool} (Z : ZeroTest R.
       (λ (l : d ≤ k). remainder-past R m monic (numbered (number_of a)) k l ∙ sym (remainder-past R m monic a k l))
       (cases_lt k d))
 
-  remainder_numbers : Enumerated (Remainder R m)
+  pub remainder_numbers : Enumerated (Remainder R m)
   remainder_numbers = record {
     size = E.size ^ d;
     member = numbered;
@@ -125,11 +125,11 @@ module _ {K : Type 0} (R : CommRingOn K) {is_zero : K → Bool} (Z : ZeroTest R.
     number-member = λ t l. tuple_injective E size-pos d (number_of (numbered t)) t (number_of_tuple_lt E size-pos d (coefficient R (numbered t).0)) l (number_of-numbered t);
   }
 
-  size-remainder_numbers : remainder_numbers.size ≡ E.size ^ d
+  pub size-remainder_numbers : remainder_numbers.size ≡ E.size ^ d
   unfolding remainder_numbers
   size-remainder_numbers = refl
 
-dvd-pow : (a k : ℕ) → 1 ≤ k → a ∣ a ^ k
+pub dvd-pow : (a k : ℕ) → 1 ≤ k → a ∣ a ^ k
 dvd-pow a zero h = absurd (omega arith)
 dvd-pow a (suc k) h = subst (λ j. a ∣ j) (sym (pow-succ' a k)) (dvd-mul_right a (a ^ k))
 

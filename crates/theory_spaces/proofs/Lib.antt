@@ -25,3 +25,4 @@ pub mod Isomorphisms
 pub mod MinimalIdempotents
 pub mod LeftMatrices
 pub mod Carry
+pub mod SpanTests
