@@ -7,3 +7,4 @@ pub mod FieldByDigits
 pub mod ProductSteps
 pub mod RingByDigits
 pub mod ElementsByDigits
+pub mod PolynomialPowers

@@ -13,3 +13,5 @@ pub mod Bezout
 pub mod Irreducible
 pub mod ElementLists
 pub mod PolynomialLaws
+pub mod Monic
+pub mod Roots

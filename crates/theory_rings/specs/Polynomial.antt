@@ -42,6 +42,11 @@ abbrev pub constant_coefficients : {X : Type 0} → X → X → ℕ → X
 constant_coefficients nought c zero = c
 constant_coefficients nought c (suc k) = nought
 
+-- the coefficients of the variable, by a 0 and a 1
+abbrev pub variable_coefficients : {X : Type 0} → X → X → ℕ → X
+variable_coefficients nought unit zero = nought
+variable_coefficients nought unit (suc k) = constant_coefficients nought unit k
+
 module _ {K : Type 0} (R : CommRingOn K) where
   -- the polynomials over R
   abbrev pub Poly : Type 0
@@ -54,6 +59,14 @@ module _ {K : Type 0} (R : CommRingOn K) where
   -- the leading coefficient
   abbrev pub lead : Poly → K
   lead a = coefficient a (degree a.0)
+
+  -- a is the constant c
+  abbrev pub IsConstant : K → Poly → Type 0
+  IsConstant c a = (k : ℕ) → coefficient a k ≡ constant_coefficients R.zero c k
+
+  -- a is the variable
+  abbrev pub IsVariable : Poly → Type 0
+  IsVariable a = (k : ℕ) → coefficient a k ≡ variable_coefficients R.zero R.one k
 
   -- not 0, and its leading coefficient is 1
   pub record IsMonic (a : Poly) : Type 0 where

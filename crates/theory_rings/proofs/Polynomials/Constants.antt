@@ -2,7 +2,7 @@
 use Rattle.std.specs.Prelude.{◌≡◌, ◌≢◌, ℕ, zero, suc, ◌<◌, Bool}
 use Rattle.std.proofs.Common.{refl, sym, ◌∙◌, ap, ap₂, arith}
 use Rattle.theory_rings.specs.Ring.{CommRingOn, ZeroTest}
-use Rattle.theory_rings.specs.Polynomial.{Poly, coefficient, degree, convolution, constant_coefficients}
+use Rattle.theory_rings.specs.Polynomial.{Poly, coefficient, degree, IsConstant, IsVariable, convolution, constant_coefficients}
 use Rattle.theory_rings.specs.Homomorphism.{IsRingHom}
 use Rattle.theory_rings.specs.Power.{power}
 use Rattle.theory_rings.proofs.Rings.RingLaws.{add-zero, zero-mul, mul-zero}
@@ -93,6 +93,17 @@ module _ {K : Type 0} (R : CommRingOn K) {is_zero : K → Bool} (Z : ZeroTest R.
       each : (k : ℕ) → series_prepend R.zero (coefficient R P.one) k ≡ series_prepend R.zero (constant_coefficients R.zero R.one) k
       each zero = refl
       each (suc k) = coefficient-one R Z k
+
+  -- there is one constant c, and one variable
+  pub constant_unique : (c : K) (a : Poly R) → IsConstant R c a → a ≡ constant R Z c
+  constant_unique c a h = Poly-path R a (constant R Z c) (λ k. h k ∙ sym (coefficient-constant R Z c k))
+
+  pub variable_unique : (a : Poly R) → IsVariable R a → a ≡ variable
+  variable_unique a h = Poly-path R a variable each
+    where
+      each : (k : ℕ) → coefficient R a k ≡ coefficient R variable k
+      each zero = h zero ∙ sym (coefficient-variable zero)
+      each (suc k) = h (suc k) ∙ sym (coefficient-variable (suc k))
 
   pub degree-variable : R.one ≢ R.zero → degree variable.0 ≡ 1
   degree-variable h = degree_eq R variable 1 (λ e. h (sym (coefficient-variable 1) ∙ e)) past
