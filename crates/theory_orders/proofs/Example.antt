@@ -155,6 +155,7 @@ module _ {K : Type 0} (F : FieldOn K) (Z : ValuationOn F) (p q : K) (U : Uniform
     one_in = L-in A.one Z.one_in Z.zero_in;
     zero_in = L-in A.zero Z.zero_in Z.zero_in;
     add_in = λ x y h g. let a = in-L x h in let b = in-L y g in L-in (A.◌⊕◌ x y) (Z.add_in x.0 y.0 a.0 b.0) (Z.add_in x.1 y.1 a.1 b.1);
+    neg_in = λ x h. let a = in-L x h in L-in (A.neg x) (Z.neg_in x.0 a.0) (Z.neg_in x.1 a.1);
     mul_in = λ x y h g. let a = in-L x h in let b = in-L y g in
         L-in (times x y) (Z.add_in (x.0 ⊗ y.0) (p ⊗ (x.1 ⊗ y.1)) (Z.mul_in x.0 y.0 a.0 b.0) (Z.mul_in p (x.1 ⊗ y.1) U.p_in (Z.mul_in x.1 y.1 a.1 b.1)))
         (Z.add_in (x.0 ⊗ y.1) (x.1 ⊗ y.0) (Z.mul_in x.0 y.1 a.0 b.1) (Z.mul_in x.1 y.0 a.1 b.0));

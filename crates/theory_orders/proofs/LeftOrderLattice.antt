@@ -28,6 +28,7 @@ order_same F A I J e O = record {
   one_in = e.0 A.one O.one_in;
   zero_in = e.0 A.zero O.zero_in;
   add_in = λ x y h g. e.0 (A.◌⊕◌ x y) (O.add_in x y (e.1 x h) (e.1 y g));
+  neg_in = λ x h. e.0 (A.neg x) (O.neg_in x (e.1 x h));
   mul_in = λ x y h g. e.0 (A.◌⊗◌ x y) (O.mul_in x y (e.1 x h) (e.1 y g));
 }
 

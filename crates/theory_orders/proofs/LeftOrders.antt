@@ -3,7 +3,7 @@
 use Rattle.std.specs.Prelude.{ℕ, zero, suc}
 use Rattle.std.proofs.Common.{refl, sym, ◌∙◌, ap, subst}
 use Rattle.theory_rings.specs.Ring.{RingOn}
-use Rattle.theory_rings.proofs.Rings.RingLaws.{zero-mul}
+use Rattle.theory_rings.proofs.Rings.RingLaws.{zero-mul, neg-mul}
 use Rattle.theory_spaces.specs.Module.{AlgebraOn}
 use Rattle.theory_orders.specs.Orders.{IsOrder, IsIdeal, Product, Products, Power, Multiple, LeftOrder, Within}
 use Rattle.theory_orders.proofs.SumsOf.{SumOf_ideal}
@@ -29,6 +29,9 @@ module _ {K V : Type 0} {R : RingOn K} (A : AlgebraOn R V) (L : V → Type 0) (O
       one_in = λ x h. subst J (sym (A.one-mul x)) h;
       zero_in = λ x h. subst J (sym (zero-mul A.ring x)) I.zero_in;
       add_in = λ a b ha hb x h. subst J (sym (A.add-mul a b x)) (I.add_in (a ⊗ x) (b ⊗ x) (ha x h) (hb x h));
+      neg_in = λ a ha x h. subst J
+          (neg-mul A.ring A.one (a ⊗ x) ∙ ap A.neg (A.one-mul (a ⊗ x)) ∙ sym (neg-mul A.ring a x))
+          (I.left (A.neg A.one) (a ⊗ x) (O.neg_in A.one O.one_in) (ha x h));
       mul_in = λ a b ha hb x h. subst J (sym (A.mul_assoc a b x)) (ha (b ⊗ x) (hb x h));
     }
 

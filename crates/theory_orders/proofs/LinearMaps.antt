@@ -5,13 +5,13 @@ use Rattle.std.proofs.Common.{refl, sym, ◌∙◌, ap, subst, arith, ⊎_elim}
 use Rattle.std.proofs.lemmas.Bool.{cases_lt}
 use Rattle.theory_rings.specs.Ring.{FieldOn}
 use Rattle.theory_rings.specs.Sum.{sum}
-use Rattle.theory_rings.proofs.Rings.RingLaws.{zero-mul}
+use Rattle.theory_rings.proofs.Rings.RingLaws.{zero-mul, additive-neg}
 use Rattle.theory_rings.proofs.Rings.Semirings.{semiring, mul_left_comm}
 use Rattle.theory_rings.proofs.Sums.Sums.{sum_congr, map-sum}
 use Rattle.theory_spaces.specs.Module.{ModuleOn, AlgebraOn, module_of}
 use Rattle.theory_spaces.specs.Linear.{comb, InSpan, Independent, Coords}
 use Rattle.theory_spaces.specs.Valuation.{ValuationOn, integers, restrict, LatticeBasis}
-use Rattle.theory_spaces.proofs.Modules.{zero-scale, InSpan-add, InSpan-scale, InSpan_trans, InSpan-member}
+use Rattle.theory_spaces.proofs.Modules.{zero-scale, InSpan-add, InSpan-neg, InSpan-scale, InSpan_trans, InSpan-member}
 use Rattle.theory_spaces.proofs.Spaces.{coord_in, coord_in-above, coord_in-of, coord_in-expand, basis_of}
 use Rattle.theory_spaces.proofs.Lattices.{lattice_basis}
 use Rattle.theory_orders.specs.Uniformizer.{UniformizerOn}
@@ -211,6 +211,9 @@ module _ {K V W : Type 0} (F : FieldOn K) (Z : ValuationOn F) (p q : K) (U : Uni
       one_in = λ x s. subst InL (sym (T.act-one x)) s;
       zero_in = Lam-Gam A.zero O.zero_in;
       add_in = λ a d h g x s. subst InL (sym (T.act-add a d x)) (InSpan-add RM r w (act a x) (act d x) (h x s) (g x s));
+      neg_in = λ a h x s. subst InL
+          (sym (additive-neg A.additive M.additive (λ y. act y x) (λ y z. T.act-add y z x) a))
+          (InSpan-neg RM r w (act a x) (h x s));
       mul_in = λ a d h g x s. subst InL (sym (T.act-mul a d x)) (h (act d x) (g x s));
     }
 

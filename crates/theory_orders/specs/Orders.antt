@@ -7,7 +7,7 @@ pub use Rattle.theory_spaces.specs.Sets.{ring_ops, Within, Same, ProperlyWithin,
 
 module _ {K V : Type 0} {R : RingOn K} (A : AlgebraOn R V) where
   abbrev pub IsOrder : (V → Type 0) → Type 0
-  IsOrder = sets.IsOrder (ring_ops A.ring)
+  IsOrder = sets.IsOrder (ring_ops A.ring) A.one
 
   abbrev pub IsIdeal : (V → Type 0) → (V → Type 0) → Type 0
   IsIdeal = sets.IsIdeal (ring_ops A.ring)
@@ -43,7 +43,7 @@ module _ {K V : Type 0} {R : RingOn K} (A : AlgebraOn R V) where
   Generated = sets.Generated (ring_ops A.ring)
 
   abbrev pub SimpleByElements : (V → Type 0) → (V → Type 0) → Type 0
-  SimpleByElements = sets.SimpleByElements (ring_ops A.ring)
+  SimpleByElements = sets.SimpleByElements (ring_ops A.ring) A.one
 
   abbrev pub IsMaximalIdeal : K → (V → Type 0) → (V → Type 0) → Type 0
   IsMaximalIdeal = sets.IsMaximalIdeal (ring_ops A.ring) A.◌•◌

@@ -30,17 +30,11 @@ module _ {K E V W : Type 0} {R : RingOn K} {S : RingOn E} (A : AlgebraOn R V) (L
       (sym (r.map-add A.zero A.zero O.zero_in O.zero_in) ∙ ap red (A.zero-add A.zero)
       ∙ sym (add-zero B.monoid (red A.zero)))
 
-  neg_by_one : (x : V) → neg A.one ⊗ x ≡ neg x
-  neg_by_one x = neg-mul A.ring A.one x ∙ ap neg (A.one-mul x)
-
-  pub neg_in : (x : V) → L x → L (neg x)
-  neg_in x h = subst L (neg_by_one x) (O.mul_in (neg A.one) x r.neg_one_in h)
-
   -- what becomes the same differs by a member of N
   pub difference : (x y : V) → L x → L y → red x ≡ red y → N (x ⊕ neg y)
-  difference x y lx ly e = (r.kernel (x ⊕ neg y) (O.add_in x (neg y) lx (neg_in y ly))).0
-      (r.map-add x (neg y) lx (neg_in y ly) ∙ ap (λ w. B.◌⊕◌ w (red (neg y))) e
-      ∙ sym (r.map-add y (neg y) ly (neg_in y ly)) ∙ ap red (add-neg A.additive y) ∙ red-zero)
+  difference x y lx ly e = (r.kernel (x ⊕ neg y) (O.add_in x (neg y) lx (O.neg_in y ly))).0
+      (r.map-add x (neg y) lx (O.neg_in y ly) ∙ ap (λ w. B.◌⊕◌ w (red (neg y))) e
+      ∙ sym (r.map-add y (neg y) ly (O.neg_in y ly)) ∙ ap red (add-neg A.additive y) ∙ red-zero)
 
   pub same_class : (J : V → Type 0) → IsIdeal A L J → Within N J → (x y : V) → L x → J y → red x ≡ red y → J x
   same_class J I over x y lx jy e =

@@ -106,7 +106,6 @@ module _ {K V W : Type 0} {R : RingOn K} (A : AlgebraOn R V) (M : ModuleOn R W) 
     map-mul = λ x y _ _. mul-red x y;
     kernel = λ x _. kernel x;
     kernel_in = λ x _. tt;
-    neg_one_in = tt;
   }
 
 -- of finite dimension: the coordinates beside those of the ideal

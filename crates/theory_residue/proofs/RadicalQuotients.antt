@@ -38,7 +38,6 @@ module _ {K E V W X : Type 0} {R : RingOn K} {S : RingOn E} (A : AlgebraOn R V) 
     map-mul = λ x y h g. ap s.red (r.map-mul x y h g) ∙ s.map-mul (r.red x) (r.red y) tt tt;
     kernel = λ x l. (λ e. same.0 x (l, (s.kernel (r.red x) tt).0 e), λ j. (s.kernel (r.red x) tt).1 (same.1 x j).1);
     kernel_in = λ x j. (same.1 x j).0;
-    neg_one_in = r.neg_one_in;
   }
 
 module _ {E W X : Type 0} (k : FieldOn E) (B : AlgebraOn k.ring W) (d : ℕ) (D : Basis (module_of B) d) (I : W → Type 0)

@@ -7,7 +7,6 @@ use Rattle.theory_spaces.specs.Module.{ModuleOn, AlgebraOn, module_of}
 use Rattle.theory_spaces.specs.Linear.{comb, Basis}
 use Rattle.theory_spaces.specs.Space.{SpaceOn, ProductOn}
 use Rattle.theory_spaces.specs.Valuation.{ValuationOn, restrict}
-use Rattle.theory_spaces.proofs.Modules.{InSpan-neg}
 use Rattle.theory_spaces.proofs.Spaces.{Basis-coord}
 use Rattle.theory_spaces.proofs.Tables.{space_basis, space_basis-coord, table_on, coord-unit_mul, algebra_of}
 use Rattle.theory_orders.specs.Uniformizer.{UniformizerOn}
@@ -59,7 +58,6 @@ module _ {K E V : Type 0} (F : FieldOn K) (Z : ValuationOn F) (p q : K) (U : Uni
         map-mul = red-mul F Z p q U k D A n b O MB w (product_of B) constants;
         kernel = λ x l. (kernel_to F Z p q U k D A n b O MB w x l, kernel_from F Z p q U k D A n b O MB w x);
         kernel_in = multiple_in F Z p q U k D A n b O MB w;
-        neg_one_in = InSpan-neg (restrict F Z MA) n v A.one O.one_in;
       };
       values = λ c _. red-comb F Z p q U k D A n b O MB w c;
       map-scale = red-scale F Z p q U k D A n b O MB w;

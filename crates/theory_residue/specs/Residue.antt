@@ -36,7 +36,6 @@ module _ {K E V W : Type 0} {R : RingOn K} {S : RingOn E} (A : AlgebraOn R V) (L
     pub map-mul : (x y : V) → L x → L y → red (A.◌⊗◌ x y) ≡ B.◌⊗◌ (red x) (red y)
     pub kernel : (x : V) → L x → (red x ≡ B.zero) ↔ N x
     pub kernel_in : Within N L
-    pub neg_one_in : L (A.neg A.one)
 
   module _ (r : ReductionOn) where
     -- what the members of J become

@@ -21,26 +21,35 @@ ProperlyWithin I J = Within I J × (Within J I → ⊥)
 abbrev pub Test : {V : Type 0} → (V → Bool) → V → Type 0
 Test t x = IsTrue (t x)
 
--- the operations of a ring on V, without laws
+-- all elements
+abbrev pub Whole : {V : Type 0} → V → Type 0
+Whole x = Unit {0}
+
+-- the operations of a ring on V, without laws; a one is named beside them where it is wanted
 pub record RingOps (V : Type 0) : Type 0 where
   pub zero : V
-  pub one : V
   pub add : V → V → V
+  pub neg : V → V
   pub mul : V → V → V
 
 abbrev pub ring_ops : {V : Type 0} → RingOn V → RingOps V
-ring_ops R = record { zero = R.zero; one = R.one; add = R.◌⊕◌; mul = R.◌⊗◌ }
+ring_ops R = record { zero = R.zero; add = R.◌⊕◌; neg = R.neg; mul = R.◌⊗◌ }
 
 module _ {V : Type 0} (S : RingOps V) where
   -- f 0 + .. + f (n − 1)
   abbrev pub total : ℕ → (ℕ → V) → V
   total n f = sum_by_ops S.zero S.add n f
 
-  -- a set with one, closed under sums and products; a lattice that is one is an order
-  pub record IsOrder (L : V → Type 0) : Type 0 where
-    pub one_in : L S.one
+  -- the set of 0 alone
+  abbrev pub Zero : V → Type 0
+  Zero x = x ≡ S.zero
+
+  -- a subring with the one: closed under sums, opposites and products; a lattice that is one is an order
+  pub record IsOrder (one : V) (L : V → Type 0) : Type 0 where
+    pub one_in : L one
     pub zero_in : L S.zero
     pub add_in : (x y : V) → L x → L y → L (S.add x y)
+    pub neg_in : (x : V) → L x → L (S.neg x)
     pub mul_in : (x y : V) → L x → L y → L (S.mul x y)
 
   -- a two-sided ideal of L
@@ -98,9 +107,9 @@ module _ {V : Type 0} (S : RingOps V) where
   Generated L J a = SumOf (λ x. Around L a x ⊎ J x)
 
   -- L/J is simple, by elements: it is not 0, and each element that is not 0 generates it
-  pub record SimpleByElements (L J : V → Type 0) : Type 0 where
-    pub proper : J S.one → ⊥
-    pub generates : (a : V) → L a → J a ⊎ Generated L J a S.one
+  pub record SimpleByElements (one : V) (L J : V → Type 0) : Type 0 where
+    pub proper : J one → ⊥
+    pub generates : (a : V) → L a → J a ⊎ Generated L J a one
 
   -- M is invertible: its products with its inverse from both sides are L
   pub record IsInvertible (L M : V → Type 0) : Type 0 where

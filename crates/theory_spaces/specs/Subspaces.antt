@@ -4,10 +4,7 @@ use Rattle.theory_rings.specs.Ring.{RingOn}
 use Rattle.theory_spaces.specs.Module.{ModuleOn}
 use Rattle.theory_spaces.specs.Linear.{Basis, BasisOf}
 use Rattle.theory_spaces.specs.Quotient.{SubmoduleOn, quotient_module}
-
--- all vectors
-abbrev pub Whole : {V : Type 0} → V → Type 0
-Whole x = Unit {0}
+pub use Rattle.theory_spaces.specs.Sets.{Whole}
 
 module _ {K V W : Type 0} {R : RingOn K} (M : ModuleOn R V) (N : ModuleOn R W) (f : V → W) (S : V → Type 0) where
   -- the vectors of S that f sends to 0
