@@ -14,6 +14,7 @@ use Rattle.theory_spaces.specs.Algebra.{IdealSpan}
 use Rattle.theory_spaces.specs.AlgebraMap.{IsSimple}
 use Rattle.theory_spaces.specs.Subspaces.{Whole}
 use Rattle.theory_spaces.proofs.Modules.{InSpan-add, InSpan-member, linear_ext, linear_id, left_linear}
+use Rattle.theory_spaces.proofs.Ideals.{span_ideal}
 use Rattle.theory_spaces.proofs.Spaces.{coords_of}
 use Rattle.theory_spaces.proofs.Subspaces.{whole_submodule, whole_basis}
 use Rattle.theory_spaces.proofs.Kernels.{rank_nullity}
@@ -91,10 +92,9 @@ module _ {K V : Type 0} (F : FieldOn K) (A : AlgebraOn F.ring V) (m : ℕ) (B : 
       record {
         size = r.nullity;
         vec = v;
-        ideal = record {
-          left = λ i l x. r.kernel.spans (x ⊗ v i) (tt, J.left x (v i) tt (r.kernel.inside i l).1);
-          right = λ i l x. r.kernel.spans (v i ⊗ x) (tt, J.right x (v i) tt (r.kernel.inside i l).1);
-        };
+        ideal = span_ideal A r.nullity v
+            (λ i l x. r.kernel.spans (x ⊗ v i) (tt, J.left x (v i) tt (r.kernel.inside i l).1))
+            (λ i l x. r.kernel.spans (v i ⊗ x) (tt, J.right x (v i) tt (r.kernel.inside i l).1));
         spans = λ x h. r.kernel.spans x (tt, h);
         annihilated = linear_eq_zero N N (λ y. e ⊗ y) (left_linear A e) r.nullity v (λ i l. (r.kernel.inside i l).1);
       }

@@ -2,32 +2,21 @@
 -- is 0; so a nilpotent element of the centre is 0.
 use Rattle.std.specs.Prelude.{◌≡◌, ℕ, zero, suc, ◌+◌, ◌*◌, ◌/◌, ◌%◌}
 use Rattle.std.proofs.Common.{refl, sym, ◌∙◌, ap, subst, arith}
-use Rattle.theory_rings.specs.Ring.{RingOn, FieldOn}
+use Rattle.theory_rings.specs.Ring.{FieldOn}
 use Rattle.theory_rings.specs.Power.{power}
 use Rattle.theory_rings.proofs.Rings.RingLaws.{mul-zero, zero-mul}
 use Rattle.theory_rings.proofs.Powers.Powers.{power-add, power_commutes}
 use Rattle.theory_spaces.specs.Module.{ModuleOn, AlgebraOn, module_of}
 use Rattle.theory_spaces.specs.Linear.{InSpan, Basis}
 use Rattle.theory_spaces.specs.Algebra.{IdealSpan}
-use Rattle.theory_spaces.proofs.Modules.{InSpan-zero, InSpan-add, left_linear, right_linear, linear_comp, linear_id}
-use Rattle.theory_spaces.proofs.Ideals.{ideal_left, ideal_right}
-use Rattle.theory_radical.specs.Ideal.{IsIdeal, IsNilpotentIdeal}
+use Rattle.theory_spaces.proofs.Modules.{left_linear, right_linear, linear_comp, linear_id}
+use Rattle.theory_spaces.proofs.Ideals.{span_ideal}
+use Rattle.theory_radical.specs.Ideal.{IsNilpotentIdeal}
 use Rattle.theory_blocks.specs.Centre.{Centre}
 use Rattle.theory_blocks.specs.TwoSidedRank.{two_sided}
 use Rattle.theory_blocks.specs.MaximalIdeals.{HasNoNilpotentIdeal, CentreIsReduced}
 use Rattle.theory_blocks.proofs.Spans.{linear_eq_zero, span-at}
 use Rattle.theory_blocks.proofs.TwoSidedFamilies.{sandwich_in}
-
-module _ {K V : Type 0} {R : RingOn K} (A : AlgebraOn R V) where
-  -- a span that is an ideal, as a set
-  pub ideal_of_span : (n : ℕ) (g : ℕ → V) → IdealSpan A n g → IsIdeal A.ring (InSpan (module_of A) n g)
-  ideal_of_span n g h = record {
-    inside = λ x _. tt;
-    zero_in = InSpan-zero (module_of A) n g;
-    add_in = InSpan-add (module_of A) n g;
-    left = λ c x _. ideal_left A n g h c x;
-    right = λ c x _. ideal_right A n g h c x;
-  }
 
 module _ {K V : Type 0} (F : FieldOn K) (A : AlgebraOn F.ring V) (m : ℕ) (B : Basis (module_of A) m) where
   infixl 70 ◌⊗◌
@@ -49,11 +38,12 @@ module _ {K V : Type 0} (F : FieldOn K) (A : AlgebraOn F.ring V) (m : ℕ) (B : 
 
     -- the ideal that x generates
     pub around_ideal : IdealSpan A (m * m) around
-    around_ideal = record {
-      left = λ t _ c. subst In (ap (λ z. z ⊗ B.vec (t % m)) (A.mul_assoc c (B.vec (t / m)) x) ∙ A.mul_assoc c (B.vec (t / m) ⊗ x) (B.vec (t % m)))
-          (around-in (c ⊗ B.vec (t / m)) (B.vec (t % m)));
-      right = λ t _ c. subst In (sym (A.mul_assoc (B.vec (t / m) ⊗ x) (B.vec (t % m)) c)) (around-in (B.vec (t / m)) (B.vec (t % m) ⊗ c));
-    }
+    around_ideal = span_ideal A (m * m) around
+        (λ t _ c. subst In
+        (ap (λ z. z ⊗ B.vec (t % m)) (A.mul_assoc c (B.vec (t / m)) x) ∙ A.mul_assoc c (B.vec (t / m) ⊗ x) (B.vec (t % m)))
+        (around-in (c ⊗ B.vec (t / m)) (B.vec (t % m))))
+        (λ t _ c. subst In (sym (A.mul_assoc (B.vec (t / m) ⊗ x) (B.vec (t % m)) c))
+        (around-in (B.vec (t / m)) (B.vec (t % m) ⊗ c)))
 
     module _ (h : (a : V) → (x ⊗ a) ⊗ x ≡ A.zero) where
       -- a member times a·x is 0
@@ -72,7 +62,7 @@ module _ {K V : Type 0} (F : FieldOn K) (A : AlgebraOn F.ring V) (m : ℕ) (B : 
 
       around_nilpotent : IsNilpotentIdeal ring In
       around_nilpotent = record {
-        ideal = ideal_of_span A (m * m) around around_ideal;
+        ideal = around_ideal;
         exponent = 2;
         vanishes = λ a g. ap (λ w. a 1 ⊗ w) (A.mul-one (a 0)) ∙ square_vanishes (a 1) (a 0) (g 1) (g 0);
       }

@@ -6,9 +6,8 @@ use Rattle.theory_rings.specs.Enumerated.{Enumerated}
 use Rattle.theory_spaces.specs.Module.{ModuleOn, AlgebraOn, module_of}
 use Rattle.theory_spaces.specs.Linear.{InSpan, Basis, BasisOf}
 use Rattle.theory_spaces.specs.Subspaces.{Whole, Kernel}
-use Rattle.theory_spaces.specs.Algebra.{IdealSpan}
 use Rattle.theory_spaces.specs.Valuation.{ValuationOn}
-use Rattle.theory_spaces.proofs.Modules.{left_linear, InSpan-member}
+use Rattle.theory_spaces.proofs.Modules.{left_linear}
 use Rattle.theory_spaces.proofs.Spaces.{coords_of}
 use Rattle.theory_spaces.proofs.Kernels.{rank_nullity}
 use Rattle.theory_spaces.proofs.Subspaces.{whole_submodule, whole_basis}
@@ -127,11 +126,7 @@ module _ {K E V : Type 0} (F : FieldOn K) (Z : ValuationOn F) (p q : K) (k : Fie
         let over = Q.holds a x X in
         let g : ℕ → W Q.size = λ i. f.red (x i) in
         let H = (Q.maximal a x X.ideal over).0 X in
-        let ideal : IdealSpan C a g = record {
-          left = λ i l c. H.ideal.left c (g i) tt (InSpan-member MC a i g l);
-          right = λ i l c. H.ideal.right c (g i) tt (InSpan-member MC a i g l);
-        } in
-        let r = M.ideals.complete a g ideal H in
+        let r = M.ideals.complete a g H.ideal H in
         let s = Q.span a x X.ideal over in (
           r.0,
           r.1,

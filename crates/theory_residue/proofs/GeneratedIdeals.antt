@@ -6,6 +6,7 @@ use Rattle.theory_spaces.specs.Module.{ModuleOn, AlgebraOn, module_of}
 use Rattle.theory_spaces.specs.Linear.{InSpan, IsSubmodule, Basis}
 use Rattle.theory_spaces.specs.Algebra.{IdealSpan}
 use Rattle.theory_spaces.proofs.Families.{join, each_join}
+use Rattle.theory_spaces.proofs.Ideals.{span_ideal}
 use Rattle.theory_spaces.proofs.Modules.{InSpan-member, InSpan_trans, InSpan-join_left, InSpan-join_right, span_in}
 use Rattle.theory_radical.specs.Ideal.{IsIdeal}
 use Rattle.theory_blocks.proofs.Semiprime as semiprime
@@ -61,14 +62,13 @@ module _ {K V : Type 0} (F : FieldOn K) (A : AlgebraOn F.ring V) (m : ℕ) (B : 
     of_around y s = InSpan_trans M (m * m) (n + m * m) around beside y (InSpan-join_right M n (m * m) g around) s
 
     pub beside_ideal : IdealSpan A (n + m * m) beside
-    beside_ideal = record {
-      left = each_join n (m * m) g around (λ y. (c : V) → Beside (c ⊗ y))
-          (λ i l c. of_ideal (c ⊗ g i) (ideal.left i l c))
-          (λ t l c. of_around (c ⊗ around t) (around_ideal.left t l c));
-      right = each_join n (m * m) g around (λ y. (c : V) → Beside (y ⊗ c))
-          (λ i l c. of_ideal (g i ⊗ c) (ideal.right i l c))
-          (λ t l c. of_around (around t ⊗ c) (around_ideal.right t l c));
-    }
+    beside_ideal = span_ideal A (n + m * m) beside
+        (each_join n (m * m) g around (λ y. (c : V) → Beside (c ⊗ y))
+        (λ i l c. of_ideal (c ⊗ g i) (ideal.left c (g i) tt (InSpan-member M n i g l)))
+        (λ t l c. of_around (c ⊗ around t) (around_ideal.left c (around t) tt (InSpan-member M (m * m) t around l))))
+        (each_join n (m * m) g around (λ y. (c : V) → Beside (y ⊗ c))
+        (λ i l c. of_ideal (g i ⊗ c) (ideal.right c (g i) tt (InSpan-member M n i g l)))
+        (λ t l c. of_around (around t ⊗ c) (around_ideal.right c (around t) tt (InSpan-member M (m * m) t around l))))
 
     pub beside-self : Beside x
     beside-self = of_around x around-self

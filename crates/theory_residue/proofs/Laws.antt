@@ -18,7 +18,6 @@ use Rattle.theory_orders.proofs.LatticeTests.{lattice_test, lattice_test-in, in-
 use Rattle.theory_orders.proofs.Ramified.{spanning}
 use Rattle.theory_radical.specs.Ideal.{IsLargestNilpotentIdeal}
 use Rattle.theory_blocks.specs.MaximalIdeals.{IsMaximalIdeal as IsMaximalRingIdeal}
-use Rattle.theory_blocks.proofs.Semiprime.{ideal_of_span}
 use Rattle.theory_residue.specs.Residue.{ResidueOn, ReductionOn, Reduced, Lifted, ResidueReduction}
 use Rattle.theory_residue.specs.ResidueLaws.{ResidueAlgebraExists, OrderReduces, LatticeReduces, SpanLifts}
 use Rattle.theory_residue.specs.ResidueLaws.{IdealsCorrespondAlways}
@@ -133,7 +132,7 @@ module _ {K E V : Type 0} (F : FieldOn K) (Z : ValuationOn F) (p q : K) (U : Uni
     span_law : (m : ℕ) (g : ℕ → W) → IdealSpan B m g → SpanLifts F Z p k D A n B v R m g
     span_law m g ideal =
         let S : W → Type 0 = InSpan MB m g in
-        let H = ideal_of_span B m g ideal in
+        let H = ideal in
         let u = lifted_vec F Z p q U k D A B n v o.order R r.map-scale m g in
         let e = lifted_lattice F Z p q U k D A B n v o.order R r.map-scale m g in
         let J : V → Type 0 = Lattice F Z A (m + n) u in

@@ -15,7 +15,6 @@ use Rattle.theory_spaces.proofs.Spaces.{coords_of, span_basis, extend_basis, Bas
 use Rattle.theory_spaces.proofs.IndependentVectors.{Independent-at_most}
 use Rattle.theory_spaces.proofs.Tables.{space_basis, algebra_of}
 use Rattle.theory_radical.specs.Ideal.{IsIdeal}
-use Rattle.theory_blocks.proofs.Semiprime.{ideal_of_span}
 use Rattle.theory_residue.specs.Residue.{ReductionOn}
 use Rattle.theory_residue.specs.Semisimple.{QuotientAlgebra}
 
@@ -183,7 +182,7 @@ module _ {K V : Type 0} (F : FieldOn K) (A : AlgebraOn F.ring V) (d : ℕ) (D : 
     quotient_of : QuotientAlgebra A (InSpan MA m g) W
     unfolding quotient_reduction
     quotient_of =
-        let I = ideal_of_span A m g ideal in
+        let I = ideal in
         let kernel : (x : V) → (red x ≡ MS.zero) ↔ InSpan MA m g x = λ x. (to_span x, of_span x) in
         record {
           size = s;

@@ -58,10 +58,7 @@ module _ {K E V : Type 0} (F : FieldOn K) (Z : ValuationOn F) (p q : K) (U : Uni
     largest = reduces.radical.0 R
 
     span_ideal : IdealSpan B m g
-    span_ideal = record {
-      left = λ i l c. largest.nilpotent.ideal.left c (g i) tt (InSpan-member MB m i g l);
-      right = λ i l c. largest.nilpotent.ideal.right c (g i) tt (InSpan-member MB m i g l);
-    }
+    span_ideal = largest.nilpotent.ideal
 
     Q : QuotientAlgebra B (InSpan MB m g) W
     Q = quotient_exists k B n w W M S m g span_ideal

@@ -19,7 +19,7 @@ use Rattle.theory_radical.specs.Ideal.{IsIdeal as IsRingIdeal}
 use Rattle.theory_blocks.specs.MaximalIdeals.{HasNoNilpotentIdeal}
 use Rattle.theory_residue.specs.Residue.{ReductionOn, Reduced, Lifted}
 use Rattle.theory_radical.proofs.NilIdeals.{product-product}
-use Rattle.theory_blocks.proofs.Semiprime.{ideal_of_span, around, around_ideal}
+use Rattle.theory_blocks.proofs.Semiprime.{around, around_ideal}
 use Rattle.theory_residue.proofs.GeneratedIdeals.{around-self, around_within}
 
 -- a map of an order onto an algebra, and then onto a quotient of that
@@ -96,7 +96,7 @@ module _ {E W X : Type 0} (k : FieldOn E) (B : AlgebraOn k.ring W) (d : ℕ) (D 
       let below = around_within k B d D x T (from_ideal S N.ideal)
       (subst S (sym (red-lift (h i))) (InSpan-member (module_of C) n i h l)) in
       let nil : IsNilpotentIdeal B.ring (InSpan (module_of B) (d * d) (around k B d D x)) = record {
-        ideal = ideal_of_span B (d * d) (around k B d D x) (around_ideal k B d D x);
+        ideal = around_ideal k B d D x;
         exponent = e * f;
         vanishes = λ a g. vanish a (λ i. below (a i) (g i));
       } in

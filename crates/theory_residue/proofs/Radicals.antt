@@ -8,6 +8,7 @@ use Rattle.theory_spaces.specs.Module.{ModuleOn, AlgebraOn, module_of}
 use Rattle.theory_spaces.specs.Linear.{InSpan, Coords, Basis}
 use Rattle.theory_spaces.specs.Algebra.{IdealSpan}
 use Rattle.theory_spaces.proofs.Modules.{InSpan-member}
+use Rattle.theory_spaces.proofs.Ideals.{span_ideal}
 use Rattle.theory_spaces.proofs.Spaces.{coords_of}
 use Rattle.theory_spaces.proofs.SpanTests.{span_test, span_test-in, in-span_test}
 use Rattle.theory_orders.specs.Orders.{IsOrder, IsIdeal, Multiple, Within, Same, Test, Radical, SimpleQuotient}
@@ -16,7 +17,7 @@ use Rattle.theory_orders.proofs.LatticeTests.{decided}
 use Rattle.theory_radical.specs.Ideal.{ProductsVanish, IsNilpotentIdeal, IsLargestNilpotentIdeal}
 use Rattle.theory_radical.specs.Ideal.{IsIdeal as IsRingIdeal}
 use Rattle.theory_blocks.specs.MaximalIdeals.{IsMaximalIdeal}
-use Rattle.theory_blocks.proofs.Semiprime.{ideal_of_span, around, around_ideal}
+use Rattle.theory_blocks.proofs.Semiprime.{around, around_ideal}
 use Rattle.theory_residue.specs.Residue.{ReductionOn, Reduced, Lifted}
 use Rattle.theory_residue.proofs.GeneratedIdeals.{around-self, around_within, beside, beside_ideal, of_ideal}
 use Rattle.theory_residue.proofs.GeneratedIdeals.{beside-self, beside_within}
@@ -78,7 +79,7 @@ module _ {K E V W : Type 0} {R : RingOn K} (k : FieldOn E) (A : AlgebraOn R V) (
       ideal = reduced_ideal A L N O B r J I;
       proper = λ h. S.proper (whole A L J O J I (one_of_reduced h));
       maximal = λ n g ideal h.
-          let H = ideal_of_span B n g ideal in
+          let H = ideal in
           ⊎_elim
           (λ (w : Within (Test (t n g)) J). inl (λ x s. (lift x, w (lift x) (t_lift n g H x s), red-lift x)))
           (λ (w : Within L (Test (t n g))). inr (λ x. t_reduced n g H x (lift x, w (lift x) (lift_in x), red-lift x)))
@@ -89,10 +90,9 @@ module _ {K E V W : Type 0} {R : RingOn K} (k : FieldOn E) (A : AlgebraOn R V) (
     pub simple_of_maximal : (n : ℕ) (g : ℕ → W) → Same (Red J) (InSpan MB n g) → IsMaximalIdeal B (Red J)
         → SimpleQuotient A L J
     simple_of_maximal n g same M =
-        let span_ideal : IdealSpan B n g = record {
-          left = λ i b c. same.0 (B.◌⊗◌ c (g i)) (M.ideal.left c (g i) tt (same.1 (g i) (InSpan-member MB n i g b)));
-          right = λ i b c. same.0 (B.◌⊗◌ (g i) c) (M.ideal.right c (g i) tt (same.1 (g i) (InSpan-member MB n i g b)));
-        } in
+        let spanned : IdealSpan B n g = span_ideal B n g
+        (λ i b c. same.0 (B.◌⊗◌ c (g i)) (M.ideal.left c (g i) tt (same.1 (g i) (InSpan-member MB n i g b))))
+        (λ i b c. same.0 (B.◌⊗◌ (g i) c) (M.ideal.right c (g i) tt (same.1 (g i) (InSpan-member MB n i g b)))) in
         record {
           proper = λ h. M.proper (A.one, h A.one O.one_in, r.map-one);
           nothing_between = λ u IT JT. ⊎_elim
@@ -101,16 +101,16 @@ module _ {K E V W : Type 0} {R : RingOn K} (k : FieldOn E) (A : AlgebraOn R V) (
               let y = red x in
               let in_red : Red (Test u) y = (x, ux, refl) in
               let RI = reduced_ideal A L N O B r (Test u) IT in
-              let below = beside_within k B d D y n g span_ideal (Red (Test u)) RI
+              let below = beside_within k B d D y n g spanned (Red (Test u)) RI
               (λ i b. let j = same.1 (g i) (InSpan-member MB n i g b) in (j.0, JT j.0 j.1, j.2)) in_red in
               ⊎_elim
-              (λ (w : (z : W) → InSpan MB (n + d * d) (beside k B d D y n g span_ideal) z → Red J z).
-              of_reduced A L N O B r J I over x (IT.inside x ux) (w y (beside-self k B d D y n g span_ideal)))
-              (λ (all : (z : W) → InSpan MB (n + d * d) (beside k B d D y n g span_ideal) z).
+              (λ (w : (z : W) → InSpan MB (n + d * d) (beside k B d D y n g spanned) z → Red J z).
+              of_reduced A L N O B r J I over x (IT.inside x ux) (w y (beside-self k B d D y n g spanned)))
+              (λ (all : (z : W) → InSpan MB (n + d * d) (beside k B d D y n g spanned) z).
               absurd (no (of_reduced A L N O B r (Test u) IT (λ z h. JT z (over z h)) A.one O.one_in
               (subst (Red (Test u)) (sym r.map-one) (below B.one (all B.one))))))
-              (M.maximal (n + d * d) (beside k B d D y n g span_ideal) (beside_ideal k B d D y n g span_ideal)
-              (λ z h. of_ideal k B d D y n g span_ideal z (same.0 z h)))))
+              (M.maximal (n + d * d) (beside k B d D y n g spanned) (beside_ideal k B d D y n g spanned)
+              (λ z h. of_ideal k B d D y n g spanned z (same.0 z h)))))
               (decided (u A.one));
         }
 
@@ -161,7 +161,7 @@ module _ {K E V W : Type 0} {R : RingOn K} (k : FieldOn E) (A : AlgebraOn R V) (
         let below = around_within k B d D y (Reduced A L N B r (Test u)) (reduced_ideal A L N O B r (Test u) IT)
         (x, ux, refl) in
         let nil : IsNilpotentIdeal B.ring (InSpan (module_of B) (d * d) (around k B d D y)) = record {
-          ideal = ideal_of_span B (d * d) (around k B d D y) (around_ideal k B d D y);
+          ideal = around_ideal k B d D y;
           exponent = suc e;
           vanishes = λ a h. vanish_of_falls A L N O B r (Test u) IT e falls a (λ i. below (a i) (h i));
         } in

@@ -1,13 +1,13 @@
--- The span of vectors that is an ideal is closed under products with all elements.
-use Rattle.std.specs.Prelude.{ℕ}
+-- Spans that are ideals: enough that the products of their vectors with all elements lie in them.
+use Rattle.std.specs.Prelude.{ℕ, ◌<◌}
 use Rattle.std.proofs.Common.{sym, ◌∙◌, ap, subst}
 use Rattle.theory_rings.specs.Ring.{RingOn}
 use Rattle.theory_spaces.specs.Module.{ModuleOn, AlgebraOn, module_of}
 use Rattle.theory_spaces.specs.Linear.{InSpan}
 use Rattle.theory_spaces.specs.Algebra.{IdealSpan}
-use Rattle.theory_spaces.proofs.Modules.{left_linear, right_linear, map-comb, InSpan-comb}
+use Rattle.theory_spaces.proofs.Modules.{left_linear, right_linear, map-comb, InSpan-zero, InSpan-add, InSpan-comb}
 
-module _ {K V : Type 0} {R : RingOn K} (A : AlgebraOn R V) (n : ℕ) (g : ℕ → V) (ideal : IdealSpan A n g) where
+module _ {K V : Type 0} {R : RingOn K} (A : AlgebraOn R V) (n : ℕ) (g : ℕ → V) where
   infixl 70 ◌⊗◌
   open A use {◌⊗◌}
 
@@ -17,10 +17,20 @@ module _ {K V : Type 0} {R : RingOn K} (A : AlgebraOn R V) (n : ℕ) (g : ℕ �
   abbrev In : V → Type 0
   In = InSpan M n g
 
-  pub ideal_left : (x y : V) → In y → In (x ⊗ y)
-  ideal_left x y s = subst In (sym (ap (λ z. x ⊗ z) s.combines ∙ map-comb M M (λ z. x ⊗ z) (left_linear A x) n s.weights g))
-      (InSpan-comb M n n s.weights (λ i. x ⊗ g i) g (λ i l. ideal.left i l x))
+  pub span_ideal : ((i : ℕ) → i < n → (x : V) → In (x ⊗ g i)) → ((i : ℕ) → i < n → (x : V) → In (g i ⊗ x)) → IdealSpan A n g
+  span_ideal left right = record {
+    inside = λ x _. tt;
+    zero_in = InSpan-zero M n g;
+    add_in = InSpan-add M n g;
+    left = λ x y _ s. subst In (sym (ap (λ z. x ⊗ z) s.combines ∙ map-comb M M (λ z. x ⊗ z) (left_linear A x) n s.weights g))
+        (InSpan-comb M n n s.weights (λ i. x ⊗ g i) g (λ i l. left i l x));
+    right = λ x y _ s. subst In (sym (ap (λ z. z ⊗ x) s.combines ∙ map-comb M M (λ z. z ⊗ x) (right_linear A x) n s.weights g))
+        (InSpan-comb M n n s.weights (λ i. g i ⊗ x) g (λ i l. right i l x));
+  }
 
-  pub ideal_right : (x y : V) → In y → In (y ⊗ x)
-  ideal_right x y s = subst In (sym (ap (λ z. z ⊗ x) s.combines ∙ map-comb M M (λ z. z ⊗ x) (right_linear A x) n s.weights g))
-      (InSpan-comb M n n s.weights (λ i. g i ⊗ x) g (λ i l. ideal.right i l x))
+  module _ (ideal : IdealSpan A n g) where
+    pub ideal_left : (x y : V) → In y → In (x ⊗ y)
+    ideal_left x y s = ideal.left x y tt s
+
+    pub ideal_right : (x y : V) → In y → In (y ⊗ x)
+    ideal_right x y s = ideal.right x y tt s

@@ -8,7 +8,8 @@ use Rattle.theory_spaces.specs.Module.{AlgebraOn, module_of}
 use Rattle.theory_spaces.specs.Linear.{comb, InSpan, Basis, IsLinear}
 use Rattle.theory_spaces.specs.Algebra.{IdealSpan, Central, CentralSimple}
 use Rattle.theory_spaces.specs.AlgebraMap.{IsAlgebraHom, IsAlgebraIso, IsSimple}
-use Rattle.theory_spaces.proofs.Modules.{map-zero, map-comb, comb_congr_right}
+use Rattle.theory_spaces.proofs.Ideals.{span_ideal}
+use Rattle.theory_spaces.proofs.Modules.{map-zero, map-comb, comb_congr_right, InSpan-member}
 
 pub hom_linear : {K V W : Type 0} {R : RingOn K} (A : AlgebraOn R V) (B : AlgebraOn R W) (f : V → W) → IsAlgebraHom A B f → IsLinear (module_of A) (module_of B) f
 hom_linear A B f h = record { map-add = h.map-add; map-scale = h.map-scale }
@@ -106,12 +107,11 @@ module _ {K V W : Type 0} {R : RingOn K} (A : AlgebraOn R V) (B : AlgebraOn R W)
   map_ideal : (n : ℕ) (g : ℕ → V) → IdealSpan A n g → IdealSpan B n (λ i. f (g i))
   map_ideal n g ideal =
       let In : W → Type 0 = InSpan (module_of B) n (λ i. f (g i)) in
-      record {
-        left = λ i l y. subst In (h.hom.map-mul (inverse y) (g i) ∙ ap (λ z. B.◌⊗◌ z (f (g i))) (map-inverse y))
-            (map_span n g (A.◌⊗◌ (inverse y) (g i)) (ideal.left i l (inverse y)));
-        right = λ i l y. subst In (h.hom.map-mul (g i) (inverse y) ∙ ap (B.◌⊗◌ (f (g i))) (map-inverse y))
-            (map_span n g (A.◌⊗◌ (g i) (inverse y)) (ideal.right i l (inverse y)));
-      }
+      span_ideal B n (λ i. f (g i))
+      (λ i l y. subst In (h.hom.map-mul (inverse y) (g i) ∙ ap (λ z. B.◌⊗◌ z (f (g i))) (map-inverse y))
+      (map_span n g (A.◌⊗◌ (inverse y) (g i)) (ideal.left (inverse y) (g i) tt (InSpan-member (module_of A) n i g l))))
+      (λ i l y. subst In (h.hom.map-mul (g i) (inverse y) ∙ ap (B.◌⊗◌ (f (g i))) (map-inverse y))
+      (map_span n g (A.◌⊗◌ (g i) (inverse y)) (ideal.right (inverse y) (g i) tt (InSpan-member (module_of A) n i g l))))
 
   pub iso_simple : IsSimple B → IsSimple A
   iso_simple simple n g ideal = ⊎_elim

@@ -15,11 +15,10 @@ use Rattle.theory_spaces.specs.Space.{SpaceOn}
 use Rattle.theory_spaces.specs.Algebra.{IdealSpan, Central, CentralSimple}
 use Rattle.theory_spaces.specs.MatrixAlgebra.{unit_entries, IsMatrixAlgebra, MatrixUnits}
 use Rattle.theory_spaces.proofs.Families.{below_suc}
-use Rattle.theory_spaces.proofs.Modules.{InSpan-scale, InSpan_trans}
+use Rattle.theory_spaces.proofs.Modules.{InSpan-scale, InSpan-member, InSpan_trans}
 use Rattle.theory_spaces.proofs.Matrices.{Mat-path, Mat-ext, mat, mat-entry, matrices, delta-same, delta-other, delta_comm}
 use Rattle.theory_spaces.proofs.Tables.{space_basis, coord-unit}
 use Rattle.theory_spaces.proofs.PairIndex.{pair-lt, row-lt, column-lt, delta-pairs}
-use Rattle.theory_spaces.proofs.Ideals.{ideal_left}
 
 -- the algebra
 module _ {K : Type 0} (C : CommRingOn K) (set : IsSet K) (n : ℕ) where
@@ -192,7 +191,8 @@ module _ {K : Type 0} (F : FieldOn K) (n : ℕ) (A : AlgebraOn F.ring (Mat F.rin
         let all : (i j : ℕ) → In (E i j) = λ i j.
         subst In (sym (unit_from_entry (g t) h.0 h.2.0 i j h.1 h.2.1 h.2.2))
         (InSpan-scale (module_of A) m g (F.inv ((g t).0 h.0 h.2.0)) (A.◌⊗◌ (E i h.0) (A.◌⊗◌ (g t) (E h.2.0 j)))
-        (ideal_left A m g ideal (E i h.0) (A.◌⊗◌ (g t) (E h.2.0 j)) (ideal.right t l (E h.2.0 j)))) in
+        (ideal.left (E i h.0) (A.◌⊗◌ (g t) (E h.2.0 j)) tt
+        (ideal.right (E h.2.0 j) (g t) tt (InSpan-member (module_of A) m t g l)))) in
         InSpan_trans (module_of A) (n * n) m B.vec g x
         (λ s b. subst In (sym (matrix_basis-vec F.cring (field_set F) n A H (s / n) (s % n) (row-lt n n s b) (column-lt n n s b)) ∙ ap B.vec (div-add-mod' s n)) (all (s / n) (s % n)))
         (record { weights = B.coord x; combines = B.expand x })

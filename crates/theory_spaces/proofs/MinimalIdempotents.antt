@@ -12,6 +12,7 @@ use Rattle.theory_spaces.specs.Linear.{InSpan, IsSubmodule, IsLinear, Basis, Bas
 use Rattle.theory_spaces.specs.Algebra.{IdealSpan}
 use Rattle.theory_spaces.specs.AlgebraMap.{IsSimple}
 use Rattle.theory_spaces.specs.MinimalIdempotent.{InLeftIdeal, OneThrough, IsEndomorphism, multiplier}
+use Rattle.theory_spaces.proofs.Ideals.{span_ideal}
 use Rattle.theory_spaces.proofs.Modules.{scale-zero, zero-scale, comb_congr_right, InSpan-comb, InSpan-member, left_linear, right_linear, linear_comp, map-comb, span_in}
 use Rattle.theory_spaces.proofs.Spaces.{coords_of, span_basis}
 use Rattle.theory_spaces.proofs.Subspaces.{BasisOf-iff}
@@ -46,11 +47,12 @@ module _ {K V : Type 0} {R : RingOn K} (A : AlgebraOn R V) (n : ℕ) (B : Basis 
       (InSpan-member M (n * n) (i * n + j) products (pair-lt n n i j a b))) y) x
 
   generated : IdealSpan A (n * n) products
-  generated = record {
-    left = λ t _ x. subst In (ap (λ z. z ⊗ B.vec (t % n)) (A.mul_assoc x (B.vec (t / n)) e) ∙ A.mul_assoc x (B.vec (t / n) ⊗ e) (B.vec (t % n)))
-        (sandwich (x ⊗ B.vec (t / n)) (B.vec (t % n)));
-    right = λ t _ x. subst In (sym (A.mul_assoc (B.vec (t / n) ⊗ e) (B.vec (t % n)) x)) (sandwich (B.vec (t / n)) (B.vec (t % n) ⊗ x));
-  }
+  generated = span_ideal A (n * n) products
+      (λ t _ x. subst In
+      (ap (λ z. z ⊗ B.vec (t % n)) (A.mul_assoc x (B.vec (t / n)) e) ∙ A.mul_assoc x (B.vec (t / n) ⊗ e) (B.vec (t % n)))
+      (sandwich (x ⊗ B.vec (t / n)) (B.vec (t % n))))
+      (λ t _ x. subst In (sym (A.mul_assoc (B.vec (t / n) ⊗ e) (B.vec (t % n)) x))
+      (sandwich (B.vec (t / n)) (B.vec (t % n) ⊗ x)))
 
   -- in a simple algebra one lies in the ideal of each element other than 0
   pub one_through : IsSimple A → (e ≡ A.zero → ⊥) → OneThrough A e

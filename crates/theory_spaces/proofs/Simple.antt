@@ -13,7 +13,7 @@ use Rattle.theory_spaces.specs.Module.{ModuleOn, AlgebraOn, module_of}
 use Rattle.theory_spaces.specs.Linear.{comb, InSpan, Independent, Basis}
 use Rattle.theory_spaces.specs.Algebra.{Central, CentralSimple, Nondegenerate, trace}
 use Rattle.theory_spaces.proofs.Families.{push, push-below, push-at}
-use Rattle.theory_spaces.proofs.Modules.{left_linear, right_linear, zero-scale, InSpan-add, InSpan-neg, InSpan-scale, InSpan-comb, InSpan_trans, InSpan-member, map-comb}
+use Rattle.theory_spaces.proofs.Modules.{left_linear, right_linear, zero-scale, InSpan-add, InSpan-neg, InSpan-scale, InSpan_trans, InSpan-member, map-comb}
 use Rattle.theory_spaces.proofs.Decide.{Free}
 use Rattle.theory_spaces.proofs.Dimension.{dependent}
 use Rattle.theory_spaces.proofs.Spaces.{coords_of, span_basis}
@@ -164,16 +164,10 @@ module _ {K V : Type 0} (F : FieldOn K) (A : AlgebraOn F.ring V) (m : ℕ) (B : 
         let size = r.0 in
         let up : (x : V) → InSpan M n g x → InSpan M size w.vec x = w.spans in
         let back : (x : V) → InSpan M size w.vec x → InSpan M n g x = λ x. InSpan_trans M size n w.vec g x w.inside in
-        let on_left : (y : V) → InSpan M size w.vec y → (x : V) → InSpan M size w.vec (x ⊗ y) = λ y iy x.
-        let h = back y iy in
-        let P : V → Type 0 = λ z. InSpan M size w.vec (x ⊗ z) in subst P (sym h.combines)
-        (let Q : V → Type 0 = λ z. InSpan M size w.vec z in subst Q (sym (map-comb M M (λ y. x ⊗ y) (left_linear A x) n h.weights g))
-        (InSpan-comb M n size h.weights (λ i. x ⊗ g i) w.vec (λ i l. up (x ⊗ g i) (ideal.left i l x)))) in
-        let on_right : (y : V) → InSpan M size w.vec y → (x : V) → InSpan M size w.vec (y ⊗ x) = λ y iy x.
-        let h = back y iy in
-        let P : V → Type 0 = λ z. InSpan M size w.vec (z ⊗ x) in subst P (sym h.combines)
-        (let Q : V → Type 0 = λ z. InSpan M size w.vec z in subst Q (sym (map-comb M M (λ z. z ⊗ x) (right_linear A x) n h.weights g))
-        (InSpan-comb M n size h.weights (λ i. g i ⊗ x) w.vec (λ i l. up (g i ⊗ x) (ideal.right i l x)))) in
+        let on_left : (y : V) → InSpan M size w.vec y → (x : V) → InSpan M size w.vec (x ⊗ y) =
+        λ y iy x. up (x ⊗ y) (ideal.left x y tt (back y iy)) in
+        let on_right : (y : V) → InSpan M size w.vec y → (x : V) → InSpan M size w.vec (y ⊗ x) =
+        λ y iy x. up (y ⊗ x) (ideal.right x y tt (back y iy)) in
         ⊎_elim
         (λ (z : (y : V) → InSpan M size w.vec y → y ≡ A.zero). inl (λ i l. z (g i) (up (g i) (InSpan-member M n i g l))))
         (λ (s : (x : V) → InSpan M size w.vec x). inr (λ x. back x (s x)))

@@ -6,6 +6,7 @@ use Rattle.theory_rings.specs.Sum.{sum}
 use Rattle.theory_rings.specs.Power.{power}
 use Rattle.theory_spaces.specs.Module.{ModuleOn, AlgebraOn, module_of}
 use Rattle.theory_spaces.specs.Linear.{InSpan, Basis}
+use Rattle.theory_spaces.specs.Sets.{Whole, ring_ops, IsIdeal}
 
 -- f done n times
 abbrev pub iterate : {V : Type 0} → (V → V) → ℕ → V → V
@@ -22,19 +23,22 @@ abbrev pub map_trace : {K V : Type 0} {R : RingOn K} (M : ModuleOn R V) (n : ℕ
 map_trace {R} M n B f = sum R.monoid n (λ j. B.coord (f (B.vec j)) j)
 
 module _ {K V : Type 0} {R : RingOn K} (A : AlgebraOn R V) where
-  -- the span of g 0, .., g (n − 1) is closed under products from both sides
-  pub record IdealSpan (n : ℕ) (g : ℕ → V) : Type 0 where
-    pub left : (i : ℕ) → i < n → (x : V) → InSpan (module_of A) n g (A.◌⊗◌ x (g i))
-    pub right : (i : ℕ) → i < n → (x : V) → InSpan (module_of A) n g (A.◌⊗◌ (g i) x)
+  -- the span of g 0, .., g (n − 1) is an ideal
+  abbrev pub IdealSpan : ℕ → (ℕ → V) → Type 0
+  IdealSpan n g = IsIdeal (ring_ops A.ring) Whole (InSpan (module_of A) n g)
+
+  -- each finite span that is an ideal is 0 or everything
+  abbrev pub IsSimple : Type 0
+  IsSimple = (n : ℕ) (g : ℕ → V) → IdealSpan n g → ((i : ℕ) → i < n → g i ≡ A.zero) ⊎ ((x : V) → InSpan (module_of A) n g x)
 
   -- each element that commutes with all is a multiple of one
   pub record Central : Type 0 where
     pub multiple : (x : V) → ((y : V) → A.◌⊗◌ x y ≡ A.◌⊗◌ y x) → (a : K) × (x ≡ A.◌•◌ a A.one)
 
-  -- its centre is the multiples of one, and each finite span that is an ideal is 0 or everything
+  -- its centre is the multiples of one, and it is simple
   pub record CentralSimple : Type 0 where
     pub central : Central
-    pub simple : (n : ℕ) (g : ℕ → V) → IdealSpan n g → ((i : ℕ) → i < n → g i ≡ A.zero) ⊎ ((x : V) → InSpan (module_of A) n g x)
+    pub simple : IsSimple
 
   -- x is in the corner of the idempotent e: x = ex = xe
   abbrev pub InCorner : V → V → Type 0

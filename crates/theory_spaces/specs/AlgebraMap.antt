@@ -1,9 +1,8 @@
--- Homomorphisms and isomorphisms of algebras, and simple algebras.
-use Rattle.std.specs.Prelude.{◌≡◌, ℕ, ◌<◌, ◌⊎◌}
+-- Homomorphisms and isomorphisms of algebras.
+use Rattle.std.specs.Prelude.{◌≡◌}
 use Rattle.theory_rings.specs.Ring.{RingOn}
-use Rattle.theory_spaces.specs.Module.{AlgebraOn, module_of}
-use Rattle.theory_spaces.specs.Linear.{InSpan}
-use Rattle.theory_spaces.specs.Algebra.{IdealSpan}
+use Rattle.theory_spaces.specs.Module.{AlgebraOn}
+pub use Rattle.theory_spaces.specs.Algebra.{IsSimple}
 
 module _ {K V W : Type 0} {R : RingOn K} (A : AlgebraOn R V) (B : AlgebraOn R W) (f : V → W) where
   -- f keeps one, sums, products and multiples
@@ -18,7 +17,3 @@ module _ {K V W : Type 0} {R : RingOn K} (A : AlgebraOn R V) (B : AlgebraOn R W)
     pub hom : IsAlgebraHom
     pub injective : (x y : V) → f x ≡ f y → x ≡ y
     pub surjective : (y : W) → (x : V) × (f x ≡ y)
-
--- each finite span that is an ideal is 0 or everything
-abbrev pub IsSimple : {K V : Type 0} {R : RingOn K} → AlgebraOn R V → Type 0
-IsSimple A = (n : ℕ) (g : ℕ → _) → IdealSpan A n g → ((i : ℕ) → i < n → g i ≡ A.zero) ⊎ ((x : _) → InSpan (module_of A) n g x)

@@ -13,6 +13,7 @@ use Rattle.theory_spaces.specs.Module.{ModuleOn, AlgebraOn, module_of}
 use Rattle.theory_spaces.specs.Matrix.{delta}
 use Rattle.theory_spaces.specs.Linear.{comb, InSpan, Independent, Basis, IsLinear}
 use Rattle.theory_spaces.specs.Algebra.{trace, IdealSpan, Central, CentralSimple}
+use Rattle.theory_spaces.proofs.Ideals.{span_ideal}
 use Rattle.theory_spaces.proofs.Modules.{map-comb, InSpan-comb, left_linear, right_linear}
 use Rattle.theory_spaces.proofs.TupleProducts.{tuple_algebra, tuple_algebra_is, one-product, product-one, product_comm_of_basis}
 use Rattle.theory_spaces.specs.Space.{SpaceOn, sum2}
@@ -203,21 +204,23 @@ module _ {E : Type 0} (o : Ops E) (L : FieldLaws o) (m : ℕ) (cs : List E) (con
     row_span x y e h = to_span o L m rows ideal.shape x (let P : List E → Type 0 = rows_of.InSpan o m rows in subst P (sym e) h)
 
     pub to_ideal : IdealSpan algebra (length rows) ideal_row
-    to_ideal = record {
-      left = λ i i_in x. map_span A A (λ z. algebra.◌⊗◌ z (ideal_row i)) (right_linear algebra (ideal_row i)) m table_basis.vec x (in_basis x) (length rows) ideal_row (λ k k_in.
-          row_span (algebra.◌⊗◌ (table_basis.vec k) (ideal_row i)) (product o m cs (basis o m k) (get_or rows i []))
-          (algebra_is.product-is (table_basis.vec k) (ideal_row i) ∙ ap₂ (product o m cs) (vec-is k) (row-is o L m rows ideal.shape i i_in))
-          (ideal.left k i k_in i_in));
-      right = λ i i_in x. map_span A A (λ z. algebra.◌⊗◌ (ideal_row i) z) (left_linear algebra (ideal_row i)) m table_basis.vec x (in_basis x) (length rows) ideal_row (λ k k_in.
-          row_span (algebra.◌⊗◌ (ideal_row i) (table_basis.vec k)) (product o m cs (get_or rows i []) (basis o m k))
-          (algebra_is.product-is (ideal_row i) (table_basis.vec k) ∙ ap₂ (product o m cs) (row-is o L m rows ideal.shape i i_in) (vec-is k))
-          (ideal.right k i k_in i_in));
-    }
+    to_ideal = span_ideal algebra (length rows) ideal_row
+        (λ i i_in x. map_span A A (λ z. algebra.◌⊗◌ z (ideal_row i)) (right_linear algebra (ideal_row i)) m table_basis.vec x
+        (in_basis x) (length rows) ideal_row (λ k k_in.
+        row_span (algebra.◌⊗◌ (table_basis.vec k) (ideal_row i)) (product o m cs (basis o m k) (get_or rows i []))
+        (algebra_is.product-is (table_basis.vec k) (ideal_row i)
+        ∙ ap₂ (product o m cs) (vec-is k) (row-is o L m rows ideal.shape i i_in))
+        (ideal.left k i k_in i_in)))
+        (λ i i_in x. map_span A A (λ z. algebra.◌⊗◌ (ideal_row i) z) (left_linear algebra (ideal_row i)) m table_basis.vec x
+        (in_basis x) (length rows) ideal_row (λ k k_in.
+        row_span (algebra.◌⊗◌ (ideal_row i) (table_basis.vec k)) (product o m cs (get_or rows i []) (basis o m k))
+        (algebra_is.product-is (ideal_row i) (table_basis.vec k)
+        ∙ ap₂ (product o m cs) (row-is o L m rows ideal.shape i i_in) (vec-is k))
+        (ideal.right k i k_in i_in)))
 
     -- the span is closed under products with all tuples from the right
     pub ideal_right : (x : Tuple o m) → rows_of.InSpan o m rows x.0 → (y : Tuple o m) → InSpan (module_of algebra) (length rows) ideal_row (algebra.◌⊗◌ x y)
-    ideal_right x h y = map_span A A (λ z. algebra.◌⊗◌ z y) (right_linear algebra y) (length rows) ideal_row x (row_span x x.0 refl h) (length rows) ideal_row
-        (λ i i_in. to_ideal.right i i_in y)
+    ideal_right x h y = to_ideal.right y x tt (row_span x x.0 refl h)
 
     pub list_span : (x : Tuple o m) → InSpan (module_of algebra) (length rows) ideal_row x → rows_of.InSpan o m rows x.0
     unfolding tuple_algebra
