@@ -10,5 +10,3 @@ pub mod laws;
 pub mod list;
 pub mod small;
 mod tables;
-#[cfg(test)]
-mod tests;

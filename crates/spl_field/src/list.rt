@@ -7,9 +7,15 @@ use std::alloc::Global;
 use std::marker::Model;
 
 /// A list. It keeps the allocator that it grows by. Contracts see it as a list of its items.
-#[derive(Drop)]
 pub struct List<T: Drop> {
     items: Vec<T>,
+}
+
+// (one proof for all functions that drop a list, in place of one in each)
+impl<T: Drop> Drop for List<T> {
+    fn drop(self) {
+        let List { items } = self;
+    }
 }
 
 impl<T: Drop> Model for List<T> {

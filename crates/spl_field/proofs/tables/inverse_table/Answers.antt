@@ -17,3 +17,6 @@ loop-a-preserved c =
       entries = rw e (get_or-more c.loop-a.a (λ k n. 0 < k → IsProductByDigits c.args.p c.args.modulus.now k n 1) t v full
           c.loop-a.invariant.entries c.inverse_entry.ensures.value);
     }
+
+pub returns-clause-entries : goal.returns-clause-entries
+returns-clause-entries c = λ a p l. c.loop-a.invariant.entries a (omega arith) p
