@@ -1,0 +1,13 @@
+pub mod Rationals
+pub mod Quotients
+pub mod DegreePlaces
+pub mod Infinity
+pub mod FinitePlaces
+pub mod FiniteResidues
+pub mod PlaceValuations
+pub mod DiscreteValuations
+pub mod InfiniteResidue
+pub mod SwapPlaces
+pub mod PlaceOrders
+pub mod PlaceResidues
+pub mod PolynomialFractions

@@ -1,0 +1,4 @@
+pub mod Places
+pub mod Valuations
+pub mod Residue
+pub mod PlaceLaws
