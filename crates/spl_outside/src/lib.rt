@@ -7,6 +7,4 @@ mod faults;
 pub mod memory;
 pub mod outside;
 pub mod streams;
-#[cfg(test)]
-mod tests;
 pub mod write;

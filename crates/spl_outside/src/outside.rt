@@ -25,9 +25,10 @@ pub trait Source {
         ensures within { IfOk result (λ n. n ≤ length buf.new) }
         ensures taken { IfOk result (λ n. Consumes (left self.old) (left self.new) (take n buf.new)) }
         ensures end { result ≡ Ok 0 → 0 < length buf.new → IsAtEnd (left self.old) }
-        // A call fails only where the count of faults rose in it, and then nothing is lost.
+        // A call fails exactly where it counts a fault, and then nothing is lost.
         ensures rose { OnErr result (Rose (faults self.old) (faults self.new)) }
         ensures kept { OnErr result (Keeps (left self.old) (left self.new)) }
+        ensures no_fault { OnOk result (faults self.new ≡ faults self.old) }
 
         ensures faults { faults self.old ≤ faults self.new }
         ensures told { is_some (left self.new) ≡ is_some (left self.old) }
@@ -52,9 +53,10 @@ pub trait Sink {
         ensures within { IfOk result (λ n. n ≤ length piece.now) }
         ensures some { IfOk result (λ n. 0 < length piece.now → 0 < n) }
         ensures grew { IfOk result (λ n. Appends (written self.old) (written self.new) (take n piece.now)) }
-        // A call fails only where the count of faults rose in it, and then nothing is written.
+        // A call fails exactly where it counts a fault, and then nothing is written.
         ensures rose { OnErr result (Rose (faults self.old) (faults self.new)) }
         ensures kept { OnErr result (Keeps (written self.old) (written self.new)) }
+        ensures no_fault { OnOk result (faults self.new ≡ faults self.old) }
 
         ensures faults { faults self.old ≤ faults self.new }
         ensures told { is_some (written self.new) ≡ is_some (written self.old) }
