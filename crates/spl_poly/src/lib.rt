@@ -8,5 +8,3 @@ mod elements;
 pub mod order;
 pub mod poly;
 mod rows;
-#[cfg(test)]
-mod tests;

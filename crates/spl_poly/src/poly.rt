@@ -20,9 +20,15 @@ use std::marker::Model;
 /// A polynomial: its coefficients, lowest first, of which the last is not 0; the polynomial 0 has none. Contracts see it
 /// as that list. Whose elements the coefficients are is a condition of the calls that take a field. Up to 16 of them need
 /// no memory.
-#[derive(Drop)]
 pub struct Poly {
     coefficients: SmallVec<u8, 16>,
+}
+
+// (one proof for all functions that drop a polynomial, in place of the two cases of its coefficients in each)
+impl Drop for Poly {
+    fn drop(self) {
+        let Poly { coefficients } = self;
+    }
 }
 
 impl Model for Poly {
