@@ -1,7 +1,7 @@
 -- The maximal ideals of an algebra without nilpotent ideals but 0 whose centre is a product of fields, with the idempotents e 0, e 1, ..
 -- Where u is a central idempotent, (e i)·u is 0 or e i, since the block of e i in the centre is a field. Taken of the central unit
 -- of an ideal this tells which of the blocks the ideal holds.
-use Rattle.std.specs.Prelude.{◌≡◌, ℕ, ◌<◌, ◌≤◌, ◌⊎◌, ◌↔◌}
+use Rattle.std.specs.Prelude.{◌≡◌, ℕ, ◌*◌, ◌<◌, ◌≤◌, Bool, IsTrue, ◌⊎◌, ◌↔◌}
 use Rattle.std.proofs.Common.{sym, ◌∙◌, ap, ap₂, subst, arith, inl, inr, ⊎_elim}
 use Rattle.std.proofs.lemmas.Bool.{cases_lt, cases_eq}
 use Rattle.theory_rings.specs.Ring.{RingOn, FieldOn}
@@ -14,7 +14,11 @@ use Rattle.theory_spaces.specs.Algebra.{IdealSpan}
 use Rattle.theory_spaces.specs.AlgebraMap.{IsSimple}
 use Rattle.theory_spaces.specs.Subspaces.{Whole}
 use Rattle.theory_spaces.proofs.Modules.{InSpan-add, InSpan-member, linear_ext, linear_id, left_linear}
-use Rattle.theory_spaces.proofs.Ideals.{span_ideal}
+use Rattle.theory_spaces.specs.Sets.{Within, Same, Test, ring_ops}
+use Rattle.theory_spaces.proofs.Ideals.{span_ideal, ideal_whole}
+use Rattle.theory_spaces.proofs.GeneratedIdeals.{around, around_ideal, around-self, around_within}
+use Rattle.theory_spaces.proofs.SetLemmas.{ideal_same}
+use Rattle.theory_spaces.proofs.SpanTests.{answer, answer-sound, answer-complete, decided}
 use Rattle.theory_spaces.proofs.Spaces.{coords_of}
 use Rattle.theory_spaces.proofs.Subspaces.{whole_submodule, whole_basis}
 use Rattle.theory_spaces.proofs.Kernels.{rank_nullity}
@@ -61,17 +65,10 @@ module _ {K V : Type 0} {R : RingOn K} (A : AlgebraOn R V) where
     span_annihilated : e ⊗ u.unit ≡ A.zero → (x : V) → InSpan M n g x → Annihilated A e x
     span_annihilated h x s = ap (λ z. e ⊗ z) (sym ((u.fixes x).0 s)) ∙ sym (A.mul_assoc e u.unit x) ∙ ap (λ z. z ⊗ x) h ∙ zero-mul ring x
 
-    -- an ideal that holds an idempotent and what it sends to 0 is everything
-    span_everything : e ⊗ e ≡ e → e ⊗ u.unit ≡ e → ((x : V) → Annihilated A e x → InSpan M n g x) → (x : V) → InSpan M n g x
-    span_everything idem h above x =
-        let y = x ⊕ neg (e ⊗ x) in
-        let fixed : u.unit ⊗ (e ⊗ x) ≡ e ⊗ x = sym (A.mul_assoc u.unit e x) ∙ ap (λ z. z ⊗ x) (u.central e ∙ h) in
-        let In = InSpan M n g in
-        subst In (product_and_rest A e x) (InSpan-add M n g (e ⊗ x) y ((u.fixes (e ⊗ x)).1 fixed) (above y (idempotent_kills_rest A e x idem)))
-
 module _ {K V : Type 0} (F : FieldOn K) (A : AlgebraOn F.ring V) (m : ℕ) (B : Basis (module_of A) m) where
+  infixl 65 ◌⊕◌
   infixl 70 ◌⊗◌
-  open A use {ring, monoid, one, ◌⊗◌}
+  open A use {ring, monoid, one, ◌⊕◌, ◌⊗◌, neg}
 
   abbrev N : ModuleOn F.ring V
   N = module_of A
@@ -120,16 +117,30 @@ module _ {K V : Type 0} (F : FieldOn K) (A : AlgebraOn F.ring V) (m : ℕ) (B : 
     one-not_annihilated : (i : ℕ) → i < D.count → Annihilated A (e i) one → ⊥
     one-not_annihilated i l h = D.nonzero i l (sym (A.mul-one (e i)) ∙ h)
 
+    -- an ideal that holds e i and what it sends to 0 holds one
+    holds_one : (i : ℕ) → i < D.count → (J : V → Type 0) → IsIdeal ring J → Within (Annihilated A (e i)) J → J (e i) → J one
+    holds_one i l J I above h = subst J (product_and_rest A (e i) one)
+        (I.add_in (e i ⊗ one) (one ⊕ neg (e i ⊗ one)) (I.right one (e i) tt h)
+        (above (one ⊕ neg (e i ⊗ one)) (idempotent_kills_rest A (e i) one (D.idempotents i l))))
+
     annihilated_maximal : (i : ℕ) → i < D.count → IsMaximalIdeal A (Annihilated A (e i))
     annihilated_maximal i l = record {
       ideal = annihilated_ideal A (e i) (D.inside i l);
-      proper = one-not_annihilated i l;
-      maximal = λ n g ideal above.
-          let u = central_units F A m B none n g ideal in
-          ⊎_elim
-          (λ (h : e i ⊗ u.unit ≡ A.zero). inl (span_annihilated A n g u (e i) h))
-          (λ (h : e i ⊗ u.unit ≡ e i). inr (span_everything A n g u (e i) (D.idempotents i l) h above))
-          (block_out_or_in n g u i l);
+      simple = record {
+        proper = λ h. one-not_annihilated i l (h one tt);
+        nothing_between = λ t T above. ⊎_elim
+            (λ (h : IsTrue (t one)). inr (λ x _. ideal_whole ring (Test t) T h x))
+            (λ (no : IsTrue (t one) → ⊥). inl (λ x tx.
+            let n = m * m in
+            let g = around A m B x in
+            let u = central_units F A m B none n g (around_ideal A m B x) in
+            ⊎_elim
+            (λ (h : e i ⊗ u.unit ≡ A.zero). span_annihilated A n g u (e i) h x (around-self A m B x))
+            (λ (h : e i ⊗ u.unit ≡ e i). absurd (no (holds_one i l (Test t) T above (subst (Test t) h
+            (T.left (e i) u.unit tt (around_within A m B x (Test t) T tx u.unit u.inside))))))
+            (block_out_or_in n g u i l)))
+            (decided (t one));
+      };
     }
 
     annihilated_distinct : (i j : ℕ) → i < D.count → j < D.count → ((x : V) → Annihilated A (e i) x → Annihilated A (e j) x) → i ≡ j
@@ -153,18 +164,24 @@ module _ {K V : Type 0} (F : FieldOn K) (A : AlgebraOn F.ring V) (m : ℕ) (B : 
       -- a maximal ideal that the block of e i is not in
       holds_annihilated : IsMaximalIdeal A In → (i : ℕ) → i < D.count → ((x : V) → In x → Annihilated A (e i) x) → (x : V) → Annihilated A (e i) x → In x
       holds_annihilated maximal i l within =
-          let s = annihilated_span (e i) (D.inside i l) in
+          let t : V → Bool = λ x. answer (vector_eq_zero_or F N m B (e i ⊗ x)) in
+          let same : Same (Annihilated A (e i)) (Test t) = (
+            λ x. answer-complete (vector_eq_zero_or F N m B (e i ⊗ x)),
+            λ x. answer-sound (vector_eq_zero_or F N m B (e i ⊗ x)),
+          ) in
           ⊎_elim
-          (λ (h : (x : V) → InSpan N s.size s.vec x → In x). λ x a. h x (s.spans x a))
-          (λ (h : (x : V) → InSpan N s.size s.vec x). absurd (one-not_annihilated i l (s.annihilated one (h one))))
-          (maximal.maximal s.size s.vec s.ideal (λ x m. s.spans x (within x m)))
+          (λ (h : Within (Test t) In). λ x a. h x (same.0 x a))
+          (λ (h : Within Whole (Test t)). absurd (one-not_annihilated i l (same.1 one (h one tt))))
+          (maximal.simple.nothing_between t (ideal_same (ring_ops ring) Whole (Annihilated A (e i)) (Test t) same
+          (annihilated_ideal A (e i) (D.inside i l))) (λ x m. same.0 x (within x m)))
 
       maximal_annihilated : IsMaximalIdeal A In → (i : ℕ) × (i < D.count) × ((x : V) → In x ↔ Annihilated A (e i) x)
       maximal_annihilated maximal = ⊎_elim
           (λ (s : (i : ℕ) × (i < D.count) × (e i ⊗ unit.unit ≡ A.zero)).
           let within = span_annihilated A n g unit (e s.0) s.2 in
           (s.0, s.1, λ x. (within x, holds_annihilated maximal s.0 s.1 within x)))
-          (λ (h : (i : ℕ) → i < D.count → e i ⊗ unit.unit ≡ e i). absurd (maximal.proper (subst In (one_of_blocks unit.unit h) unit.inside)))
+          (λ (h : (i : ℕ) → i < D.count → e i ⊗ unit.unit ≡ e i). absurd (maximal.simple.proper
+          (λ x _. ideal_whole ring In ideal (subst In (one_of_blocks unit.unit h) unit.inside) x)))
           (some_or_all D.count (λ i. e i ⊗ unit.unit ≡ A.zero) (λ i. e i ⊗ unit.unit ≡ e i) (block_out_or_in n g unit))
 
       block_simple : (i : ℕ) → i < D.count → ((j : ℕ) → j < n → e i ⊗ g j ≡ g j)

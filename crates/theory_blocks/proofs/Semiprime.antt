@@ -10,13 +10,11 @@ use Rattle.theory_spaces.specs.Module.{ModuleOn, AlgebraOn, module_of}
 use Rattle.theory_spaces.specs.Linear.{InSpan, Basis}
 use Rattle.theory_spaces.specs.Algebra.{IdealSpan}
 use Rattle.theory_spaces.proofs.Modules.{left_linear, right_linear, linear_comp, linear_id}
-use Rattle.theory_spaces.proofs.Ideals.{span_ideal}
+use Rattle.theory_spaces.proofs.GeneratedIdeals as generated
 use Rattle.theory_radical.specs.Ideal.{IsNilpotentIdeal}
 use Rattle.theory_blocks.specs.Centre.{Centre}
-use Rattle.theory_blocks.specs.TwoSidedRank.{two_sided}
 use Rattle.theory_blocks.specs.MaximalIdeals.{HasNoNilpotentIdeal, CentreIsReduced}
-use Rattle.theory_blocks.proofs.Spans.{linear_eq_zero, span-at}
-use Rattle.theory_blocks.proofs.TwoSidedFamilies.{sandwich_in}
+use Rattle.theory_blocks.proofs.Spans.{linear_eq_zero}
 
 module _ {K V : Type 0} (F : FieldOn K) (A : AlgebraOn F.ring V) (m : ℕ) (B : Basis (module_of A) m) where
   infixl 70 ◌⊗◌
@@ -26,24 +24,11 @@ module _ {K V : Type 0} (F : FieldOn K) (A : AlgebraOn F.ring V) (m : ℕ) (B : 
   M = module_of A
 
   module _ (x : V) where
-    -- the products of x with two vectors of the basis
-    abbrev pub around : ℕ → V
-    around t = two_sided F A m B t x
+    abbrev around : ℕ → V
+    around = generated.around A m B x
 
     abbrev In : V → Type 0
-    In = InSpan M (m * m) around
-
-    pub around-in : (a b : V) → In ((a ⊗ x) ⊗ b)
-    around-in a b = span-at M (m * m) (two_sided F A m B) (λ y. (a ⊗ y) ⊗ b) (sandwich_in F A m B a b) x
-
-    -- the ideal that x generates
-    pub around_ideal : IdealSpan A (m * m) around
-    around_ideal = span_ideal A (m * m) around
-        (λ t _ c. subst In
-        (ap (λ z. z ⊗ B.vec (t % m)) (A.mul_assoc c (B.vec (t / m)) x) ∙ A.mul_assoc c (B.vec (t / m) ⊗ x) (B.vec (t % m)))
-        (around-in (c ⊗ B.vec (t / m)) (B.vec (t % m))))
-        (λ t _ c. subst In (sym (A.mul_assoc (B.vec (t / m) ⊗ x) (B.vec (t % m)) c))
-        (around-in (B.vec (t / m)) (B.vec (t % m) ⊗ c)))
+    In = generated.Around A m B x
 
     module _ (h : (a : V) → (x ⊗ a) ⊗ x ≡ A.zero) where
       -- a member times a·x is 0
@@ -62,7 +47,7 @@ module _ {K V : Type 0} (F : FieldOn K) (A : AlgebraOn F.ring V) (m : ℕ) (B : 
 
       around_nilpotent : IsNilpotentIdeal ring In
       around_nilpotent = record {
-        ideal = around_ideal;
+        ideal = generated.around_ideal A m B x;
         exponent = 2;
         vanishes = λ a g. ap (λ w. a 1 ⊗ w) (A.mul-one (a 0)) ∙ square_vanishes (a 1) (a 0) (g 1) (g 0);
       }
@@ -72,7 +57,7 @@ module _ {K V : Type 0} (F : FieldOn K) (A : AlgebraOn F.ring V) (m : ℕ) (B : 
     semiprime x h =
         sym (A.mul-one (A.one ⊗ x) ∙ A.one-mul x)
         ∙ linear_eq_zero M M (λ y. y) (linear_id M) (m * m) (around x) (none (m * m) (around x) (around_nilpotent x h))
-        ((A.one ⊗ x) ⊗ A.one) (around-in x A.one A.one)
+        ((A.one ⊗ x) ⊗ A.one) (generated.around-in A m B x A.one A.one)
 
     module _ (x : V) (central : Centre A x) where
       power_shrinks : (n : ℕ) → power ring x (suc (suc n)) ≡ A.zero → power ring x (suc n) ≡ A.zero

@@ -9,7 +9,9 @@ use Rattle.theory_spaces.specs.Module.{AlgebraOn, module_of}
 use Rattle.theory_spaces.specs.Linear.{InSpan, BasisOf}
 use Rattle.theory_spaces.specs.Algebra.{IdealSpan, IsNilpotent}
 use Rattle.theory_spaces.specs.AlgebraMap.{IsSimple}
-use Rattle.theory_radical.specs.Ideal.{IsIdeal, IsNilpotentIdeal}
+use Rattle.theory_spaces.specs.Sets as sets
+use Rattle.theory_spaces.specs.Sets.{Whole, ring_ops}
+use Rattle.theory_radical.specs.Ideal.{IsNilpotentIdeal}
 use Rattle.theory_blocks.specs.FixedPoints.{IsFixed}
 use Rattle.theory_blocks.specs.Centre.{Centre}
 use Rattle.theory_blocks.specs.FieldFactors.{FieldFactors}
@@ -39,12 +41,9 @@ module _ {K V : Type 0} {R : RingOn K} (A : AlgebraOn R V) where
   abbrev pub CentreIsReduced : Type 0
   CentreIsReduced = HasNoNilpotentIdeal → (x : V) → Centre A x → IsNilpotent A.ring x → x ≡ A.zero
 
-  -- an ideal that does not hold 1, such that each ideal that holds it is it or everything
-  pub record IsMaximalIdeal (J : V → Type 0) : Type 0 where
-    pub ideal : IsIdeal A.ring J
-    pub proper : J A.one → ⊥
-    pub maximal : (n : ℕ) (g : ℕ → V) → IdealSpan A n g → ((x : V) → J x → InSpan (module_of A) n g x)
-        → ((x : V) → InSpan (module_of A) n g x → J x) ⊎ ((x : V) → InSpan (module_of A) n g x)
+  -- a maximal two-sided ideal of the algebra
+  abbrev pub IsMaximalIdeal : (V → Type 0) → Type 0
+  IsMaximalIdeal J = sets.IsMaximalIdeal (ring_ops A.ring) Whole J
 
   -- the elements that e sends to 0
   abbrev pub Annihilated : V → V → Type 0

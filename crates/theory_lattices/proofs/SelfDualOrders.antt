@@ -80,7 +80,7 @@ module _ {k K V : Type 0} (κ : FieldOn k) (F : FieldOn K) (W : DegreeOn F.ring)
   form_nondegenerate = record { only_zero = λ x h. basis.expand x ∙ comb_zero M n (basis.coord x) b (coordinate_zero x h) }
 
   pub dual_vectors : (dual : ℕ → V) × DualVectors F A tr n b dual
-  dual_vectors = let d = dual_basis F M form (trace_bilinear F W A P finite infinite tr S) n basis form_nondegenerate in let e = d.basis in (e.vec, record { pairing = d.pairing })
+  dual_vectors = let d = dual_basis F M form (trace_bilinear F W A P finite infinite tr S) n basis form_nondegenerate in let e = d.basis in (e.vec, d.dual)
 
   pub middle_of_pair : Enumerated k → finite A.one → infinite A.one → Central A → 2 ≤ n → n ≤ 36 → (w : V) × Middle F W A P finite infinite w
   middle_of_pair E f1 i1 central enough bounded =

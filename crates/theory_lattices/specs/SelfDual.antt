@@ -1,9 +1,9 @@
 -- Pairs of a finite and an infinite order that are their own duals for a trace, and elements of both that are neither
 -- nilpotent nor units.
-use Rattle.std.specs.Prelude.{◌≡◌, ℕ, ◌<◌, ℤ, pos, ◌+ℤ◌}
+use Rattle.std.specs.Prelude.{◌≡◌, ℕ, ℤ, pos, ◌+ℤ◌}
 use Rattle.theory_rings.specs.Ring.{FieldOn}
 use Rattle.theory_spaces.specs.Module.{AlgebraOn}
-use Rattle.theory_spaces.specs.Matrix.{delta}
+use Rattle.theory_spaces.specs.Orthogonal.{AreDual}
 use Rattle.theory_spaces.specs.Algebra.{IsNilpotent}
 use Rattle.theory_lattices.specs.Degree.{DegreeOn, DegreeBelow, HasDegree}
 
@@ -46,5 +46,5 @@ module _ {K V : Type 0} (F : FieldOn K) (W : DegreeOn F.ring) (A : AlgebraOn F.r
     pub not_unit : (y : V) → finite y → infinite y → A.◌⊗◌ w y ≡ A.one → A.◌⊗◌ y w ≡ A.one → ⊥
 
 -- the trace is 1 at b i · d i, and 0 at b i · d j for j other than i
-pub record DualVectors {K V : Type 0} (F : FieldOn K) (A : AlgebraOn F.ring V) (tr : V → K) (n : ℕ) (b d : ℕ → V) : Type 0 where
-  pub pairing : (i j : ℕ) → i < n → j < n → tr (A.◌⊗◌ (b i) (d j)) ≡ delta F.ring i j
+abbrev pub DualVectors : {K V : Type 0} (F : FieldOn K) → AlgebraOn F.ring V → (V → K) → ℕ → (ℕ → V) → (ℕ → V) → Type 0
+DualVectors F A tr n b d = AreDual F.zero (λ x y. tr (A.◌⊗◌ x y)) F.one n b d

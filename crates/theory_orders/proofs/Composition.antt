@@ -321,9 +321,8 @@ module _ {K V : Type 0} (F : FieldOn K) (Z : ValuationOn F) (p q : K) (U : Unifo
   pub maximal_of : (Q : V → Type 0) → IsIdeal A L Q → Within P Q → (Q A.one → ⊥) → ((a : V) → L a → (Q a → ⊥) → NotNot (Generated A L Q a A.one))
       → (n : ℕ) (g : ℕ → V) → Same Q (Lattice F Z A n g) → IsMaximalIdeal A p L (Lattice F Z A n g)
   maximal_of Q I over proper generates n g e = record {
-    ideal = ideal_same A L Q (Lattice F Z A n g) e I;
     over = λ x h. e.0 x (over x h);
-    simple = record {
+    maximal = record { ideal = ideal_same A L Q (Lattice F Z A n g) e I; simple = record {
       proper = λ h. proper (e.1 A.one (h A.one O.one_in));
       nothing_between = λ t IT j. ⊎_elim
           (λ (h : IsTrue (t A.one)). inr (whole A L Q O (Test t) IT h))
@@ -332,7 +331,7 @@ module _ {K V : Type 0} (F : FieldOn K) (Z : ValuationOn F) (p q : K) (U : Unifo
           (λ r. h (generated_in A L Q O (Test t) IT (λ y w. j y (e.0 y w)) x tx A.one r))))
           (decide_in n g x)))
           (decided (t A.one));
-    };
+    } };
   }
 
   abbrev W : List MaximalLattice → V → Type 0

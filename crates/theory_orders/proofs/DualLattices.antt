@@ -13,7 +13,7 @@ use Rattle.theory_spaces.proofs.Families.{push, push-below, push-at}
 use Rattle.theory_spaces.proofs.Modules.{InSpan-member, span_in}
 use Rattle.theory_spaces.proofs.Spaces.{basis_of}
 use Rattle.theory_spaces.proofs.Traces.{trace_comm}
-use Rattle.theory_spaces.proofs.TraceForms.{trace_form_bilinear, trace_form_nondegenerate}
+use Rattle.theory_spaces.proofs.TraceForms.{trace_form_bilinear}
 use Rattle.theory_spaces.proofs.Forms.{dual_basis, coord-dual, expand-dual, dual-expand, form-zero_left}
 use Rattle.theory_orders.specs.Uniformizer.{IsIntegral}
 use Rattle.theory_orders.specs.Orders.{Same, ProperlyWithin}
@@ -68,7 +68,7 @@ module _ {K V : Type 0} (F : FieldOn K) (Z : ValuationOn F) (A : AlgebraOn F.rin
     E = basis_of M n v ind (spanning F A n B v ind)
 
     D : DualBasis M f n E
-    D = dual_basis F M f bilinear n E (trace_form_nondegenerate F.cring A n B non)
+    D = dual_basis F M f bilinear n E non
 
     pub dual_vec : ℕ → V
     dual_vec = D.basis.vec

@@ -4,6 +4,8 @@ use Rattle.std.proofs.Common.{sym, ◌∙◌, ap, ap₂, subst, inl, inr, ⊎_el
 use Rattle.theory_rings.specs.Ring.{RingOn}
 use Rattle.theory_rings.proofs.Rings.RingLaws.{add_add_add_comm}
 use Rattle.theory_spaces.specs.Module.{AlgebraOn}
+use Rattle.theory_spaces.specs.Sets.{ring_ops}
+use Rattle.theory_spaces.proofs.SetLemmas as lemmas
 use Rattle.theory_orders.specs.Orders.{IsOrder, IsIdeal, Around, Generated, SimpleQuotient, SimpleByElements, Within, Same, Test}
 use Rattle.theory_orders.proofs.SumsOf.{SumOf_in, SumOf_map}
 
@@ -30,13 +32,7 @@ module _ {K V : Type 0} {R : RingOn K} (A : AlgebraOn R V) where
     }
 
     pub ideal_same : (I J : V → Type 0) → Same I J → IsIdeal A L I → IsIdeal A L J
-    ideal_same I J e h = record {
-      inside = λ x j. h.inside x (e.1 x j);
-      zero_in = e.0 A.zero h.zero_in;
-      add_in = λ x y j k. e.0 (x ⊕ y) (h.add_in x y (e.1 x j) (e.1 y k));
-      left = λ a x la j. e.0 (a ⊗ x) (h.left a x la (e.1 x j));
-      right = λ a x la j. e.0 (x ⊗ a) (h.right a x la (e.1 x j));
-    }
+    ideal_same = lemmas.ideal_same (ring_ops A.ring) L
 
   module _ (L : V → Type 0) (O : IsOrder A L) where
     pub IdealSum_ideal : (I J : V → Type 0) → IsIdeal A L I → IsIdeal A L J → IsIdeal A L (IdealSum I J)
@@ -60,10 +56,7 @@ module _ {K V : Type 0} {R : RingOn K} (A : AlgebraOn R V) where
 
   module _ (L I J : V → Type 0) (e : Same I J) where
     pub simple_same : SimpleQuotient A L I → SimpleQuotient A L J
-    simple_same S = record {
-      proper = λ h. S.proper (λ x l. e.1 x (h x l));
-      nothing_between = λ t T h. ⊎_elim (λ (w : Within (Test t) I). inl (λ x tx. e.0 x (w x tx))) inr (S.nothing_between t T (λ x i. h x (e.0 x i)));
-    }
+    simple_same = lemmas.simple_same (ring_ops A.ring) L I J e
 
     pub elements_same : SimpleByElements A L I → SimpleByElements A L J
     elements_same S = record {

@@ -12,6 +12,7 @@ use Rattle.theory_spaces.proofs.Families.{push, push-below, push-at, below_suc}
 use Rattle.theory_spaces.proofs.Modules.{zero-scale, comb_congr, comb-push, comb_injective, InSpan_trans, InSpan-member}
 use Rattle.theory_spaces.proofs.Spaces.{extend_or_span}
 use Rattle.theory_spaces.proofs.SpanTests.{answer, answer-sound, answer-complete}
+pub use Rattle.theory_spaces.proofs.SpanTests.{decided}
 use Rattle.theory_spaces.proofs.Lattices.{lattice_basis}
 
 -- what each test below n tells is decided for all together
@@ -25,10 +26,6 @@ all_or_not (suc n) t = ⊎_elim
     at_end : (c : Bool) → t n ≡ c → ((i : ℕ) → i < n → IsTrue (t i)) → ((i : ℕ) → i < suc n → IsTrue (t i)) ⊎ ((i : ℕ) × (i < suc n) × (IsTrue (t i) → ⊥))
     at_end true e h = inl (below_suc n (λ i. IsTrue (t i)) h e)
     at_end false e h = inr (n, omega arith, λ f. cc)
-
-pub decided : (b : Bool) → (IsTrue b) ⊎ (IsTrue b → ⊥)
-decided true = inl refl
-decided false = inr (λ h. cc)
 
 -- the products of two families, row by row
 abbrev pub pairs_of : {X Y Z : Type 0} → (X → Y → Z) → ℕ → (ℕ → X) → (ℕ → Y) → ℕ → Z

@@ -322,9 +322,8 @@ module _ {K V : Type 0} (F : FieldOn K) (Z : ValuationOn F) (p q : K) (U : Unifo
   -- the radical is maximal
   pub maximal_of_radical : Central A → NothingGrows F Z A p L → (n : ℕ) (g : ℕ → V) → Radical A p L (Lat n g) → (Lat n g A.one → ⊥) → IsMaximalIdeal A p L (Lat n g)
   maximal_of_radical ct ng n g R proper = record {
-    ideal = R.ideal;
     over = R.over;
-    simple = record {
+    maximal = record { ideal = R.ideal; simple = record {
       proper = λ h. proper (h A.one O.one_in);
       nothing_between = λ t I j. ⊎_elim
           (λ (h : IsTrue (t A.one)). inr (whole A L (Test t) O (Test t) I h))
@@ -340,7 +339,7 @@ module _ {K V : Type 0} (F : FieldOn K) (Z : ValuationOn F) (p q : K) (U : Unifo
           ⊎_elim (λ (w : J x). out (in_radical x w)) (λ (w : IsTrue (t A.one)). h w)
           (one_or_within A L J O S_i p m.ideal m.over e pw.0 (Test t) I (λ z hz. j z (R.over z hz)) x tx)))))
           (decided (t A.one));
-    };
+    } };
   }
 
   -- the radical is that one
@@ -350,6 +349,6 @@ module _ {K V : Type 0} (F : FieldOn K) (Z : ValuationOn F) (p q : K) (U : Unifo
   -- the radical of a ramified place
   pub ramified_radical : (js : ℕ → V) → IsRamified F Z p A N os js → OnlyMaximalIdeal A p L (Lat N js)
   ramified_radical js R =
-      let m : IsMaximalIdeal A p L (Lat N js) = record { ideal = R.radical.ideal; over = R.radical.over; simple = R.simple } in
+      let m : IsMaximalIdeal A p L (Lat N js) = record { maximal = record { ideal = R.radical.ideal; simple = R.simple }; over = R.radical.over } in
       only_of N js m R.left_order.0 (power_of_falling N js m R.left_order.0 (suc R.radical.exponent)
       (λ x c. R.radical.falls x (chain_in_power A L O (Lat N js) R.radical.ideal R.radical.exponent x c)))

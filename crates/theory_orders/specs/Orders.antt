@@ -46,7 +46,7 @@ module _ {K V : Type 0} {R : RingOn K} (A : AlgebraOn R V) where
   SimpleByElements = sets.SimpleByElements (ring_ops A.ring) A.one
 
   abbrev pub IsMaximalIdeal : K → (V → Type 0) → (V → Type 0) → Type 0
-  IsMaximalIdeal = sets.IsMaximalIdeal (ring_ops A.ring) A.◌•◌
+  IsMaximalIdeal = sets.IsMaximalIdealOver (ring_ops A.ring) A.◌•◌
 
   abbrev pub Inverse : (V → Type 0) → (V → Type 0) → V → Type 0
   Inverse = sets.Inverse (ring_ops A.ring)

@@ -12,6 +12,8 @@ use Rattle.theory_spaces.proofs.Spaces.{coords_of, basis_of}
 use Rattle.theory_orders.specs.Uniformizer.{UniformizerOn}
 use Rattle.theory_orders.specs.Orders.{IsIdeal, Multiple, Radical, SimpleQuotient, IsMaximalIdeal, Within, Same, Test}
 use Rattle.theory_orders.specs.Lattices.{Lattice, IsOrderAt}
+use Rattle.theory_spaces.specs.Sets.{ring_ops}
+use Rattle.theory_spaces.proofs.SetLemmas as lemmas
 use Rattle.theory_orders.proofs.Ideals.{ideal_same}
 use Rattle.theory_orders.proofs.Multiples.{Multiple-zero}
 use Rattle.theory_orders.proofs.LatticeTests.{lattice_test, lattice_test-in, in-lattice_test}
@@ -40,14 +42,7 @@ module _ {K V : Type 0} (F : FieldOn K) (A : AlgebraOn F.ring V) (I J : V → Ty
   }
 
   pub maximal_same : IsMaximalRingIdeal A I → IsMaximalRingIdeal A J
-  maximal_same h = record {
-    ideal = ideal_same A Whole I J e h.ideal;
-    proper = λ j. h.proper (e.1 A.one j);
-    maximal = λ n g ideal over. ⊎_elim
-        (λ (w : (x : V) → InSpan (module_of A) n g x → I x). inl (λ x s. e.0 x (w x s)))
-        (λ (w : (x : V) → InSpan (module_of A) n g x). inr w)
-        (h.maximal n g ideal (λ x i. over x (e.0 x i)));
-  }
+  maximal_same = lemmas.maximal_same (ring_ops A.ring) Whole I J e
 
 abbrev pub other : {V : Type 0} (I J : V → Type 0) → Same I J → Same J I
 other I J e = (e.1, e.0)
@@ -106,13 +101,13 @@ module _ {K E V : Type 0} (F : FieldOn K) (Z : ValuationOn F) (p q : K) (U : Uni
       simple_law : SimpleQuotient A L J ↔ IsMaximalRingIdeal B (InSpan MB m g)
       simple_law = (
         λ h. maximal_same k B (Red J) (InSpan MB m g) same
-            (maximal_of_simple k A L N o.order B R n w t decides J I over h),
-        λ h. simple_of_maximal k A L N o.order B R n w t decides J I over m g same
+            (maximal_of_simple A L N o.order B R t decides J I over h),
+        λ h. simple_of_maximal A L N o.order B R t decides J I over
             (maximal_same k B (InSpan MB m g) (Red J) (other (Red J) (InSpan MB m g) same) h),
       )
 
       maximal_law : IsMaximalIdeal A p L J ↔ IsMaximalRingIdeal B (InSpan MB m g)
-      maximal_law = (λ h. simple_law.0 h.simple, λ h. record { ideal = I; over = over; simple = simple_law.1 h })
+      maximal_law = (λ h. simple_law.0 h.simple, λ h. record { maximal = record { ideal = I; simple = simple_law.1 h }; over = over })
 
     pub lattice_law : (m : ℕ) (u : ℕ → V) → IsIdeal A L (Lattice F Z A m u) → Within N (Lattice F Z A m u)
         → LatticeReduces F Z p k D A n B v R m u
@@ -132,12 +127,11 @@ module _ {K E V : Type 0} (F : FieldOn K) (Z : ValuationOn F) (p q : K) (U : Uni
     span_law : (m : ℕ) (g : ℕ → W) → IdealSpan B m g → SpanLifts F Z p k D A n B v R m g
     span_law m g ideal =
         let S : W → Type 0 = InSpan MB m g in
-        let H = ideal in
         let u = lifted_vec F Z p q U k D A B n v o.order R r.map-scale m g in
         let e = lifted_lattice F Z p q U k D A B n v o.order R r.map-scale m g in
         let J : V → Type 0 = Lattice F Z A (m + n) u in
-        let I = ideal_same A L (Lifted A L N B R S) J e (lifted_ideal A L N o.order B R S H) in
-        let over : Within N J = λ x h. e.0 x (lifted_over A L N o.order B R S H x h) in
+        let I = ideal_same A L (Lifted A L N B R S) J e (lifted_ideal A L N o.order B R S ideal) in
+        let over : Within N J = λ x h. e.0 x (lifted_over A L N o.order B R S ideal x h) in
         let s : Same (Red J) S = (
           λ y h. subst S h.2 (e.1 h.0 h.1).1,
           λ y h.
@@ -146,7 +140,7 @@ module _ {K E V : Type 0} (F : FieldOn K) (Z : ValuationOn F) (p q : K) (U : Uni
         let radical = radical_law J I over m g s in
         let maximal = maximal_law J I over m g s in
         record {
-          ideal = lifted_is A L N o.order B R S H;
+          ideal = lifted_is A L N o.order B R S ideal;
           size = m + n;
           vec = u;
           lattice = e;

@@ -108,16 +108,17 @@ module _ {K E V : Type 0} (F : FieldOn K) (Z : ValuationOn F) (p q : K) (U : Uni
         maximal_in_quotient : IsMaximalIdeal A p L Lat ↔ IsMaximalRingIdeal C image
         maximal_in_quotient = (
           λ h. maximal_same k C (Reduced A L J C both Lat) image image_is
-              (maximal_of_simple k A L J o.order C both T.size T.basis (t F Z p q U k D A n b v o B w r)
+              (maximal_of_simple A L J o.order C both (t F Z p q U k D A n b v o B w r)
               (decides F Z p q U k D A n b v o B w r) Lat I over h.simple),
           λ h. record {
-            ideal = I;
+            maximal = record {
+              ideal = I;
+              simple = simple_of_maximal A L J o.order C both (t F Z p q U k D A n b v o B w r)
+                  (decides F Z p q U k D A n b v o B w r) Lat I over
+                  (maximal_same k C image (Reduced A L J C both Lat)
+                  (other (Reduced A L J C both Lat) image image_is) h);
+            };
             over = λ y s. over y (R.over y s);
-            simple = simple_of_maximal k A L J o.order C both T.size T.basis (t F Z p q U k D A n b v o B w r)
-                (decides F Z p q U k D A n b v o B w r) Lat I over
-                a (λ i. down (f.red (x i))) image_is
-                (maximal_same k C image (Reduced A L J C both Lat)
-                (other (Reduced A L J C both Lat) image image_is) h);
           },
         )
 

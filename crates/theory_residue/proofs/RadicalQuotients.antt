@@ -19,8 +19,7 @@ use Rattle.theory_radical.specs.Ideal.{IsIdeal as IsRingIdeal}
 use Rattle.theory_blocks.specs.MaximalIdeals.{HasNoNilpotentIdeal}
 use Rattle.theory_residue.specs.Residue.{ReductionOn, Reduced, Lifted}
 use Rattle.theory_radical.proofs.NilIdeals.{product-product}
-use Rattle.theory_blocks.proofs.Semiprime.{around, around_ideal}
-use Rattle.theory_residue.proofs.GeneratedIdeals.{around-self, around_within}
+use Rattle.theory_spaces.proofs.GeneratedIdeals.{around, around_ideal, around-self, around_within}
 
 -- a map of an order onto an algebra, and then onto a quotient of that
 module _ {K E V W X : Type 0} {R : RingOn K} {S : RingOn E} (A : AlgebraOn R V) (L N : V → Type 0) (B : AlgebraOn S W)
@@ -93,14 +92,14 @@ module _ {E W X : Type 0} (k : FieldOn E) (B : AlgebraOn k.ring W) (d : ℕ) (D 
       product-product B.ring a e f ∙ H.nilpotent.vanishes (λ i. product B.ring (λ j. a (i * f + j)) f)
       (λ i. (s.kernel (product B.ring (λ j. a (i * f + j)) f) tt).0
       (red-product (λ j. a (i * f + j)) f ∙ N.vanishes (λ j. red (a (i * f + j))) (λ j. g (i * f + j)))) in
-      let below = around_within k B d D x T (from_ideal S N.ideal)
+      let below = around_within B d D x T (from_ideal S N.ideal)
       (subst S (sym (red-lift (h i))) (InSpan-member (module_of C) n i h l)) in
-      let nil : IsNilpotentIdeal B.ring (InSpan (module_of B) (d * d) (around k B d D x)) = record {
-        ideal = around_ideal k B d D x;
+      let nil : IsNilpotentIdeal B.ring (InSpan (module_of B) (d * d) (around B d D x)) = record {
+        ideal = around_ideal B d D x;
         exponent = e * f;
         vanishes = λ a g. vanish a (λ i. below (a i) (g i));
       } in
-      sym (red-lift (h i)) ∙ (s.kernel x tt).1 (H.largest (d * d) (around k B d D x) nil x (around-self k B d D x))
+      sym (red-lift (h i)) ∙ (s.kernel x tt).1 (H.largest (d * d) (around B d D x) nil x (around-self B d D x))
 
   -- what a span comes from is a span
   module _ (m : ℕ) (g : ℕ → W) (same : Same I (InSpan (module_of B) m g)) (n : ℕ) (h : ℕ → X) where

@@ -1,17 +1,17 @@
 -- The quotient of an order by an ideal is simple where the algebra onto which it is mapped with this kernel is.
-use Rattle.std.specs.Prelude.{◌≡◌, ℕ, zero, ◌<◌, ◌↔◌, Bool}
-use Rattle.std.proofs.Common.{refl, sym, ◌∙◌, ap, subst, inl, inr, ⊎_elim}
+use Rattle.std.specs.Prelude.{◌≡◌, ℕ, ◌↔◌, Bool}
+use Rattle.std.proofs.Common.{refl, sym, ◌∙◌}
 use Rattle.theory_rings.specs.Ring.{RingOn, FieldOn}
-use Rattle.theory_rings.proofs.Sums.Sums.{sum_eq_zero}
-use Rattle.theory_spaces.specs.Module.{ModuleOn, AlgebraOn, module_of}
+use Rattle.theory_spaces.specs.Module.{AlgebraOn, module_of}
 use Rattle.theory_spaces.specs.Linear.{InSpan, Basis}
 use Rattle.theory_spaces.specs.AlgebraMap.{IsSimple}
 use Rattle.theory_spaces.specs.Valuation.{ValuationOn}
-use Rattle.theory_spaces.proofs.Modules.{InSpan-zero, InSpan-member, scale-zero}
+use Rattle.theory_spaces.specs.Sets.{Whole, Zero, ring_ops}
+use Rattle.theory_spaces.proofs.SetLemmas.{simple_same}
+use Rattle.theory_spaces.proofs.SimpleTests.{simple_to_tests, simple_of_tests}
 use Rattle.theory_orders.specs.Uniformizer.{UniformizerOn}
 use Rattle.theory_orders.specs.Orders.{IsOrder, IsIdeal, Multiple, SimpleQuotient, Within, Same, Test}
 use Rattle.theory_orders.specs.Lattices.{Lattice, IsOrderAt}
-use Rattle.theory_blocks.specs.MaximalIdeals.{IsMaximalIdeal as IsMaximalRingIdeal}
 use Rattle.theory_residue.specs.Residue.{ResidueOn, ReductionOn, Reduced, Lifted, ResidueReduction}
 use Rattle.theory_residue.specs.ResidueLaws.{LatticeReduces}
 use Rattle.theory_residue.specs.Semisimple.{QuotientAlgebra, SimpleByQuotient, QuotientAlgebraExists}
@@ -24,49 +24,25 @@ use Rattle.theory_residue.proofs.Laws.{lattice_law, t, decides}
 module _ {K E V W : Type 0} {R : RingOn K} (k : FieldOn E) (A : AlgebraOn R V) (L N : V → Type 0) (O : IsOrder A L)
     (B : AlgebraOn k.ring W) (r : ReductionOn A L N B)
     (d : ℕ) (D : Basis (module_of B) d) (l : V → Bool) (decides : Same (Test l) L) (I : IsIdeal A L N) where
-  abbrev MB : ModuleOn k.ring W
-  MB = module_of B
-
   abbrev Red : W → Type 0
   Red = Reduced A L N B r N
 
   -- the kernel becomes 0 alone
-  is_zero : (w : W) → Red w → w ≡ B.zero
-  is_zero w h = sym h.2 ∙ red_of_kernel A L N O B r h.0 h.1
-
-  zero_is : (w : W) → w ≡ B.zero → Red w
-  zero_is w e = (A.zero, I.zero_in, red-zero A L N O B r ∙ sym e)
-
-  span_of_zeros : (n : ℕ) (g : ℕ → W) → ((i : ℕ) → i < n → g i ≡ B.zero) → (w : W) → InSpan MB n g w → w ≡ B.zero
-  span_of_zeros n g z w s = s.combines ∙ sum_eq_zero B.monoid n (λ i. B.◌•◌ (s.weights i) (g i))
-      (λ i a. ap (B.◌•◌ (s.weights i)) (z i a) ∙ scale-zero MB (s.weights i))
+  zeros : Same Red (Zero (ring_ops B.ring))
+  zeros = (
+    λ w h. sym h.2 ∙ red_of_kernel A L N O B r h.0 h.1,
+    λ w e. (A.zero, I.zero_in, red-zero A L N O B r ∙ sym e),
+  )
 
   simple_of_quotient : IsSimple B × (B.one ≡ B.zero → ⊥) → SimpleQuotient A L N
-  simple_of_quotient h =
-      let none : ℕ → W = λ i. B.zero in
-      let M : IsMaximalRingIdeal B Red = record {
-        ideal = reduced_ideal A L N O B r N I;
-        proper = λ j. h.1 (is_zero B.one j);
-        maximal = λ n g ideal _. ⊎_elim
-            (λ (z : (i : ℕ) → i < n → g i ≡ B.zero). inl (λ x s. zero_is x (span_of_zeros n g z x s)))
-            (λ (all : (x : W) → InSpan MB n g x). inr all)
-            (h.0 n g ideal);
-      } in
-      simple_of_maximal k A L N O B r d D l decides N I (λ x j. j) zero none (
-        (λ w j. let S : W → Type 0 = InSpan MB zero none in subst S (sym (is_zero w j)) (InSpan-zero MB zero none)),
-        (λ w s. zero_is w s.combines),
-      ) M
+  simple_of_quotient h = simple_of_maximal A L N O B r l decides N I (λ x j. j) (record {
+    ideal = reduced_ideal A L N O B r N I;
+    simple = simple_same (ring_ops B.ring) Whole (Zero (ring_ops B.ring)) Red (zeros.1, zeros.0) (simple_to_tests k B d D h);
+  })
 
   quotient_of_simple : SimpleQuotient A L N → IsSimple B × (B.one ≡ B.zero → ⊥)
-  quotient_of_simple S =
-      let M = maximal_of_simple k A L N O B r d D l decides N I (λ x j. j) S in (
-        λ n g ideal. ⊎_elim
-            (λ (w : (x : W) → InSpan MB n g x → Red x). inl (λ i a. is_zero (g i) (w (g i) (InSpan-member MB n i g a))))
-            (λ (all : (x : W) → InSpan MB n g x). inr all)
-            (M.maximal n g ideal (λ x j. let T : W → Type 0 = InSpan MB n g in
-            subst T (sym (is_zero x j)) (InSpan-zero MB n g))),
-        λ e. M.proper (zero_is B.one e),
-      )
+  quotient_of_simple S = simple_of_tests k B d D (simple_same (ring_ops B.ring) Whole Red (Zero (ring_ops B.ring)) zeros
+      (maximal_of_simple A L N O B r l decides N I (λ x j. j) S).simple)
 
   pub simple_by_kernel : SimpleQuotient A L N ↔ (IsSimple B × (B.one ≡ B.zero → ⊥))
   simple_by_kernel = (quotient_of_simple, simple_of_quotient)

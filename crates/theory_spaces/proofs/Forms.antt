@@ -219,7 +219,7 @@ module _ {K V : Type 0} (F : FieldOn K) (M : ModuleOn F.ring V) (f : V → V →
       let d = left_dual F M (flip f) flipped n B back in
       record {
         basis = left_dual_basis F M (flip f) flipped n B d.0 d.1 back;
-        pairing = λ i j l g. d.1 j i g l ∙ delta_comm ring j i;
+        dual = record { pairing = λ i j l g. d.1 j i g l ∙ delta_comm ring j i };
       }
 
   module _ (D : DualBasis M f n B) where

@@ -3,7 +3,8 @@ use Rattle.std.specs.Prelude.{ℕ, ◌<◌}
 use Rattle.std.proofs.Common.{sym, ◌∙◌, ap, subst}
 use Rattle.theory_rings.specs.Ring.{RingOn}
 use Rattle.theory_spaces.specs.Module.{ModuleOn, AlgebraOn, module_of}
-use Rattle.theory_spaces.specs.Linear.{InSpan}
+use Rattle.theory_spaces.specs.Linear.{InSpan, IsSubmodule}
+use Rattle.theory_spaces.specs.Sets.{Whole, ring_ops, IsIdeal}
 use Rattle.theory_spaces.specs.Algebra.{IdealSpan}
 use Rattle.theory_spaces.proofs.Modules.{left_linear, right_linear, map-comb, InSpan-zero, InSpan-add, InSpan-comb}
 
@@ -34,3 +35,16 @@ module _ {K V : Type 0} {R : RingOn K} (A : AlgebraOn R V) (n : ℕ) (g : ℕ �
 
     pub ideal_right : (x y : V) → In y → In (y ⊗ x)
     ideal_right x y s = ideal.right x y tt s
+
+-- a two-sided ideal of an algebra is a submodule
+pub ideal_submodule : {K V : Type 0} {R : RingOn K} (A : AlgebraOn R V) (J : V → Type 0) → IsIdeal (ring_ops A.ring) Whole J
+    → IsSubmodule (module_of A) J
+ideal_submodule A J I = record {
+  zero-in = I.zero_in;
+  add-in = I.add_in;
+  scale-in = λ a x h. subst J (A.scale-left a A.one x ∙ ap (A.◌•◌ a) (A.one-mul x)) (I.left (A.◌•◌ a A.one) x tt h);
+}
+
+-- an ideal that holds one is everything
+pub ideal_whole : {V : Type 0} (R : RingOn V) (J : V → Type 0) → IsIdeal (ring_ops R) Whole J → J R.one → (x : V) → J x
+ideal_whole R J I h x = subst J (R.mul-one x) (I.left x R.one tt h)

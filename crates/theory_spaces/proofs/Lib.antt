@@ -20,6 +20,9 @@ pub mod TraceForms
 pub mod BasisChange
 pub mod PairIndex
 pub mod Ideals
+pub mod GeneratedIdeals
+pub mod SetLemmas
+pub mod SimpleTests
 pub mod MatrixAlgebra
 pub mod Isomorphisms
 pub mod MinimalIdempotents

@@ -9,16 +9,14 @@ use Rattle.theory_rings.proofs.Rings.RingLaws.{zero-mul}
 use Rattle.theory_rings.proofs.Sums.Sums.{sum_congr, sum_eq_zero, mul-sum, sum-mul}
 use Rattle.theory_spaces.specs.Module.{ModuleOn, AlgebraOn, module_of}
 use Rattle.theory_spaces.specs.Linear.{InSpan, IsSubmodule, IsLinear, Basis, BasisOf}
-use Rattle.theory_spaces.specs.Algebra.{IdealSpan}
 use Rattle.theory_spaces.specs.AlgebraMap.{IsSimple}
 use Rattle.theory_spaces.specs.MinimalIdempotent.{InLeftIdeal, OneThrough, IsEndomorphism, multiplier}
-use Rattle.theory_spaces.proofs.Ideals.{span_ideal}
+use Rattle.theory_spaces.proofs.GeneratedIdeals.{around, Around, around-in, around_ideal}
 use Rattle.theory_spaces.proofs.Modules.{scale-zero, zero-scale, comb_congr_right, InSpan-comb, InSpan-member, left_linear, right_linear, linear_comp, map-comb, span_in}
 use Rattle.theory_spaces.proofs.Spaces.{coords_of, span_basis}
 use Rattle.theory_spaces.proofs.Subspaces.{BasisOf-iff}
 use Rattle.theory_spaces.proofs.PairIndex.{pair-lt}
 
--- the ideal that an element generates
 module _ {K V : Type 0} {R : RingOn K} (A : AlgebraOn R V) (n : ℕ) (B : Basis (module_of A) n) (e : V) where
   infixl 65 ◌⊕◌
   infixl 70 ◌⊗◌
@@ -28,37 +26,17 @@ module _ {K V : Type 0} {R : RingOn K} (A : AlgebraOn R V) (n : ℕ) (B : Basis 
   abbrev M : ModuleOn R V
   M = module_of A
 
-  -- the products of e with two vectors of the basis
   abbrev products : ℕ → V
-  products t = (B.vec (t / n) ⊗ e) ⊗ B.vec (t % n)
+  products = around A n B e
 
   abbrev In : V → Type 0
-  In = InSpan M (n * n) products
-
-  -- a linear map that sends the basis into a span sends everything there
-  span_of_basis : (f : V → V) → IsLinear M M f → ((i : ℕ) → i < n → In (f (B.vec i))) → (x : V) → In (f x)
-  span_of_basis f h g x = subst In (sym (ap f (B.expand x) ∙ map-comb M M f h n (B.coord x) B.vec))
-      (InSpan-comb M n (n * n) (B.coord x) (λ i. f (B.vec i)) products g)
-
-  sandwich : (x y : V) → In ((x ⊗ e) ⊗ y)
-  sandwich x y = span_of_basis (λ z. (z ⊗ e) ⊗ y) (linear_comp M M M (λ z. z ⊗ y) (λ z. z ⊗ e) (right_linear A y) (right_linear A e))
-      (λ i a. span_of_basis (λ z. (B.vec i ⊗ e) ⊗ z) (left_linear A (B.vec i ⊗ e))
-      (λ j b. subst In (ap₂ (λ p q. (B.vec p ⊗ e) ⊗ B.vec q) (div-mul-add i n j b) (mod-mul-add i n j b))
-      (InSpan-member M (n * n) (i * n + j) products (pair-lt n n i j a b))) y) x
-
-  generated : IdealSpan A (n * n) products
-  generated = span_ideal A (n * n) products
-      (λ t _ x. subst In
-      (ap (λ z. z ⊗ B.vec (t % n)) (A.mul_assoc x (B.vec (t / n)) e) ∙ A.mul_assoc x (B.vec (t / n) ⊗ e) (B.vec (t % n)))
-      (sandwich (x ⊗ B.vec (t / n)) (B.vec (t % n))))
-      (λ t _ x. subst In (sym (A.mul_assoc (B.vec (t / n) ⊗ e) (B.vec (t % n)) x))
-      (sandwich (B.vec (t / n)) (B.vec (t % n) ⊗ x)))
+  In = Around A n B e
 
   -- in a simple algebra one lies in the ideal of each element other than 0
   pub one_through : IsSimple A → (e ≡ A.zero → ⊥) → OneThrough A e
   one_through simple nonzero = ⊎_elim
       (λ (z : (t : ℕ) → t < n * n → products t ≡ A.zero).
-      let s = sandwich A.one A.one in
+      let s = around-in A n B e A.one A.one in
       absurd (nonzero (sym (A.mul-one (A.one ⊗ e) ∙ A.one-mul e) ∙ s.combines ∙ comb_congr_right M (n * n) s.weights products (λ _. A.zero) z
       ∙ sum_eq_zero A.monoid (n * n) (λ t. s.weights t • A.zero) (λ t _. scale-zero M (s.weights t)))))
       (λ (all : (x : V) → In x).
@@ -70,7 +48,7 @@ module _ {K V : Type 0} {R : RingOn K} (A : AlgebraOn R V) (n : ℕ) (B : Basis 
         sums = s.combines ∙ sum_congr A.monoid (n * n) (λ t. s.weights t • products t) (λ t. ((s.weights t • B.vec (t / n)) ⊗ e) ⊗ B.vec (t % n))
             (λ t _. sym (ap (λ z. z ⊗ B.vec (t % n)) (A.scale-left (s.weights t) (B.vec (t / n)) e) ∙ A.scale-left (s.weights t) (B.vec (t / n) ⊗ e) (B.vec (t % n))));
       })
-      (simple (n * n) products generated)
+      (simple (n * n) products (around_ideal A n B e))
 
 -- the left ideal of an idempotent
 module _ {K V : Type 0} {R : RingOn K} (A : AlgebraOn R V) (e : V) (idem : A.◌⊗◌ e e ≡ e) where

@@ -9,6 +9,10 @@ use Rattle.theory_spaces.proofs.Modules.{InSpan-member, InSpan_trans}
 use Rattle.theory_spaces.proofs.Dimension.{exchange}
 use Rattle.theory_spaces.proofs.Spaces.{extend_or_span, span_basis}
 
+pub decided : (b : Bool) → (IsTrue b) ⊎ (IsTrue b → ⊥)
+decided true = inl refl
+decided false = inr (λ h. cc)
+
 -- the test of a decision
 module _ {P : Type 0} where
   pub answer : P ⊎ (P → ⊥) → Bool

@@ -4,8 +4,8 @@ use Rattle.std.proofs.Common.{◌∙◌, ap}
 use Rattle.theory_rings.specs.Ring.{CommRingOn}
 use Rattle.theory_spaces.specs.Module.{AlgebraOn, module_of}
 use Rattle.theory_spaces.specs.Linear.{Basis}
-use Rattle.theory_spaces.specs.Algebra.{trace, Nondegenerate}
-use Rattle.theory_spaces.specs.Form.{IsBilinear, IsSymmetric, IsAssociative, IsNondegenerate, trace_form}
+use Rattle.theory_spaces.specs.Algebra.{trace}
+use Rattle.theory_spaces.specs.Form.{IsBilinear, IsSymmetric, IsAssociative, trace_form}
 use Rattle.theory_spaces.proofs.Traces.{trace_comm, trace-add, trace-scale}
 
 module _ {K V : Type 0} (C : CommRingOn K) (A : AlgebraOn C.ring V) (n : ℕ) (B : Basis (module_of A) n) where
@@ -25,10 +25,3 @@ module _ {K V : Type 0} (C : CommRingOn K) (A : AlgebraOn C.ring V) (n : ℕ) (B
 
   pub trace_form_associative : IsAssociative A (trace_form A n B)
   trace_form_associative = record { associative = λ x y z. ap (trace A n B) (A.mul_assoc x y z) }
-
-  -- that the form tr(xy) is nondegenerate is said of the form
-  pub trace_form_nondegenerate : Nondegenerate A n B → IsNondegenerate (module_of A) (trace_form A n B)
-  trace_form_nondegenerate h = record { only_zero = h.only_zero }
-
-  pub nondegenerate_of_trace_form : IsNondegenerate (module_of A) (trace_form A n B) → Nondegenerate A n B
-  nondegenerate_of_trace_form h = record { only_zero = h.only_zero }

@@ -6,7 +6,8 @@ use Rattle.theory_rings.specs.Sum.{sum}
 use Rattle.theory_rings.specs.Power.{power}
 use Rattle.theory_spaces.specs.Module.{ModuleOn, AlgebraOn, module_of}
 use Rattle.theory_spaces.specs.Linear.{InSpan, Basis}
-use Rattle.theory_spaces.specs.Sets.{Whole, ring_ops, IsIdeal}
+use Rattle.theory_spaces.specs.Sets.{Whole, Zero, ring_ops, IsIdeal, SimpleQuotient}
+use Rattle.theory_spaces.specs.Orthogonal.{IsNondegenerate}
 
 -- f done n times
 abbrev pub iterate : {V : Type 0} → (V → V) → ℕ → V → V
@@ -35,6 +36,10 @@ module _ {K V : Type 0} {R : RingOn K} (A : AlgebraOn R V) where
   pub record Central : Type 0 where
     pub multiple : (x : V) → ((y : V) → A.◌⊗◌ x y ≡ A.◌⊗◌ y x) → (a : K) × (x ≡ A.◌•◌ a A.one)
 
+  -- as a quotient by 0: it is not 0, and each ideal that a test tells is 0 or everything
+  abbrev pub SimpleByTests : Type 0
+  SimpleByTests = SimpleQuotient (ring_ops A.ring) Whole (Zero (ring_ops A.ring))
+
   -- its centre is the multiples of one, and it is simple
   pub record CentralSimple : Type 0 where
     pub central : Central
@@ -49,6 +54,6 @@ module _ {K V : Type 0} {R : RingOn K} (A : AlgebraOn R V) where
     abbrev pub trace : V → K
     trace x = map_trace (module_of A) n B (λ y. A.◌⊗◌ x y)
 
-    -- the form tr(xy) is 0 for all y at x = 0 alone
-    pub record Nondegenerate : Type 0 where
-      pub only_zero : (x : V) → ((y : V) → trace (A.◌⊗◌ x y) ≡ R.zero) → x ≡ A.zero
+    -- the form tr(xy) is nondegenerate
+    abbrev pub Nondegenerate : Type 0
+    Nondegenerate = IsNondegenerate R.zero (λ x y. trace (A.◌⊗◌ x y)) A.zero

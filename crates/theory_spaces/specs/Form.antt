@@ -1,11 +1,13 @@
 -- Bilinear forms on a module: symmetric and nondegenerate forms, the Gram matrix, dual bases, orthogonal sets, and the
 -- trace form of an algebra. (Jacobson, Basic Algebra I, chapter 6.)
-use Rattle.std.specs.Prelude.{◌≡◌, ℕ, ◌+◌, ◌<◌, ◌⊎◌}
+use Rattle.std.specs.Prelude.{◌≡◌, ℕ, ◌+◌, ◌⊎◌}
 use Rattle.theory_rings.specs.Ring.{RingOn}
 use Rattle.theory_spaces.specs.Module.{ModuleOn, AlgebraOn, module_of}
 use Rattle.theory_spaces.specs.Linear.{Basis, BasisOf}
-use Rattle.theory_spaces.specs.Matrix.{Matrix, delta}
+use Rattle.theory_spaces.specs.Matrix.{Matrix}
 use Rattle.theory_spaces.specs.Algebra.{trace}
+use Rattle.theory_spaces.specs.Orthogonal as orthogonal
+use Rattle.theory_spaces.specs.Orthogonal.{AreDual}
 
 module _ {K V : Type 0} {R : RingOn K} (M : ModuleOn R V) (f : V → V → K) where
   -- f keeps sums and multiples in each argument
@@ -16,16 +18,16 @@ module _ {K V : Type 0} {R : RingOn K} (M : ModuleOn R V) (f : V → V → K) wh
     pub scale-right : (a : K) (x y : V) → f x (M.◌•◌ a y) ≡ R.◌⊗◌ a (f x y)
 
   -- 0 alone is orthogonal to everything
-  pub record IsNondegenerate : Type 0 where
-    pub only_zero : (x : V) → ((y : V) → f x y ≡ R.zero) → x ≡ M.zero
+  abbrev pub IsNondegenerate : Type 0
+  IsNondegenerate = orthogonal.IsNondegenerate R.zero f M.zero
 
   -- x is orthogonal to everything
   abbrev pub InRadical : V → Type 0
-  InRadical x = (y : V) → f x y ≡ R.zero
+  InRadical = orthogonal.InRadical R.zero f
 
   -- x is orthogonal to all of S
   abbrev pub Orthogonal : (V → Type 0) → V → Type 0
-  Orthogonal S x = (y : V) → S y → f x y ≡ R.zero
+  Orthogonal = orthogonal.Orthogonal R.zero f
 
   -- the values of the form at pairs of the vectors v
   abbrev pub gram : (ℕ → V) → Matrix K
@@ -34,7 +36,8 @@ module _ {K V : Type 0} {R : RingOn K} (M : ModuleOn R V) (f : V → V → K) wh
   -- a basis d with f (b i) (d i) = 1, and f (b i) (d j) = 0 for j other than i
   pub record DualBasis (n : ℕ) (B : Basis M n) : Type 0 where
     pub basis : Basis M n
-    pub pairing : (i j : ℕ) → i < n → j < n → f (B.vec i) (basis.vec j) ≡ delta R i j
+    pub dual : AreDual R.zero f R.one n B.vec basis.vec
+    pub open dual use {pairing}
 
   -- what is orthogonal to S has the dimension that is left of n by k
   pub record OrthogonalBasis (S : V → Type 0) (k n : ℕ) : Type 0 where

@@ -10,6 +10,7 @@ pub mod Quotient
 pub mod Valuation
 pub mod Sets
 pub mod Subspaces
+pub mod Orthogonal
 pub mod Form
 pub mod AlgebraMap
 pub mod MatrixAlgebra

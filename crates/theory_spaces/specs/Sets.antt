@@ -98,6 +98,11 @@ module _ {V : Type 0} (S : RingOps V) where
     pub proper : Within L J → ⊥
     pub nothing_between : (t : V → Bool) → IsIdeal L (Test t) → Within J (Test t) → Within (Test t) J ⊎ Within L (Test t)
 
+  -- a maximal two-sided ideal of L
+  pub record IsMaximalIdeal (L M : V → Type 0) : Type 0 where
+    pub ideal : IsIdeal L M
+    pub simple : SimpleQuotient L M
+
   -- l·a·r with l and r in L
   abbrev pub Around : (V → Type 0) → V → V → Type 0
   Around L a x = (l : V) × (r : V) × L l × L r × (x ≡ S.mul (S.mul l a) r)
@@ -131,15 +136,15 @@ module _ {K V : Type 0} (S : RingOps V) (scale : K → V → V) where
         → Within (Power S (Test t) e) (Multiple p L) → Within (Test t) J
 
   -- a maximal two-sided ideal of L over p·L
-  pub record IsMaximalIdeal (p : K) (L M : V → Type 0) : Type 0 where
-    pub ideal : IsIdeal S L M
+  pub record IsMaximalIdealOver (p : K) (L M : V → Type 0) : Type 0 where
+    pub maximal : IsMaximalIdeal S L M
+    pub open maximal use {ideal, simple}
     pub over : Within (Multiple p L) M
-    pub simple : SimpleQuotient S L M
 
   -- M is the one maximal ideal over p·L; it is the radical and invertible, and p·L is a power of it
   pub record OnlyMaximalIdeal (p : K) (L M : V → Type 0) : Type 0 where
-    pub maximal : IsMaximalIdeal p L M
-    pub only : (t : V → Bool) → IsMaximalIdeal p L (Test t) → Same (Test t) M
+    pub maximal : IsMaximalIdealOver p L M
+    pub only : (t : V → Bool) → IsMaximalIdealOver p L (Test t) → Same (Test t) M
     pub radical : Radical p L M
     pub invertible : IsInvertible S L M
     pub exponent : ℕ

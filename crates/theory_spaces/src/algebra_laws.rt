@@ -1,10 +1,10 @@
 // Theorems on algebras with a basis.
-ghost use Rattle.std.specs.Prelude.{◌≡◌, ℕ};
+ghost use Rattle.std.specs.Prelude.{◌≡◌, ◌↔◌, ℕ};
 ghost use Rattle.theory_rings.specs.Ring.{CommRingOn, FieldOn};
 ghost use Rattle.theory_spaces.specs.Module.{AlgebraOn, module_of};
 ghost use Rattle.theory_spaces.specs.Linear.{Basis};
 ghost use Rattle.theory_spaces.specs.Matrix.{Matrix, mat_mul, mat_trace};
-ghost use Rattle.theory_spaces.specs.Algebra.{trace, IsNilpotent, Nondegenerate, Central, CentralSimple};
+ghost use Rattle.theory_spaces.specs.Algebra.{trace, IsNilpotent, Nondegenerate, Central, CentralSimple, IsSimple, SimpleByTests};
 
 /// An algebra over a field, with a basis.
 pub trait BasedAlgebra {
@@ -35,6 +35,12 @@ pub fn trace_of_nilpotent<A: BasedAlgebra>()
 /// An algebra whose trace form is nondegenerate and whose centre is the multiples of one is central simple.
 pub fn central_simple<A: BasedAlgebra>()
     ensures { Nondegenerate A.algebra A.dimension A.basis → Central A.algebra → CentralSimple A.algebra }
+{}
+
+/// An algebra with a basis is simple and not 0, by ideals that finitely many vectors span, just where it is by ideals that a
+/// test tells.
+pub fn simple_by_spans_and_tests<A: BasedAlgebra>()
+    ensures { (IsSimple A.algebra × (A.algebra.one ≡ A.algebra.zero → ⊥)) ↔ SimpleByTests A.algebra }
 {}
 
 /// A commutative ring.

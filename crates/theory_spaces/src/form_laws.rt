@@ -4,7 +4,6 @@ ghost use Rattle.theory_rings.specs.Ring.{FieldOn};
 ghost use Rattle.theory_spaces.specs.Module.{ModuleOn, module_of};
 ghost use Rattle.theory_spaces.specs.Linear.{comb, InSpan, Independent, Basis, BasisOf};
 ghost use Rattle.theory_spaces.specs.Matrix.{delta, mat_mul};
-ghost use Rattle.theory_spaces.specs.Algebra.{Nondegenerate};
 ghost use Rattle.theory_spaces.specs.Form.{IsBilinear, IsSymmetric, IsAssociative, IsNondegenerate, NondegenerateOrNot, flip, gram, transpose, InRadical, Orthogonal, DualBasis, OrthogonalBasis, trace_form};
 
 use crate::algebra_laws::BasedAlgebra;
@@ -66,5 +65,4 @@ pub fn trace_forms<A: BasedAlgebra>()
     ensures bilinear { IsBilinear (module_of A.algebra) (trace_form A.algebra A.dimension A.basis) }
     ensures symmetric { IsSymmetric (trace_form A.algebra A.dimension A.basis) }
     ensures associative { IsAssociative A.algebra (trace_form A.algebra A.dimension A.basis) }
-    ensures nondegenerate { Nondegenerate A.algebra A.dimension A.basis → IsNondegenerate (module_of A.algebra) (trace_form A.algebra A.dimension A.basis) }
 {}
