@@ -63,7 +63,7 @@ module _ {K V : Type 0} (F : FieldOn K) (W : DegreeOn F.ring) (A : AlgebraOn F.r
       pub in_finite : finite x
       pub in_infinite : infinite (T d • x)
 
-    reaches-mul : (d e : ℤ) (x y : V) → Reaches d x → Reaches e y → Reaches (d +ℤ e) (x ⊗ y)
+    pub reaches-mul : (d e : ℤ) (x y : V) → Reaches d x → Reaches e y → Reaches (d +ℤ e) (x ⊗ y)
     reaches-mul d e x y h g = record {
       in_finite = S.finite-mul x y h.in_finite g.in_finite;
       in_infinite =
@@ -85,7 +85,7 @@ module _ {K V : Type 0} (F : FieldOn K) (W : DegreeOn F.ring) (A : AlgebraOn F.r
     shift_below m e s c l h = below-mul W (e +ℤ pos 1) m s (T e) c (omega (arith, ints)) (below_of_degree W e (e +ℤ pos 1) (T e) (omega (arith, ints)) (X.degree e)) h
 
     -- past the greatest degree there is nothing
-    vanishes : (e : ℤ) (x : V) → ((i : ℕ) → i < n → a i <ℤ e) → Reaches e x → x ≡ A.zero
+    pub vanishes : (e : ℤ) (x : V) → ((i : ℕ) → i < n → a i <ℤ e) → Reaches e x → x ≡ A.zero
     vanishes e x h r =
         let f = B.finite_in x r.in_finite in
         let g = B.infinite_in (T e • x) r.in_infinite in
@@ -129,7 +129,7 @@ module _ {K V : Type 0} (F : FieldOn K) (W : DegreeOn F.ring) (A : AlgebraOn F.r
       });
     }
 
-    dual_reaches : (i : ℕ) → i < n → Reaches (neg_ℤ (a i)) (dual i)
+    pub dual_reaches : (i : ℕ) → i < n → Reaches (neg_ℤ (a i)) (dual i)
     dual_reaches i l = record {
       in_finite = S.finite_dual (dual i) (λ y h.
           let f = B.finite_in y h in
@@ -143,21 +143,28 @@ module _ {K V : Type 0} (F : FieldOn K) (W : DegreeOn F.ring) (A : AlgebraOn F.r
           subst Q (sym e) (shift_below (a i +ℤ pos 1) (neg_ℤ (a i)) (pos 1) (f.weights i) (omega (arith, ints)) (f.passes i l)));
     }
 
-    -- u of degree d > 0 and v of degree -d with tr (u v) = 1
-    middle : (d : ℤ) (u v : V) → pos 0 <ℤ d → ((i : ℕ) → i < n → a i <ℤ (d +ℤ d)) → Reaches d u → Reaches (neg_ℤ d) v → tr (u ⊗ v) ≡ F.one → Middle F W A P finite infinite (u ⊗ v)
-    middle d u v p most ru rv e =
+    -- u·v, of trace 1, is no unit where u·u is of too great a degree
+    pub no_right_inverse : (d : ℤ) (u v : V) → ((i : ℕ) → i < n → a i <ℤ (d +ℤ d)) → Reaches d u → tr (u ⊗ v) ≡ F.one
+        → (y : V) → (u ⊗ v) ⊗ y ≡ A.one → ⊥
+    no_right_inverse d u v most ru e y q =
         let uu : u ⊗ u ≡ A.zero = vanishes (d +ℤ d) (u ⊗ u) most (reaches-mul d d u u ru ru) in
+        let gone : u ≡ A.zero =
+        sym (A.mul-one u) ∙ ap (λ t. u ⊗ t) (sym q) ∙ sym (A.mul_assoc u (u ⊗ v) y)
+        ∙ ap (λ t. t ⊗ y) (sym (A.mul_assoc u u v) ∙ ap (λ t. t ⊗ v) uu ∙ zero-mul A.ring v) ∙ zero-mul A.ring y in
+        W.one-ne-zero (sym e ∙ ap tr (ap (λ t. t ⊗ v) gone ∙ zero-mul A.ring v) ∙ trace-zero F W A P finite infinite tr S)
+
+    -- u of degree d > 0 and v of degree -d with tr (u v) = 1
+    pub middle : (d : ℤ) (u v : V) → pos 0 <ℤ d → ((i : ℕ) → i < n → a i <ℤ (d +ℤ d))
+        → Reaches d u → Reaches (neg_ℤ d) v → tr (u ⊗ v) ≡ F.one → Middle F W A P finite infinite (u ⊗ v)
+    middle d u v p most ru rv e =
         let r = reaches-mul d (neg_ℤ d) u v ru rv in
         let z : d +ℤ neg_ℤ d ≡ pos 0 = omega (arith, ints) in
         record {
           in_finite = r.in_finite;
-          in_infinite = subst infinite (ap (λ m. T m • (u ⊗ v)) z ∙ ap (λ c. c • (u ⊗ v)) X.none ∙ A.one-scale (u ⊗ v)) r.in_infinite;
+          in_infinite = subst infinite
+              (ap (λ m. T m • (u ⊗ v)) z ∙ ap (λ c. c • (u ⊗ v)) X.none ∙ A.one-scale (u ⊗ v)) r.in_infinite;
           not_nilpotent = λ q. W.one-ne-zero (sym e ∙ S.tr_nilpotent (u ⊗ v) q);
-          not_unit = λ y _ _ q _.
-              let gone : u ≡ A.zero =
-              sym (A.mul-one u) ∙ ap (λ t. u ⊗ t) (sym q) ∙ sym (A.mul_assoc u (u ⊗ v) y)
-              ∙ ap (λ t. t ⊗ y) (sym (A.mul_assoc u u v) ∙ ap (λ t. t ⊗ v) uu ∙ zero-mul A.ring v) ∙ zero-mul A.ring y in
-              W.one-ne-zero (sym e ∙ ap tr (ap (λ t. t ⊗ v) gone ∙ zero-mul A.ring v) ∙ trace-zero F W A P finite infinite tr S);
+          not_unit = λ y _ _ q _. no_right_inverse d u v most ru e y q;
         }
 
     -- some element of both orders is neither nilpotent nor a unit, or all degrees are 0

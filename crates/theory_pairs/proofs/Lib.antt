@@ -1,0 +1,9 @@
+pub mod Spans
+pub mod Polynomials
+pub mod CornerAlgebras
+pub mod CornerIdeals
+pub mod CornerDuals
+pub mod DualSpans
+pub mod PairsByGram
+pub mod DegreeElements
+pub mod FirstOrders

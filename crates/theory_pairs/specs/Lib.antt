@@ -1,0 +1,4 @@
+pub mod Corner
+pub mod Subring
+pub mod OwnDual
+pub mod DegreeElement
