@@ -7,3 +7,6 @@ pub mod DualSpans
 pub mod PairsByGram
 pub mod DegreeElements
 pub mod FirstOrders
+pub mod LocalOrders
+pub mod DualsAtPlaces
+pub mod Denominators

@@ -14,3 +14,4 @@ pub mod corner_laws;
 pub mod degree_laws;
 pub mod dual_laws;
 pub mod order_laws;
+pub mod place_laws;
