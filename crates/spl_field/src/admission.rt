@@ -50,8 +50,8 @@ pub(crate) fn inverse_of(p: u16, modulus: &[u8], size: u16, a: u16) -> Option<u1
 }
 
 /// Whether the numbers give a field: p to the number of digits is 2 to 256, the numbers of the modulus are below p, and
-/// each nonzero element has an inverse. A fault of size comes before one of the inverses, which carries the first element
-/// without one. It answers the number of elements, and takes no memory.
+/// each nonzero element has an inverse. A fault of size comes before one of the inverses, which carries the first
+/// element without one. It answers the number of elements, and takes no memory.
 pub(crate) fn admits_numbers(p: u16, modulus: &[u8]) -> Result<u16, FieldFault>
     ensures ok { OnOk result (IsAdmitted p modulus.now) }
     ensures elements { IfOk result (λ q. q ≡ p ^ length modulus.now) }

@@ -1,7 +1,9 @@
 // The laws of a field, for given tables of its sums and products.
 ghost use Rattle.std.specs.Prelude.{◌≡◌, ℕ, ◌*◌, ◌<◌, ◌≤◌, ◌↔◌, length, IsTrue, MatchOption, OnOk, IfErr};
 ghost use Rattle.spl_field.specs.Tables.{entry_at, AreElements};
-ghost use Rattle.spl_field.specs.Laws.{AreTables, AreFieldTables, HoldsAt, HoldsAtPair, Holds, FailsFirstAt, FailsFirstAtPair, FailsFirst, IsFirstFailure, number_of, second_below, third_below};
+ghost use Rattle.spl_field.specs.Laws.{AreTables, AreFieldTables, HoldsAt, HoldsAtPair, Holds, FailsFirstAt};
+ghost use Rattle.spl_field.specs.Laws.{FailsFirstAtPair, FailsFirst, IsFirstFailure, number_of, second_below};
+ghost use Rattle.spl_field.specs.Laws.{third_below};
 
 use crate::list::Codes;
 use crate::small::Tables;
@@ -20,9 +22,9 @@ pub enum Law {
     Inverse,
 }
 
-/// A law that fails, by its number from 1 to 9, and the elements at which it fails, with 0 in the place of those that it
-/// does not use. The laws are: 1 sums associate, 2 sums commute, 3 the zero, 4 a negative exists, 5 products associate, 6
-/// products commute, 7 the one, 8 a·(b + c) = a·b + a·c, 9 an element but 0 has an inverse.
+/// A law that fails, by its number from 1 to 9, and the elements at which it fails, with 0 in the place of those that
+/// it does not use. The laws are: 1 sums associate, 2 sums commute, 3 the zero, 4 a negative exists, 5 products
+/// associate, 6 products commute, 7 the one, 8 a·(b + c) = a·b + a·c, 9 an element but 0 has an inverse.
 #[derive(Clone, Copy, Debug, PartialEq, Eq)]
 pub struct LawAt {
     pub law: u8,
@@ -205,8 +207,8 @@ fn first_triple(t: &Tables, law: Law) -> Option<(u8, u8, u8)>
     None
 }
 
-/// Whether the tables are those of a field, with 0 as zero and 1 as one. The first law that fails is told, and of it the
-/// least elements, in lexicographic order, at which it does. It takes no memory.
+/// Whether the tables are those of a field, with 0 as zero and 1 as one. The first law that fails is told, and of it
+/// the least elements, in lexicographic order, at which it does. It takes no memory.
 pub fn check_laws(tables: &Tables) -> Result<(), LawAt>
     requires { AreTables tables.now.size tables.now.sum tables.now.product }
     ensures ok { OnOk result (AreFieldTables tables.now.size tables.now.sum tables.now.product) }

@@ -1,8 +1,10 @@
 // The fields of 2 to 256 elements.
-ghost use Rattle.std.specs.Prelude.{◌≡◌, ◌≢◌, ℕ, ◌*◌, ◌+◌, ◌^◌, ◌<◌, ◌≤◌, length, MatchOption, IfOk, OnOk, IsErrOf, slice_index};
+ghost use Rattle.std.specs.Prelude.{◌≡◌, ◌≢◌, ℕ, ◌*◌, ◌+◌, ◌^◌, ◌<◌, ◌≤◌, length, MatchOption, IfOk, OnOk, IsErrOf};
+ghost use Rattle.std.specs.Prelude.{slice_index};
 ghost use Rattle.theory_rings.specs.FieldByDigits.{IsSumByDigits, IsProductByDigits};
 ghost use Rattle.spl_field.specs.FieldByDigits.{FitsField, IsAdmitted, IsFirstWithoutInverse, IsInverse};
-ghost use Rattle.spl_field.specs.Tables.{table_ops, table_power, AreElements, AreSums, AreNegatives, AreProducts, AreInverses};
+ghost use Rattle.spl_field.specs.Tables.{table_ops, table_power, AreElements, AreSums, AreNegatives, AreProducts};
+ghost use Rattle.spl_field.specs.Tables.{AreInverses};
 ghost use Rattle.spl_field.specs.TableField.{field_laws};
 
 use crate::admission::{FieldFault, admits_numbers};
@@ -130,8 +132,8 @@ impl SmallField {
         Ok(())
     }
 
-    /// The field, with its tables. The faults `Size` and `NoInverse` come exactly where `admits` gives them, and `Memory`
-    /// only where it gives none.
+    /// The field, with its tables. The faults `Size` and `NoInverse` come exactly where `admits` gives them, and
+    /// `Memory` only where it gives none.
     pub fn new(alloc: Global, p: u16, modulus: &[u8]) -> Result<SmallField, FieldFault>
         ensures p { IfOk result (λ f. characteristic f ≡ p) }
         ensures modulus { IfOk result (λ f. modulus_of f ≡ modulus.now) }

@@ -1,9 +1,11 @@
 // Polynomials over a small field.
-ghost use Rattle.std.specs.Prelude.{◌≡◌, ◌≢◌, ◌↔◌, ℕ, suc, ◌<◌, ◌≤◌, [], length, replicate, IsOk, IfOk, IfSome, IsTrue, MatchOption, slice_index, slice_index_or};
+ghost use Rattle.std.specs.Prelude.{◌≡◌, ◌≢◌, ◌↔◌, ℕ, suc, ◌<◌, ◌≤◌, [], length, replicate, IsOk, IfOk, IfSome, IsTrue};
+ghost use Rattle.std.specs.Prelude.{MatchOption, slice_index, slice_index_or};
 ghost use Rattle.theory_rings.specs.Ops.{Ops};
 ghost use Rattle.theory_rings.specs.Polynomial.{IsTrimmed};
 ghost use Rattle.spl_field.specs.SmallField.{small_ops};
-ghost use Rattle.spl_poly.specs.Operations.{IsOver, IsSum, IsProduct, IsDivision, IsProductRemainder, IsPowerRemainder, IsMonicOf, without_zeros};
+ghost use Rattle.spl_poly.specs.Operations.{IsOver, IsSum, IsProduct, IsDivision, IsProductRemainder, IsPowerRemainder};
+ghost use Rattle.spl_poly.specs.Operations.{IsMonicOf, without_zeros};
 ghost use Rattle.spl_poly.specs.Order.{poly_cmp};
 
 use crate::elements::{inverse, know_laws};
@@ -17,9 +19,9 @@ use std::alloc::Global;
 use std::cmp::Ordering;
 use std::marker::Model;
 
-/// A polynomial: its coefficients, lowest first, of which the last is not 0; the polynomial 0 has none. Contracts see it
-/// as that list. Whose elements the coefficients are is a condition of the calls that take a field. Up to 16 of them need
-/// no memory.
+/// A polynomial: its coefficients, lowest first, of which the last is not 0; the polynomial 0 has none. Contracts see
+/// it as that list. Whose elements the coefficients are is a condition of the calls that take a field. Up to 16 of them
+/// need no memory.
 pub struct Poly {
     coefficients: SmallVec<u8, 16>,
 }
@@ -83,8 +85,8 @@ fn sum_of_rows(alloc: Global, f: &SmallField, long: &[u8], short: &[u8]) -> Resu
 }
 
 impl Poly {
-    /// The polynomial with these coefficients, lowest first; zeros at the end are dropped. A slice of at most 16 takes no
-    /// memory.
+    /// The polynomial with these coefficients, lowest first; zeros at the end are dropped. A slice of at most 16 takes
+    /// no memory.
     pub fn from_slice(alloc: Global, c: &[u8]) -> Result<Poly, NoMemory>
         ensures short { length c.now ≤ 16 → IsOk result }
         ensures value { IfOk result (λ p. p ≡ without_zeros c.now) }
@@ -292,6 +294,13 @@ impl Poly {
         ensures some { IfSome result (λ r. (i < length self.now) × (r.now ≡ slice_index_or self.now i r.now)) }
     {
         self.coefficients.as_slice().get(i)
+    }
+
+    /// The coefficients, lowest first. It takes no memory.
+    pub fn as_slice(&self) -> &[u8]
+        ensures { result.now ≡ self.now }
+    {
+        self.coefficients.as_slice()
     }
 
     /// Whether it is 0.

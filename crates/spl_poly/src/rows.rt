@@ -63,7 +63,8 @@ pub(crate) fn product_coefficient(f: &SmallField, x: &[u8], y: &[u8], k: usize) 
     requires y_over { IsOver (small_ops f.now) y.now }
     requires room { k < length x.now + length y.now }
     ensures elem { IsElem (small_ops f.now) result }
-    ensures value { result ≡ convolution_of (small_ops f.now) (at (small_ops f.now) x.now) (at (small_ops f.now) y.now) k }
+    ensures value { result
+        ≡ convolution_of (small_ops f.now) (at (small_ops f.now) x.now) (at (small_ops f.now) y.now) k }
 {
     know_laws(f);
     let low = if k >= y.len() { k - y.len() + 1 } else { 0 };
