@@ -6,7 +6,7 @@ use Rattle.std.proofs.lemmas.Bool.{cases_lt}
 use Rattle.theory_rings.specs.Ring.{FieldOn}
 use Rattle.theory_spaces.specs.Module.{ModuleOn}
 use Rattle.theory_spaces.specs.Linear.{Basis}
-use Rattle.theory_spaces.proofs.Families.{below_suc}
+pub use Rattle.theory_spaces.proofs.SpanTests.{some_or_all}
 use Rattle.theory_spaces.proofs.Decide.{NotAllZero, pivot}
 use Rattle.theory_spaces.proofs.Spaces.{coords_of}
 
@@ -15,17 +15,6 @@ lt_or_gt i m q = ⊎_elim (λ (b : i < m). inl b) (λ (b : m ≤ i). inr (above 
   where
     above : m ≤ i → m < i
     above b = ⊎_elim (λ (h : m < i). h) (λ (h : i ≤ m). absurd (q (let e : i ≡ m = omega arith in e))) (cases_lt m i)
-
--- one of the numbers below n has P, or all have Q
-pub some_or_all : (n : ℕ) (P Q : ℕ → Type 0) → ((i : ℕ) → i < n → P i ⊎ Q i) → ((i : ℕ) × (i < n) × P i) ⊎ ((i : ℕ) → i < n → Q i)
-some_or_all zero P Q h = inr (λ i l. absurd (omega arith))
-some_or_all (suc n) P Q h = ⊎_elim
-    (λ (s : (i : ℕ) × (i < n) × P i). inl (s.0, (let l = s.1 in omega arith), s.2))
-    (λ (all : (i : ℕ) → i < n → Q i). ⊎_elim
-    (λ (p : P n). inl (n, omega arith, p))
-    (λ (q : Q n). inr (below_suc n Q all q))
-    (h n (omega arith)))
-    (some_or_all n P Q (λ i l. h i (omega arith)))
 
 module _ {V : Type 0} (origin : V) (dec : (x : V) → (x ≡ origin) ⊎ (x ≡ origin → ⊥)) where
   -- one of n members is not the origin, or all are

@@ -322,16 +322,19 @@ module _ {K V : Type 0} (F : FieldOn K) (Z : ValuationOn F) (p q : K) (U : Unifo
       → (n : ℕ) (g : ℕ → V) → Same Q (Lattice F Z A n g) → IsMaximalIdeal A p L (Lattice F Z A n g)
   maximal_of Q I over proper generates n g e = record {
     over = λ x h. e.0 x (over x h);
-    maximal = record { ideal = ideal_same A L Q (Lattice F Z A n g) e I; simple = record {
-      proper = λ h. proper (e.1 A.one (h A.one O.one_in));
-      nothing_between = λ t IT j. ⊎_elim
-          (λ (h : IsTrue (t A.one)). inr (whole A L Q O (Test t) IT h))
-          (λ (h : IsTrue (t A.one) → ⊥). inl (λ x tx. ⊎_elim (λ w. w)
-          (λ (out : Lattice F Z A n g x → ⊥). absurd (generates x (IT.inside x tx) (λ w. out (e.0 x w))
-          (λ r. h (generated_in A L Q O (Test t) IT (λ y w. j y (e.0 y w)) x tx A.one r))))
-          (decide_in n g x)))
-          (decided (t A.one));
-    } };
+    maximal = record {
+      ideal = ideal_same A L Q (Lattice F Z A n g) e I;
+      simple = record {
+        proper = λ h. proper (e.1 A.one (h A.one O.one_in));
+        nothing_between = λ t IT j. ⊎_elim
+            (λ (h : IsTrue (t A.one)). inr (whole A L Q O (Test t) IT h))
+            (λ (h : IsTrue (t A.one) → ⊥). inl (λ x tx. ⊎_elim (λ w. w)
+            (λ (out : Lattice F Z A n g x → ⊥). absurd (generates x (IT.inside x tx) (λ w. out (e.0 x w))
+            (λ r. h (generated_in A L Q O (Test t) IT (λ y w. j y (e.0 y w)) x tx A.one r))))
+            (decide_in n g x)))
+            (decided (t A.one));
+      };
+    };
   }
 
   abbrev W : List MaximalLattice → V → Type 0

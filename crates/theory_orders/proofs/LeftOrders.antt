@@ -6,7 +6,7 @@ use Rattle.theory_rings.specs.Ring.{RingOn}
 use Rattle.theory_rings.proofs.Rings.RingLaws.{zero-mul, neg-mul}
 use Rattle.theory_spaces.specs.Module.{AlgebraOn}
 use Rattle.theory_orders.specs.Orders.{IsOrder, IsIdeal, Product, Products, Power, Multiple, LeftOrder, Within}
-use Rattle.theory_orders.proofs.SumsOf.{SumOf_ideal}
+use Rattle.theory_orders.proofs.SumsOf.{SumOf_one, SumOf_ideal}
 
 module _ {K V : Type 0} {R : RingOn K} (A : AlgebraOn R V) (L : V → Type 0) (O : IsOrder A L) where
   infixl 70 ◌⊗◌
@@ -22,6 +22,11 @@ module _ {K V : Type 0} {R : RingOn K} (A : AlgebraOn R V) (L : V → Type 0) (O
   pub Power_ideal : (J : V → Type 0) → IsIdeal A L J → (e : ℕ) → IsIdeal A L (Power A J e)
   Power_ideal J I zero = I
   Power_ideal J I (suc e) = Products_ideal (Power A J e) J (Power_ideal J I e) I
+
+  -- the powers of a set hold one where it does
+  pub Power_one : (J : V → Type 0) (e : ℕ) → J A.one → Power A J e A.one
+  Power_one J zero h = h
+  Power_one J (suc e) h = SumOf_one A (Product A (Power A J e) J) A.one (A.one, A.one, Power_one J e h, h, sym (A.mul-one A.one))
 
   module _ (J : V → Type 0) (I : IsIdeal A L J) where
     pub left_order_is_order : IsOrder A (LeftOrder A J)

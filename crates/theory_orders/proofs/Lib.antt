@@ -24,4 +24,6 @@ pub mod MaximalOrders
 pub mod LeftOrders
 pub mod DualLattices
 pub mod LeftOrderLattice
+pub mod LeftOrderOver
+pub mod SomeMaximal
 pub mod Lengths

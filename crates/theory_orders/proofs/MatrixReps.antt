@@ -15,7 +15,6 @@ use Rattle.theory_spaces.specs.MatrixAlgebra.{IsMatrixAlgebra}
 use Rattle.theory_spaces.proofs.Modules.{zero-scale}
 use Rattle.theory_spaces.proofs.Matrices.{mat_mul_assoc, sum-mul_delta, sum-delta_mul, mat, mat-entry, Mat-ext}
 use Rattle.theory_spaces.proofs.Tables.{sum2_congr, unit, coord-unit, coord-sum, space_expand}
-use Rattle.theory_orders.specs.Split.{mat_comb, IsSplitting}
 use Rattle.theory_orders.proofs.LinearMaps.{ActionOn}
 
 -- each element has a matrix of size n, sums, multiples and products have those of the matrices, and each matrix is that
@@ -139,65 +138,4 @@ module _ {K V : Type 0} (F : FieldOn K) (set : IsSet K) (A : AlgebraOn F.ring V)
     rep-mul = λ a b r s _ _. ap (λ (m : Mat F.ring n). m.0 r s) (iso.hom.map-mul a b) ∙ H.mul-is (f a) (f b) r s;
     onto = λ m. let a = iso.surjective (mat F.ring set n m) in (a.0, λ r s hr hs. ap (λ (x : Mat F.ring n). x.0 r s) a.1 ∙ mat-entry F.ring set n m r s hr hs);
     faithful = λ a b h. iso.injective a b (Mat-ext F.ring set n (f a) (f b) h);
-  }
-
--- matrices that split the constants of an algebra with coordinates
-module _ {K V : Type 0} (F : FieldOn K) (A : AlgebraOn F.ring V) (N : ℕ) (S : SpaceOn (module_of A) N) (g : ℕ → ℕ → ℕ → K)
-    (product-at : (x y : V) (k : ℕ) → k < N → S.coord (A.◌⊗◌ x y) k ≡ sum2 F.ring N (λ i j. F.◌⊗◌ (F.◌⊗◌ (S.coord x i) (S.coord y j)) (g i j k)))
-    (n : ℕ) (phi : ℕ → Matrix K) (P : IsSplitting F.ring N g n phi) where
-  infixl 65 ◌⊕◌
-  infixl 70 ◌⊗◌
-  infixl 70 ◌•◌
-  open A use {◌⊕◌, ◌•◌}
-  open F use {◌⊗◌}
-
-  abbrev pub rep : V → Matrix K
-  rep a = mat_comb F.ring N (S.coord a) phi
-
-  sum-sum2 : (m : ℕ) (h : ℕ → ℕ → ℕ → K) → sum F.monoid m (λ t. sum2 F.ring N (h t)) ≡ sum2 F.ring N (λ i j. sum F.monoid m (λ t. h t i j))
-  sum-sum2 m h = sum_comm F.monoid m N (λ t i. sum F.monoid N (λ j. h t i j))
-      ∙ sum_congr F.monoid N (λ i. sum F.monoid m (λ t. sum F.monoid N (λ j. h t i j))) (λ i. sum F.monoid N (λ j. sum F.monoid m (λ t. h t i j))) (λ i l. sum_comm F.monoid m N (λ t j. h t i j))
-
-  sum2-mul : (f : ℕ → ℕ → K) (a : K) → sum2 F.ring N f ⊗ a ≡ sum2 F.ring N (λ i j. f i j ⊗ a)
-  sum2-mul f a = sum-mul F.ring N a (λ i. sum F.monoid N (λ j. f i j)) ∙ sum_congr F.monoid N (λ i. sum F.monoid N (λ j. f i j) ⊗ a) (λ i. sum F.monoid N (λ j. f i j ⊗ a)) (λ i l. sum-mul F.ring N a (λ j. f i j))
-
-  rep_mul : (a b : V) (r s : ℕ) → r < n → s < n → rep (A.◌⊗◌ a b) r s ≡ mat_mul F.ring n (rep a) (rep b) r s
-  rep_mul a b r s hr hs =
-      let x : ℕ → K = S.coord a in
-      let y : ℕ → K = S.coord b in
-      let mid : ℕ → ℕ → K = λ i j. x i ⊗ y j ⊗ sum F.monoid n (λ t. phi i r t ⊗ phi j t s) in
-      let left : rep (A.◌⊗◌ a b) r s ≡ sum2 F.ring N mid =
-      sum_congr F.monoid N (λ k. S.coord (A.◌⊗◌ a b) k ⊗ phi k r s) (λ k. sum2 F.ring N (λ i j. x i ⊗ y j ⊗ g i j k ⊗ phi k r s))
-      (λ k l. ap (λ c. c ⊗ phi k r s) (product-at a b k l) ∙ sum2-mul (λ i j. x i ⊗ y j ⊗ g i j k) (phi k r s))
-      ∙ sum-sum2 N (λ k i j. x i ⊗ y j ⊗ g i j k ⊗ phi k r s)
-      ∙ sum2_congr F.ring N (λ i j. sum F.monoid N (λ k. x i ⊗ y j ⊗ g i j k ⊗ phi k r s)) mid (λ i j hi hj.
-      sum_congr F.monoid N (λ k. x i ⊗ y j ⊗ g i j k ⊗ phi k r s) (λ k. x i ⊗ y j ⊗ (g i j k ⊗ phi k r s)) (λ k l. F.mul_assoc (x i ⊗ y j) (g i j k) (phi k r s))
-      ∙ sym (mul-sum F.ring N (x i ⊗ y j) (λ k. g i j k ⊗ phi k r s)) ∙ ap (λ c. x i ⊗ y j ⊗ c) (sym (P.multiplies i j r s hi hj hr hs))) in
-      let right : mat_mul F.ring n (rep a) (rep b) r s ≡ sum2 F.ring N mid =
-      sum_congr F.monoid n (λ t. rep a r t ⊗ rep b t s) (λ t. sum2 F.ring N (λ i j. x i ⊗ phi i r t ⊗ (y j ⊗ phi j t s)))
-      (λ t l. sum-mul F.ring N (rep b t s) (λ i. x i ⊗ phi i r t)
-      ∙ sum_congr F.monoid N (λ i. x i ⊗ phi i r t ⊗ rep b t s) (λ i. sum F.monoid N (λ j. x i ⊗ phi i r t ⊗ (y j ⊗ phi j t s))) (λ i h. mul-sum F.ring N (x i ⊗ phi i r t) (λ j. y j ⊗ phi j t s)))
-      ∙ sum-sum2 n (λ t i j. x i ⊗ phi i r t ⊗ (y j ⊗ phi j t s))
-      ∙ sum2_congr F.ring N (λ i j. sum F.monoid n (λ t. x i ⊗ phi i r t ⊗ (y j ⊗ phi j t s))) mid (λ i j hi hj.
-      sum_congr F.monoid n (λ t. x i ⊗ phi i r t ⊗ (y j ⊗ phi j t s)) (λ t. x i ⊗ y j ⊗ (phi i r t ⊗ phi j t s))
-      (λ t l. ring4 F.cring (λ a b c d. (a ⊠ b ⊠ (c ⊠ d), a ⊠ c ⊠ (b ⊠ d))) refl (x i) (phi i r t) (y j) (phi j t s))
-      ∙ sym (mul-sum F.ring n (x i ⊗ y j) (λ t. phi i r t ⊗ phi j t s))) in
-      left ∙ sym right
-
-  pub rep_of_splitting : IsMatrixRep F A n rep
-  rep_of_splitting = record {
-    rep-add = λ a b r s _ _. sum_congr F.monoid N (λ k. S.coord (a ⊕ b) k ⊗ phi k r s) (λ k. F.◌⊕◌ (S.coord a k ⊗ phi k r s) (S.coord b k ⊗ phi k r s))
-        (λ k l. ap (λ c. c ⊗ phi k r s) (S.coord-add a b k l) ∙ F.add-mul (S.coord a k) (S.coord b k) (phi k r s))
-        ∙ sum-add F.monoid N (λ k. S.coord a k ⊗ phi k r s) (λ k. S.coord b k ⊗ phi k r s);
-    rep-scale = λ c a r s _ _. sum_congr F.monoid N (λ k. S.coord (c • a) k ⊗ phi k r s) (λ k. c ⊗ (S.coord a k ⊗ phi k r s))
-        (λ k l. ap (λ d. d ⊗ phi k r s) (S.coord-scale c a k l) ∙ F.mul_assoc c (S.coord a k) (phi k r s))
-        ∙ sym (mul-sum F.ring N c (λ k. S.coord a k ⊗ phi k r s));
-    rep-mul = rep_mul;
-    onto = λ m.
-        let w = P.onto m in (
-          S.make w.0,
-          λ r s hr hs. sum_congr F.monoid N (λ k. S.coord (S.make w.0) k ⊗ phi k r s) (λ k. w.0 k ⊗ phi k r s)
-              (λ k l. ap (λ c. c ⊗ phi k r s) (S.coord-make w.0 k l)) ∙ sym (w.1 r s hr hs),
-        );
-    faithful = λ a b h. S.ext a b (P.once (S.coord a) (S.coord b) h);
   }

@@ -265,7 +265,7 @@ module _ {K V : Type 0} (F : FieldOn K) (Z : ValuationOn F) (p q : K) (U : Unifo
         chain_of (suc k) x w = subst (Chain A J L (suc k)) (sym w.4) (Chain_last A L O J I k w.0 w.1 (chain_of k w.0 w.2) w.3)
 
   -- where nothing grows, a power of some maximal ideal is p times the order
-  some_power : Central A → NothingGrows F Z A p L → (P A.one → ⊥)
+  pub some_power : Central A → NothingGrows F Z A p L → (P A.one → ⊥)
       → ((i : MaximalLattice F Z p q U A N B os O) (e : ℕ) → e < N → Same (Power A (members F Z p q U A N B os O i) e) P → ⊥) → ⊥
   some_power ct ng proper stop = some_word F Z p q U A N B os O (λ w falls.
       some_invertible A p q U.pq qp L O (members F Z p q U A N B os O) (λ i. to_maximal i.0 i.1 i.2 (ng i.0 i.1 i.2)) proper w falls
@@ -323,23 +323,26 @@ module _ {K V : Type 0} (F : FieldOn K) (Z : ValuationOn F) (p q : K) (U : Unifo
   pub maximal_of_radical : Central A → NothingGrows F Z A p L → (n : ℕ) (g : ℕ → V) → Radical A p L (Lat n g) → (Lat n g A.one → ⊥) → IsMaximalIdeal A p L (Lat n g)
   maximal_of_radical ct ng n g R proper = record {
     over = R.over;
-    maximal = record { ideal = R.ideal; simple = record {
-      proper = λ h. proper (h A.one O.one_in);
-      nothing_between = λ t I j. ⊎_elim
-          (λ (h : IsTrue (t A.one)). inr (whole A L (Test t) O (Test t) I h))
-          (λ (h : IsTrue (t A.one) → ⊥). inl (λ x tx. stable n g x (λ out.
-          some_power ct ng (λ h. proper (R.over A.one h)) (λ i e l pw.
-          let m = i.2 in
-          let J = Lat i.0 i.1 in
-          let S_i = simple_by_elements F Z A N C N os i.0 i.1 O m.ideal m.simple in
-          let t_same = test_same i.0 i.1 in
-          let tp = power_same (Test (test i.0 i.1)) J (t_same.1, t_same.0) e in
-          let in_radical : Within J (Lat n g) = λ y hy.
-          R.largest (test i.0 i.1) e (ideal_same A L J (Test (test i.0 i.1)) t_same m.ideal) (λ z hz. t_same.0 z (m.over z hz)) (λ z hz. pw.0 z (tp.0 z hz)) y (t_same.0 y hy) in
-          ⊎_elim (λ (w : J x). out (in_radical x w)) (λ (w : IsTrue (t A.one)). h w)
-          (one_or_within A L J O S_i p m.ideal m.over e pw.0 (Test t) I (λ z hz. j z (R.over z hz)) x tx)))))
-          (decided (t A.one));
-    } };
+    maximal = record {
+      ideal = R.ideal;
+      simple = record {
+        proper = λ h. proper (h A.one O.one_in);
+        nothing_between = λ t I j. ⊎_elim
+            (λ (h : IsTrue (t A.one)). inr (whole A L (Test t) O (Test t) I h))
+            (λ (h : IsTrue (t A.one) → ⊥). inl (λ x tx. stable n g x (λ out.
+            some_power ct ng (λ h. proper (R.over A.one h)) (λ i e l pw.
+            let m = i.2 in
+            let J = Lat i.0 i.1 in
+            let S_i = simple_by_elements F Z A N C N os i.0 i.1 O m.ideal m.simple in
+            let t_same = test_same i.0 i.1 in
+            let tp = power_same (Test (test i.0 i.1)) J (t_same.1, t_same.0) e in
+            let in_radical : Within J (Lat n g) = λ y hy.
+            R.largest (test i.0 i.1) e (ideal_same A L J (Test (test i.0 i.1)) t_same m.ideal) (λ z hz. t_same.0 z (m.over z hz)) (λ z hz. pw.0 z (tp.0 z hz)) y (t_same.0 y hy) in
+            ⊎_elim (λ (w : J x). out (in_radical x w)) (λ (w : IsTrue (t A.one)). h w)
+            (one_or_within A L J O S_i p m.ideal m.over e pw.0 (Test t) I (λ z hz. j z (R.over z hz)) x tx)))))
+            (decided (t A.one));
+      };
+    };
   }
 
   -- the radical is that one

@@ -12,7 +12,7 @@ use Rattle.theory_spaces.proofs.Modules.{left_linear, right_linear, map-comb, In
 use Rattle.theory_spaces.proofs.PairIndex.{pair-lt, row-lt, column-lt}
 use Rattle.theory_orders.specs.Orders.{IsOrder, IsIdeal, Product, Power, Around, Generated, Multiple, Within, Test, Radical, SimpleQuotient, SimpleByElements}
 use Rattle.theory_orders.specs.Lattices.{Lattice}
-use Rattle.theory_orders.proofs.SumsOf.{SumOf_one}
+use Rattle.theory_orders.proofs.LeftOrders.{Power_one}
 use Rattle.theory_orders.proofs.Ideals.{IdealSum, IdealSum_ideal, whole, generated_in}
 use Rattle.theory_orders.proofs.Chains.{Chain, Chain_inside, chain_in_power}
 use Rattle.theory_orders.proofs.LatticeTests.{decided, pairs_of, pairs_of-at, lattice_test, lattice_test-in, in-lattice_test}
@@ -52,13 +52,8 @@ module _ {K V : Type 0} {R : RingOn K} (A : AlgebraOn R V) (L J : V → Type 0) 
           inr (absorbed m.0 m.1 m.2 m.3 m.4 (suc e) (λ y c. T_over y (falls y (chain_in_power A L O J I e y c))) A.one O.one_in))
           (S.generates x (IT.inside x h))
 
-      -- the powers of an ideal hold one where it does
-      pub Power_one : (k : ℕ) → T A.one → Power A T k A.one
-      Power_one zero h = h
-      Power_one (suc k) h = SumOf_one A (Product A (Power A T k) T) A.one (A.one, A.one, Power_one k h, h, sym (A.mul-one A.one))
-
       pub nilpotent_within : (k : ℕ) → Within (Power A T k) (Multiple A p L) → Within T J
-      nilpotent_within k f x h = ⊎_elim (λ w. w) (λ (t : T A.one). absurd (S.proper (over A.one (f A.one (Power_one k t))))) (one_or_within x h)
+      nilpotent_within k f x h = ⊎_elim (λ w. w) (λ (t : T A.one). absurd (S.proper (over A.one (f A.one (Power_one A L O T k t))))) (one_or_within x h)
 
     pub radical_of_simple : (p : K) → IsIdeal A L J → Within (Multiple A p L) J → (e : ℕ) → Within (Power A J e) (Multiple A p L) → Radical A p L J
     radical_of_simple p I over e falls = record {

@@ -3,7 +3,6 @@ pub mod Orders
 pub mod Lattices
 pub mod Dual
 pub mod Ramified
-pub mod Split
 pub mod Tables
 pub mod OrderLaws
 pub mod DualLaws

@@ -1,5 +1,5 @@
 -- Statements on the maximal ideals of an order over p times it.
-use Rattle.std.specs.Prelude.{ℕ, List}
+use Rattle.std.specs.Prelude.{ℕ, ◌<◌, List}
 use Rattle.theory_rings.specs.Ring.{FieldOn}
 use Rattle.theory_spaces.specs.Module.{AlgebraOn}
 use Rattle.theory_spaces.specs.Valuation.{ValuationOn}
@@ -17,6 +17,25 @@ module _ {K V : Type 0} (F : FieldOn K) (Z : ValuationOn F) (p : K) (A : Algebra
   RadicalIsOnly = (v : ℕ → V) → IsOrderAt F Z A n v → NothingGrows F Z A p (Lattice F Z A n v)
       → (m : ℕ) (w : ℕ → V) → Radical A p (Lattice F Z A n v) (Lattice F Z A m w) → (Lattice F Z A m w A.one → ⊥)
       → OnlyMaximalIdeal A p (Lattice F Z A n v) (Lattice F Z A m w)
+
+  -- where no left order is larger, it is absurd that none is the only one
+  abbrev pub SomeIsOnly : Type 0
+  SomeIsOnly = (v : ℕ → V) → IsOrderAt F Z A n v → NothingGrows F Z A p (Lattice F Z A n v)
+      → ((m : ℕ) (w : ℕ → V) → OnlyMaximalIdeal A p (Lattice F Z A n v) (Lattice F Z A m w) → ⊥) → ⊥
+
+  -- and the radical, where it is a lattice, is the only one
+  abbrev pub RadicalIsTheOnly : Type 0
+  RadicalIsTheOnly = (v : ℕ → V) → IsOrderAt F Z A n v → NothingGrows F Z A p (Lattice F Z A n v)
+      → (m : ℕ) (w : ℕ → V) → Radical A p (Lattice F Z A n v) (Lattice F Z A m w)
+      → OnlyMaximalIdeal A p (Lattice F Z A n v) (Lattice F Z A m w)
+
+  -- nothing grows where a finite list has all maximal ideals, and none of these has a larger left order
+  abbrev pub NothingGrowsByList : Type 0
+  NothingGrowsByList = (v : ℕ → V) (count : ℕ) (size : ℕ → ℕ) (vec : ℕ → ℕ → V)
+      → ((m : ℕ) (w : ℕ → V) → IsMaximalIdeal A p (Lattice F Z A n v) (Lattice F Z A m w)
+      → (i : ℕ) × (i < count) × Same (Lattice F Z A m w) (Lattice F Z A (size i) (vec i)))
+      → ((i : ℕ) → i < count → Within (LeftOrder A (Lattice F Z A (size i) (vec i))) (Lattice F Z A n v))
+      → NothingGrows F Z A p (Lattice F Z A n v)
 
   -- maximal ideals in a family of which some product lies in p·L, where their left orders are not larger
   abbrev pub FamilyIsOnly : Type 0

@@ -27,6 +27,12 @@ module _ {K V : Type 0} (F : FieldOn K) (Z : ValuationOn F) (A : AlgebraOn F.rin
       → (e : ℕ) → Within (Power A (Lattice F Z A m w) e) (Multiple A p (Lattice F Z A n v))
       → SimpleByElements A (Lattice F Z A n v) (Lattice F Z A m w) → Radical A p (Lattice F Z A n v) (Lattice F Z A m w)
 
+  -- the left order of an ideal over p·L, a lattice, is an order at the place
+  abbrev pub LeftOrderOver : K → ℕ → Type 0
+  LeftOrderOver p n = (v : ℕ → V) → IsOrderAt F Z A n v → (m : ℕ) (w : ℕ → V)
+      → IsIdeal A (Lattice F Z A n v) (Lattice F Z A m w) → Within (Multiple A p (Lattice F Z A n v)) (Lattice F Z A m w)
+      → (u : ℕ → V) × IsOrderAt F Z A n u × Same (LeftOrder A (Lattice F Z A m w)) (Lattice F Z A n u)
+
   -- the left order of an ideal that n independent vectors span is an order at the place
   abbrev pub LeftOrderAt : ℕ → Type 0
   LeftOrderAt n = (v w : ℕ → V) → IsOrderAt F Z A n v → Independent (module_of A) n w → IsIdeal A (Lattice F Z A n v) (Lattice F Z A n w)

@@ -1,14 +1,11 @@
--- Ramified places and splittings of a table of structure constants over a program's field, by lists of its elements.
+-- Ramified places of a table of structure constants over a program's field, by lists of its elements.
 use Rattle.std.specs.Prelude.{◌≡◌, ℕ, ◌<◌, List, [], length, get_or}
 use Rattle.theory_rings.specs.Ops.{Ops, FieldLaws}
 use Rattle.theory_rings.specs.Elements.{Elem, elements}
-use Rattle.theory_rings.specs.Sum.{at}
 use Rattle.theory_spaces.specs.Module.{AlgebraOn}
-use Rattle.theory_spaces.specs.Matrix.{Matrix}
-use Rattle.theory_spaces.specs.Tuples.{Tuple, constant, IsTableAlgebra}
+use Rattle.theory_spaces.specs.Tuples.{Tuple, IsTableAlgebra}
 use Rattle.theory_spaces.specs.Valuation.{ValuationOn}
 use Rattle.theory_orders.specs.Ramified.{IsRamified}
-use Rattle.theory_orders.specs.Split.{IsSplitting}
 
 module _ {E : Type 0} (o : Ops E) (L : FieldLaws o) (n : ℕ) (cs : List E) where
   -- the n tuples of a list
@@ -25,11 +22,3 @@ module _ {E : Type 0} (o : Ops E) (L : FieldLaws o) (n : ℕ) (cs : List E) wher
     pub radical : ℕ → Tuple o n
     pub is_radical : AreTuples js radical
     pub ramified : IsRamified (elements o L) Z p algebra n order radical
-
-  -- the matrices ms, of size m, split the table
-  pub record SplitTable (m : ℕ) (ms : List (List (List E))) : Type 0 where
-    pub constants : ℕ → ℕ → ℕ → Elem o
-    pub constant-is : (i j k : ℕ) → i < n → j < n → k < n → (constants i j k).0 ≡ constant o n cs i j k
-    pub matrices : ℕ → Matrix (Elem o)
-    pub matrix-is : (k r s : ℕ) → k < n → r < m → s < m → (matrices k r s).0 ≡ at o (get_or (get_or ms k []) r []) s
-    pub splits : IsSplitting (elements o L).ring n constants m matrices

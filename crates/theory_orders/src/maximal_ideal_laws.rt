@@ -1,12 +1,12 @@
 // Theorems on the maximal ideals of an order over p times it.
-ghost use Rattle.std.specs.Prelude.{ℕ};
+ghost use Rattle.std.specs.Prelude.{◌≡◌, ℕ};
 ghost use Rattle.theory_rings.specs.Ring.{FieldOn};
 ghost use Rattle.theory_spaces.specs.Module.{AlgebraOn, module_of};
 ghost use Rattle.theory_spaces.specs.Linear.{Basis};
 ghost use Rattle.theory_spaces.specs.Algebra.{Central};
 ghost use Rattle.theory_spaces.specs.Valuation.{ValuationOn};
-ghost use Rattle.theory_orders.specs.Uniformizer.{UniformizerOn};
-ghost use Rattle.theory_orders.specs.MaximalIdealLaws.{MaximalIsOnly, RadicalIsOnly, FamilyIsOnly, FamilyIsOne};
+ghost use Rattle.theory_orders.specs.Uniformizer.{IsIntegral, UniformizerOn};
+ghost use Rattle.theory_orders.specs.MaximalIdealLaws.{MaximalIsOnly, RadicalIsOnly, SomeIsOnly, RadicalIsTheOnly, NothingGrowsByList, FamilyIsOnly, FamilyIsOne};
 
 use crate::order_laws::PlacedAlgebra;
 
@@ -17,6 +17,17 @@ pub fn exactly_one_maximal_ideal<A: PlacedAlgebra>()
     ensures each { Central A.algebra → MaximalIsOnly A.field A.valuation A.p A.algebra A.dimension }
     ensures radical { Central A.algebra → RadicalIsOnly A.field A.valuation A.p A.algebra A.dimension }
     ensures family { Central A.algebra → FamilyIsOnly A.field A.valuation A.p A.algebra A.dimension }
+{}
+
+/// Where p is not a unit, the algebra is not 0 and its centre is the scalars, and no maximal ideal over p·Λ has a larger left
+/// order, it is absurd that there is not exactly one, and the radical, given as a lattice, is that one. Whether nothing grows
+/// is told by any finite list of all maximal ideals.
+pub fn a_maximal_ideal_exists<A: PlacedAlgebra>()
+    ensures some { (IsIntegral A.field A.valuation A.q → ⊥) → (A.algebra.one ≡ A.algebra.zero → ⊥) → Central A.algebra
+        → SomeIsOnly A.field A.valuation A.p A.algebra A.dimension }
+    ensures radical { (IsIntegral A.field A.valuation A.q → ⊥) → (A.algebra.one ≡ A.algebra.zero → ⊥) → Central A.algebra
+        → RadicalIsTheOnly A.field A.valuation A.p A.algebra A.dimension }
+    ensures listed { NothingGrowsByList A.field A.valuation A.p A.algebra A.dimension }
 {}
 
 /// A family of sets of elements of an algebra with a basis over a field with a valuation ring and a uniformizer p, which

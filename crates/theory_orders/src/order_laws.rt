@@ -7,7 +7,7 @@ ghost use Rattle.theory_spaces.specs.Algebra.{Nondegenerate};
 ghost use Rattle.theory_spaces.specs.Valuation.{ValuationOn};
 ghost use Rattle.theory_orders.specs.Uniformizer.{UniformizerOn};
 ghost use Rattle.theory_orders.specs.Orders.{IsOrder, IsIdeal, Products, Power, Multiple, LeftOrder, Within};
-ghost use Rattle.theory_orders.specs.OrderLaws.{SimpleToElements, SimpleToTests, RadicalOfSimple, LeftOrderAt};
+ghost use Rattle.theory_orders.specs.OrderLaws.{SimpleToElements, SimpleToTests, RadicalOfSimple, LeftOrderOver, LeftOrderAt};
 
 /// Two ideals of an order.
 pub trait TwoIdeals {
@@ -75,6 +75,11 @@ pub fn radical_tests_and_elements<A: PlacedAlgebra>()
     ensures to_elements { SimpleToElements A.field A.valuation A.algebra }
     ensures to_tests { SimpleToTests A.field A.valuation A.algebra }
     ensures radical { RadicalOfSimple A.field A.valuation A.algebra A.p }
+{}
+
+/// The left order of an ideal over p·Λ that is a lattice is an order at the place, whatever the trace form is.
+pub fn left_order_over_is_an_order_at_the_place<A: PlacedAlgebra>()
+    ensures { LeftOrderOver A.field A.valuation A.algebra A.p A.dimension }
 {}
 
 /// Where the trace form is nondegenerate, the left order of an ideal that is a lattice of full rank is an order at the

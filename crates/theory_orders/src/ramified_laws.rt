@@ -1,5 +1,5 @@
 // Theorems on ramified places.
-ghost use Rattle.std.specs.Prelude.{ℕ, ◌<◌, List};
+ghost use Rattle.std.specs.Prelude.{ℕ};
 ghost use Rattle.theory_rings.specs.Ring.{FieldOn};
 ghost use Rattle.theory_rings.specs.Ops.{Ops, FieldLaws};
 ghost use Rattle.theory_rings.specs.Elements.{Elem, elements};
@@ -8,7 +8,6 @@ ghost use Rattle.theory_spaces.specs.Valuation.{ValuationOn};
 ghost use Rattle.theory_orders.specs.Uniformizer.{IsIntegral, UniformizerOn};
 ghost use Rattle.theory_orders.specs.Ramified.{IsRamified};
 ghost use Rattle.theory_orders.specs.RamifiedLaws.{RamifiedExcludesIsomorphism, RamifiedOrderIsMaximal, RamifiedRadicalIsOnly};
-ghost use Rattle.theory_orders.specs.Tables.{RamifiedTable, SplitTable};
 
 use crate::order_laws::PlacedAlgebra;
 
@@ -43,12 +42,6 @@ pub trait PlacedTuples {
 
     ghost uniformizer: { UniformizerOn (elements ops laws) valuation p q };
 }
-
-/// A table with a ramified place is split by no matrices of a size m ≥ 1.
-pub fn ramified_excludes_split<F: PlacedTuples>()
-    ensures excludes { (n : ℕ) (cs : List F.Value) (os js : List (List F.Value)) → RamifiedTable F.ops F.laws n cs F.valuation F.p os js
-        → (m : ℕ) (ms : List (List (List F.Value))) → 0 < m → SplitTable F.ops F.laws n cs m ms → ⊥ }
-{}
 
 /// A field with a valuation ring and a uniformizer p, whose inverse q is not integral.
 pub trait Place {

@@ -16,6 +16,7 @@ use Rattle.theory_spaces.specs.Algebra.{IdealSpan, Central, CentralSimple}
 use Rattle.theory_spaces.specs.MatrixAlgebra.{unit_entries, IsMatrixAlgebra, MatrixUnits}
 use Rattle.theory_spaces.proofs.Families.{below_suc}
 use Rattle.theory_spaces.proofs.Modules.{InSpan-scale, InSpan-member, InSpan_trans}
+use Rattle.theory_spaces.proofs.SpanTests.{some_or_all}
 use Rattle.theory_spaces.proofs.Matrices.{Mat-path, Mat-ext, mat, mat-entry, matrices, delta-same, delta-other, delta_comm}
 use Rattle.theory_spaces.proofs.Tables.{space_basis, coord-unit}
 use Rattle.theory_spaces.proofs.PairIndex.{pair-lt, row-lt, column-lt, delta-pairs}
@@ -139,15 +140,6 @@ module _ {K : Type 0} (C : CommRingOn K) (set : IsSet K) (n : ℕ) (A : AlgebraO
           ∙ sym (H.scale-is (x.0 0 0) A.one i j)),
     );
   }
-
--- P holds of some number below n, or Q of all
-some_or_all : (n : ℕ) (P Q : ℕ → Type 0) → ((i : ℕ) → i < n → P i ⊎ Q i) → ((i : ℕ) × (i < n) × P i) ⊎ ((i : ℕ) → i < n → Q i)
-some_or_all zero P Q h = inr (λ i l. absurd (omega arith))
-some_or_all (suc n) P Q h = ⊎_elim
-    (λ (s : (i : ℕ) × (i < n) × P i). inl (s.0, (let l = s.1 in omega arith), s.2))
-    (λ (a : (i : ℕ) → i < n → Q i). ⊎_elim
-    (λ (p : P n). inl (n, omega arith, p)) (λ (q : Q n). inr (below_suc n Q a q)) (h n (omega arith)))
-    (some_or_all n P Q (λ i l. h i (omega arith)))
 
 -- the ideals
 module _ {K : Type 0} (F : FieldOn K) (n : ℕ) (A : AlgebraOn F.ring (Mat F.ring n)) (H : IsMatrixAlgebra F.ring n A) where

@@ -1,5 +1,5 @@
 -- Membership in the span of finitely many vectors of a space over a field is decided; and the test of what is decided.
-use Rattle.std.specs.Prelude.{ℕ, suc, ◌<◌, Bool, true, false, IsTrue, ◌⊎◌}
+use Rattle.std.specs.Prelude.{ℕ, zero, suc, ◌<◌, Bool, true, false, IsTrue, ◌⊎◌}
 use Rattle.std.proofs.Common.{refl, sym, subst, arith, inl, inr, ⊎_elim}
 use Rattle.theory_rings.specs.Ring.{FieldOn}
 use Rattle.theory_spaces.specs.Module.{ModuleOn}
@@ -12,6 +12,15 @@ use Rattle.theory_spaces.proofs.Spaces.{extend_or_span, span_basis}
 pub decided : (b : Bool) → (IsTrue b) ⊎ (IsTrue b → ⊥)
 decided true = inl refl
 decided false = inr (λ h. cc)
+
+-- P holds of some number below n, or Q of all
+pub some_or_all : (n : ℕ) (P Q : ℕ → Type 0) → ((i : ℕ) → i < n → P i ⊎ Q i) → ((i : ℕ) × (i < n) × P i) ⊎ ((i : ℕ) → i < n → Q i)
+some_or_all zero P Q h = inr (λ i l. absurd (omega arith))
+some_or_all (suc n) P Q h = ⊎_elim
+    (λ (s : (i : ℕ) × (i < n) × P i). inl (s.0, (let l = s.1 in omega arith), s.2))
+    (λ (a : (i : ℕ) → i < n → Q i). ⊎_elim
+    (λ (p : P n). inl (n, omega arith, p)) (λ (q : Q n). inr (below_suc n Q a q)) (h n (omega arith)))
+    (some_or_all n P Q (λ i l. h i (omega arith)))
 
 -- the test of a decision
 module _ {P : Type 0} where

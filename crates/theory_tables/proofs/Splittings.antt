@@ -5,7 +5,7 @@ use Rattle.std.specs.List.{All}
 use Rattle.std.proofs.Common.{refl, sym, ◌∙◌, ap, ap₂, subst, ⊎_elim}
 use Rattle.std.proofs.lemmas.Bool.{cases_lt}
 use Rattle.std.proofs.lemmas.List.{get_or_past}
-use Rattle.theory_rings.specs.Ring.{FieldOn}
+use Rattle.theory_rings.specs.Ring.{RingOn, FieldOn}
 use Rattle.theory_rings.specs.Ops.{Ops, IsElem, FieldLaws}
 use Rattle.theory_rings.specs.Elements.{Elem, Elem-path, elements}
 use Rattle.theory_rings.specs.Sum.{sum, sum_of, table, at}
@@ -26,10 +26,13 @@ use Rattle.theory_spaces.proofs.Isomorphisms.{map-one_of_surjective}
 use Rattle.theory_spaces.proofs.Tables.{unit, coord-unit, in_units, table_mul, coord-unit_mul, product_left, product_right}
 use Rattle.theory_spaces.proofs.Tuples.{IsTuple-is_tuple, is_tuple-IsTuple, Tuple-path, entry, tuples, tuple_space}
 use Rattle.theory_spaces.proofs.TupleProducts.{element_constant, tuple_product, tuple_product-list, IsTuple-basis, tuple_algebra}
-use Rattle.theory_orders.specs.Split.{mat_comb}
 use Rattle.theory_tables.specs.Matrix.{entry as at_entry}
 use Rattle.theory_tables.proofs.Sums.{entry-elem, table_matrix, entry_table}
 use Rattle.theory_tables.specs.Split.{IsSquare, map_entry, IsCombination, IsSplitBy}
+
+-- the combination of n matrices
+abbrev mat_comb : {K : Type 0} → RingOn K → ℕ → (ℕ → K) → (ℕ → Matrix K) → Matrix K
+mat_comb R n c m r s = sum R.monoid n (λ k. R.◌⊗◌ (c k) (m k r s))
 
 -- entries of square matrices are elements, and of those past the end of the list too
 pub map_entry-elem : {E : Type 0} (o : Ops E) (L : FieldLaws o) (n : ℕ) (maps : List (List (List E))) → All (IsSquare o n) maps
