@@ -6,7 +6,7 @@ use Rattle.theory_rings.specs.Ring.{RingOn}
 use Rattle.theory_rings.proofs.Rings.RingLaws.{zero-mul, neg-mul}
 use Rattle.theory_spaces.specs.Module.{AlgebraOn}
 use Rattle.theory_orders.specs.Orders.{IsOrder, IsIdeal, Product, Products, Power, Multiple, LeftOrder, Within}
-use Rattle.theory_orders.proofs.SumsOf.{SumOf_one, SumOf_ideal}
+use Rattle.theory_orders.proofs.SumsOf.{SumOf_map, SumOf_one, SumOf_ideal}
 
 module _ {K V : Type 0} {R : RingOn K} (A : AlgebraOn R V) (L : V → Type 0) (O : IsOrder A L) where
   infixl 70 ◌⊗◌
@@ -22,6 +22,12 @@ module _ {K V : Type 0} {R : RingOn K} (A : AlgebraOn R V) (L : V → Type 0) (O
   pub Power_ideal : (J : V → Type 0) → IsIdeal A L J → (e : ℕ) → IsIdeal A L (Power A J e)
   Power_ideal J I zero = I
   Power_ideal J I (suc e) = Products_ideal (Power A J e) J (Power_ideal J I e) I
+
+  -- a larger set has larger powers
+  pub Power_map : (I J : V → Type 0) → Within I J → (e : ℕ) → Within (Power A I e) (Power A J e)
+  Power_map I J h zero = h
+  Power_map I J h (suc e) = SumOf_map A (Product A (Power A I e) I) (Product A (Power A J e) J)
+      (λ x w. (w.0, w.1, Power_map I J h e w.0 w.2, h w.1 w.3, w.4))
 
   -- the powers of a set hold one where it does
   pub Power_one : (J : V → Type 0) (e : ℕ) → J A.one → Power A J e A.one

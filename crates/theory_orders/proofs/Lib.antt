@@ -26,4 +26,5 @@ pub mod DualLattices
 pub mod LeftOrderLattice
 pub mod LeftOrderOver
 pub mod SomeMaximal
+pub mod EverySet
 pub mod Lengths

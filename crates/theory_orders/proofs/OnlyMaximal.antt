@@ -19,6 +19,7 @@ use Rattle.theory_orders.proofs.SumsOf.{SumOf_in, SumOf_map, SumOf_zero, SumOf_o
 use Rattle.theory_orders.proofs.Ideals.{ideal_same, whole, generated_in}
 use Rattle.theory_orders.proofs.Multiples.{Multiple-ideal, cancel_scale, of-Multiple}
 use Rattle.theory_orders.proofs.Chains.{Chain, Chain_last, Chain_unlast, chain_in_power, power_in_chains, power_chains, Chain_fewer}
+use Rattle.theory_orders.proofs.LeftOrders.{Power_map}
 use Rattle.theory_orders.proofs.LatticeTests.{decided, pairs_of, pairs_of-at, lattice_test, lattice_test-in, in-lattice_test, lattice_within}
 use Rattle.theory_orders.proofs.SimpleQuotients.{simple_by_elements, radical_of_simple, one_or_within, mul_lattice, lattice_mul}
 use Rattle.theory_orders.proofs.Scaling.{Lam_scale}
@@ -79,7 +80,7 @@ module _ {K V : Type 0} (F : FieldOn K) (Z : ValuationOn F) (p q : K) (U : Unifo
     left_order = left;
   }
 
-  not_one : (J : V → Type 0) → IsMaximalIdeal A p L J → J A.one → ⊥
+  pub not_one : (J : V → Type 0) → IsMaximalIdeal A p L J → J A.one → ⊥
   not_one J m h = m.simple.proper (whole A L J O J m.ideal h)
 
   p_not_one : (J : V → Type 0) → IsMaximalIdeal A p L J → P A.one → ⊥
@@ -93,15 +94,10 @@ module _ {K V : Type 0} (F : FieldOn K) (Z : ValuationOn F) (p q : K) (U : Unifo
   test_same n g = (in-lattice_test F Z M N C n g, lattice_test-in F Z M N C n g)
 
   power_same : (I J : V → Type 0) → Same I J → (k : ℕ) → Same (Power A I k) (Power A J k)
-  power_same I J e zero = e
-  power_same I J e (suc k) =
-      let r = power_same I J e k in (
-        SumOf_map A (Product A (Power A I k) I) (Product A (Power A J k) J) (λ x w. (w.0, w.1, r.0 w.0 w.2, e.0 w.1 w.3, w.4)),
-        SumOf_map A (Product A (Power A J k) J) (Product A (Power A I k) I) (λ x w. (w.0, w.1, r.1 w.0 w.2, e.1 w.1 w.3, w.4)),
-      )
+  power_same I J e k = (Power_map A L O I J e.0 k, Power_map A L O J I e.1 k)
 
   -- a lattice is in a maximal ideal that it holds, unless it is everything
-  within_maximal : (J : V → Type 0) → IsMaximalIdeal A p L J → (n : ℕ) (g : ℕ → V) → IsIdeal A L (Lat n g) → (Lat n g A.one → ⊥) → Within J (Lat n g) → Within (Lat n g) J
+  pub within_maximal : (J : V → Type 0) → IsMaximalIdeal A p L J → (n : ℕ) (g : ℕ → V) → IsIdeal A L (Lat n g) → (Lat n g A.one → ⊥) → Within J (Lat n g) → Within (Lat n g) J
   within_maximal J m n g I proper h x l =
       let e = test_same n g in
       ⊎_elim (λ (w : Within (Test (test n g)) J). w x (e.0 x l)) (λ (w : Within L (Test (test n g))). absurd (proper (e.1 A.one (w A.one O.one_in))))

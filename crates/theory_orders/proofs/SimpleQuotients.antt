@@ -98,17 +98,17 @@ module _ {K V : Type 0} (F : FieldOn K) (Z : ValuationOn F) (A : AlgebraOn F.rin
     Jac = Lattice F Z A n g
 
     module _ (a : V) (la : Lam a) where
-      abbrev T : V → Type 0
+      abbrev pub T : V → Type 0
       T x = Around A Lam a x ⊎ Jac x
 
       abbrev around : ℕ → V
       around = pairs_of (λ x y. (x ⊗ a) ⊗ y) N b b
 
       -- the vectors that generate a and J together
-      abbrev vec : ℕ → V
+      abbrev pub vec : ℕ → V
       vec = join n g around
 
-      abbrev size : ℕ
+      abbrev pub size : ℕ
       size = n + N * N
 
       abbrev Gen : V → Type 0
@@ -120,11 +120,11 @@ module _ {K V : Type 0} (F : FieldOn K) (Z : ValuationOn F) (A : AlgebraOn F.rin
       T_inside : Within T Lam
       T_inside x = ⊎_elim (λ (w : Around A Lam a x). subst Lam (sym w.4) (O.mul_in (w.0 ⊗ a) w.1 (O.mul_in w.0 a w.2 la) w.3)) (I.inside x)
 
-      each : (i : ℕ) → i < size → T (vec i)
+      pub each : (i : ℕ) → i < size → T (vec i)
       each = each_join n (N * N) g around T (λ i l. inr (InSpan-member RA n i g l))
           (λ t l. inl (b (t / N), b (t % N), b-in (t / N) (row-lt N N t l), b-in (t % N) (column-lt N N t l), refl))
 
-      J_Gen : Within Jac Gen
+      pub J_Gen : Within Jac Gen
       J_Gen x = InSpan_trans RA n size g vec x (λ i l. InSpan-join_left RA n (N * N) g around i l)
 
       around_in : (l r : V) → Lam l → Lam r → Gen ((l ⊗ a) ⊗ r)
@@ -133,7 +133,7 @@ module _ {K V : Type 0} (F : FieldOn K) (Z : ValuationOn F) (A : AlgebraOn F.rin
           subst Gen (pairs_of-at (λ x y. (x ⊗ a) ⊗ y) N b b i j k ∙ A.mul_assoc (b i) a (b j))
           (InSpan-join_right RA n (N * N) g around (i * N + j) (pair-lt N N i j h k))) hl)) hr
 
-      T_Gen : Within T Gen
+      pub T_Gen : Within T Gen
       T_Gen x = ⊎_elim (λ (w : Around A Lam a x). subst Gen (sym w.4) (around_in w.0 w.1 w.2 w.3)) (J_Gen x)
 
       T_left : (l x : V) → Lam l → T x → T (l ⊗ x)
@@ -146,7 +146,7 @@ module _ {K V : Type 0} (F : FieldOn K) (Z : ValuationOn F) (A : AlgebraOn F.rin
           (λ (w : Around A Lam a x). inl (w.0, w.1 ⊗ r, w.2, O.mul_in w.1 r w.3 hr, ap (λ z. z ⊗ r) w.4 ∙ A.mul_assoc (w.0 ⊗ a) w.1 r))
           (λ (h : Jac x). inr (I.right r x hr h))
 
-      Gen_ideal : IsIdeal A Lam Gen
+      pub Gen_ideal : IsIdeal A Lam Gen
       Gen_ideal = record {
         inside = λ x s. InSpan_trans RA size N vec b x (λ i l. T_inside (vec i) (each i l)) s;
         zero_in = J_Gen A.zero I.zero_in;

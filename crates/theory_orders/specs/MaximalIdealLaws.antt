@@ -1,9 +1,9 @@
 -- Statements on the maximal ideals of an order over p times it.
-use Rattle.std.specs.Prelude.{ℕ, ◌<◌, List}
+use Rattle.std.specs.Prelude.{ℕ, ◌<◌, List, ◌⊎◌}
 use Rattle.theory_rings.specs.Ring.{FieldOn}
 use Rattle.theory_spaces.specs.Module.{AlgebraOn}
 use Rattle.theory_spaces.specs.Valuation.{ValuationOn}
-use Rattle.theory_orders.specs.Orders.{IsIdeal, IsMaximalIdeal, OnlyMaximalIdeal, SimpleByElements, LeftOrder, Multiple, Radical, Within, Same, WordProduct}
+use Rattle.theory_orders.specs.Orders.{IsIdeal, IsMaximalIdeal, OnlyMaximalIdeal, SimpleQuotient, SimpleByElements, LeftOrder, Multiple, Power, Radical, Within, Same, WordProduct}
 use Rattle.theory_orders.specs.Lattices.{Lattice, IsOrderAt, NothingGrows}
 
 module _ {K V : Type 0} (F : FieldOn K) (Z : ValuationOn F) (p : K) (A : AlgebraOn F.ring V) (n : ℕ) where
@@ -44,6 +44,27 @@ module _ {K V : Type 0} (F : FieldOn K) (Z : ValuationOn F) (p : K) (A : Algebra
       → ((i : ℕ) → Within (LeftOrder A (Lattice F Z A (m i) (w i))) (Lattice F Z A n v))
       → (word : List ℕ) → Within (WordProduct A (Lattice F Z A n v) (λ i. Lattice F Z A (m i) (w i)) word) (Multiple A p (Lattice F Z A n v))
       → (i : ℕ) → OnlyMaximalIdeal A p (Lattice F Z A n v) (Lattice F Z A (m i) (w i))
+
+  -- the radical, a lattice, holds each of the sets that is an ideal over p·L with a power in p·L
+  abbrev pub RadicalHolds : {X : Type 0} → (X → V → Type 0) → Type 0
+  RadicalHolds {X} T = (v : ℕ → V) → IsOrderAt F Z A n v → (m : ℕ) (w : ℕ → V)
+      → Radical A p (Lattice F Z A n v) (Lattice F Z A m w)
+      → (i : X) (e : ℕ) → IsIdeal A (Lattice F Z A n v) (T i) → Within (Multiple A p (Lattice F Z A n v)) (T i)
+      → Within (Power A (T i) e) (Multiple A p (Lattice F Z A n v)) → Within (T i) (Lattice F Z A m w)
+
+  -- where the quotient by an ideal, a lattice, is simple, each of the sets that is an ideal over it with a further member is
+  -- everything
+  abbrev pub SimpleHolds : {X : Type 0} → (X → V → Type 0) → Type 0
+  SimpleHolds {X} T = (v : ℕ → V) → IsOrderAt F Z A n v → (m : ℕ) (w : ℕ → V)
+      → IsIdeal A (Lattice F Z A n v) (Lattice F Z A m w) → SimpleQuotient A (Lattice F Z A n v) (Lattice F Z A m w)
+      → (i : X) → IsIdeal A (Lattice F Z A n v) (T i) → Within (Lattice F Z A m w) (T i)
+      → (x : V) → T i x → Lattice F Z A m w x ⊎ Within (Lattice F Z A n v) (T i)
+
+  -- each of the sets that is a maximal ideal over p·L is the only one, where a lattice is the only one
+  abbrev pub OnlyHolds : {X : Type 0} → (X → V → Type 0) → Type 0
+  OnlyHolds {X} T = (v : ℕ → V) → IsOrderAt F Z A n v → (m : ℕ) (w : ℕ → V)
+      → OnlyMaximalIdeal A p (Lattice F Z A n v) (Lattice F Z A m w)
+      → (i : X) → IsMaximalIdeal A p (Lattice F Z A n v) (T i) → Same (T i) (Lattice F Z A m w)
 
   -- the same of sets of whatever form, each with a quotient that is simple by elements: they are one
   abbrev pub FamilyIsOne : {X : Type 0} → (X → V → Type 0) → Type 0

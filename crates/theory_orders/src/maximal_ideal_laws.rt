@@ -7,6 +7,7 @@ ghost use Rattle.theory_spaces.specs.Algebra.{Central};
 ghost use Rattle.theory_spaces.specs.Valuation.{ValuationOn};
 ghost use Rattle.theory_orders.specs.Uniformizer.{IsIntegral, UniformizerOn};
 ghost use Rattle.theory_orders.specs.MaximalIdealLaws.{MaximalIsOnly, RadicalIsOnly, SomeIsOnly, RadicalIsTheOnly, NothingGrowsByList, FamilyIsOnly, FamilyIsOne};
+ghost use Rattle.theory_orders.specs.MaximalIdealLaws.{RadicalHolds, SimpleHolds, OnlyHolds};
 
 use crate::order_laws::PlacedAlgebra;
 
@@ -62,4 +63,12 @@ pub trait IdealFamily {
 /// one, where the centre is the scalars.
 pub fn maximal_ideals_are_one<F: IdealFamily>()
     ensures { Central F.algebra → FamilyIsOne F.field F.valuation F.p F.algebra F.dimension F.Ideal }
+{}
+
+/// What the definitions ask of ideals that tests tell holds of each set: the radical holds each ideal over p·Λ with a power in
+/// p·Λ, no ideal lies strictly between Λ and an ideal with a simple quotient, and each maximal ideal is the only one.
+pub fn ideals_of_whatever_form<F: IdealFamily>()
+    ensures radical { RadicalHolds F.field F.valuation F.p F.algebra F.dimension F.Ideal }
+    ensures simple { SimpleHolds F.field F.valuation F.p F.algebra F.dimension F.Ideal }
+    ensures only { OnlyHolds F.field F.valuation F.p F.algebra F.dimension F.Ideal }
 {}
