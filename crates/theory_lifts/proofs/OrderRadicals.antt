@@ -8,7 +8,6 @@ use Rattle.theory_rings.specs.Enumerated.{Enumerated}
 use Rattle.theory_spaces.specs.Module.{AlgebraOn, module_of}
 use Rattle.theory_spaces.specs.Linear.{Basis}
 use Rattle.theory_spaces.specs.Valuation.{ValuationOn}
-use Rattle.theory_spaces.proofs.Modules.{InSpan-member}
 use Rattle.theory_orders.specs.Uniformizer.{UniformizerOn}
 use Rattle.theory_orders.proofs.Columns.{Column, columns, column_space}
 use Rattle.theory_residue.specs.Residue.{ResidueOn, ResidueAlgebra}
@@ -31,11 +30,7 @@ module _ {K E V : Type 0} (F : FieldOn K) (Z : ValuationOn F) (p q : K) (U : Uni
       let X = residue_algebra_of v o in
       let R = radical X.algebra X.basis in
       let C = ideals_correspond F Z p q U k D A n b (Column k n) v o X.algebra X.basis X.reduction in
-      let I = R.radical.nilpotent.ideal in
-      let s = C.spans R.size R.vec (record {
-        left = λ i l x. I.left x (R.vec i) tt (InSpan-member (module_of X.algebra) R.size i R.vec l);
-        right = λ i l x. I.right x (R.vec i) tt (InSpan-member (module_of X.algebra) R.size i R.vec l);
-      }) in
+      let s = C.spans R.size R.vec R.radical.nilpotent.ideal in
       record { size = s.size; vec = s.vec; radical = s.radical.0 R.radical }
 
   pub orders_have_maximal_ideals : (N : Enumerated E) (c i : ℕ)
