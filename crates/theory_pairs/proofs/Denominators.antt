@@ -86,7 +86,8 @@ module _ {K : Type 0} (F : FieldOn K) (P : K → Type 0) (R : IsSubring F.ring P
                 let Q : K → Type 0 = IsIntegral F Z in
                 subst Q (inv_mul_cancel_left F d x nd) (Z.mul_in (F.inv d) (d ⊗ x) unit.1 (within (d ⊗ x) p)) in
                 (self_dual_iff F Z A n B v inverse.0 inverse.1).1 (
-                  λ i j l g. in_at (G i j) (subst P (ap (λ t. t ⊗ G i j) (F.mul_comm b.0 a.0)) (more_one (G i j) b.0 a.0 b.1 (a.3 i l j g))),
+                  λ i j l g. in_at (G i j)
+                      (subst P (ap (λ t. t ⊗ G i j) (F.mul_comm b.0 a.0)) (more_one (G i j) b.0 a.0 b.1 (a.3 i l j g))),
                   λ i j l g. in_at (inverse.0 i j) (more_one (inverse.0 i j) a.0 b.0 a.1 (b.3 i l j g)),
                 );
           },

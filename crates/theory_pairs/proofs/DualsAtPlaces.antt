@@ -18,7 +18,8 @@ use Rattle.theory_pairs.specs.OwnDual.{DualOf, IsOwnDual, EntriesIn, InvertsGram
 use Rattle.theory_pairs.proofs.DualSpans.{dual_span, entries_of_own_dual, own_dual_of_entries}
 use Rattle.theory_pairs.proofs.DualSpans.{integral_subring, lattice_is_span}
 
-module _ {K V : Type 0} (F : FieldOn K) (Z : ValuationOn F) (A : AlgebraOn F.ring V) (n : ℕ) (B v : Basis (module_of A) n) where
+module _ {K V : Type 0} (F : FieldOn K) (Z : ValuationOn F) (A : AlgebraOn F.ring V) (n : ℕ)
+    (B v : Basis (module_of A) n) where
   abbrev M : ModuleOn F.ring V
   M = module_of A
 

@@ -10,3 +10,5 @@ pub mod FirstOrders
 pub mod LocalOrders
 pub mod DualsAtPlaces
 pub mod Denominators
+pub mod OrderLattices
+pub mod CornerTables

@@ -1,5 +1,5 @@
--- Lattices at places: an order there with a given lattice, and a lattice that is its own dual at each place at which one
--- element is a unit. (Reiner, Maximal Orders, sections 4, 8 and 25.)
+-- Lattices at places: an order there with a given lattice, and a lattice that is its own dual at each place at which
+-- one element is a unit. (Reiner, Maximal Orders, sections 4, 8 and 25.)
 use Rattle.std.specs.Prelude.{◌≡◌, ℕ}
 use Rattle.theory_rings.specs.Ring.{FieldOn}
 use Rattle.theory_spaces.specs.Module.{AlgebraOn, module_of}
@@ -17,8 +17,8 @@ pub record OrderOnLattice {K V : Type 0} (F : FieldOn K) (Z : ValuationOn F) (A 
   pub is_order : IsOrderAt F Z A n vec
   pub same : Same (Lattice F Z A n vec) (Lattice F Z A m w)
 
--- d is in the subring and not 0, and at each valuation ring that holds the subring and in which d is a unit the lattice of
--- v is its own dual by the trace form
+-- d is in the subring and not 0, and at each valuation ring that holds the subring and in which d is a unit the lattice
+-- of v is its own dual by the trace form
 pub record SelfDualOutside {K V : Type 0} (F : FieldOn K) (P : K → Type 0) (A : AlgebraOn F.ring V) (n : ℕ)
     (B : Basis (module_of A) n) (v : ℕ → V) (d : K) : Type 0 where
   pub inside : P d

@@ -1,14 +1,15 @@
 // Theorems on the corner eAe of an algebra A at an idempotent e.
 ghost use Rattle.std.specs.Prelude.{◌≡◌, ℕ};
 ghost use Rattle.theory_rings.specs.Ring.{RingOn, FieldOn};
-ghost use Rattle.theory_spaces.specs.Module.{AlgebraOn, module_of};
-ghost use Rattle.theory_spaces.specs.Linear.{Basis};
+ghost use Rattle.theory_spaces.specs.Module.{ModuleOn, AlgebraOn, module_of};
+ghost use Rattle.theory_spaces.specs.Linear.{Basis, BasisOf};
+ghost use Rattle.theory_spaces.specs.Space.{SpaceOn};
 ghost use Rattle.theory_spaces.specs.Subspaces.{Whole};
-ghost use Rattle.theory_spaces.specs.Algebra.{CentralSimple};
+ghost use Rattle.theory_spaces.specs.Algebra.{CentralSimple, InCorner};
 ghost use Rattle.theory_orders.specs.Orders.{IsIdeal, Within};
 ghost use Rattle.theory_lattices.specs.Degree.{DegreeOn};
 ghost use Rattle.theory_lattices.specs.SelfDual.{SelfDualPair, IntegralTrace};
-ghost use Rattle.theory_pairs.specs.Corner.{Corner, IsCorner, IdealOf};
+ghost use Rattle.theory_pairs.specs.Corner.{Corner, IsCorner, IdealOf, CornerConstants, CornerTable};
 ghost use Rattle.theory_pairs.specs.OwnDual.{IsOwnDual};
 
 use theory_spaces::algebra_laws::BasedAlgebra;
@@ -17,6 +18,35 @@ use theory_spaces::algebra_laws::BasedAlgebra;
 pub fn corner_exists<A: BasedAlgebra>()
     ensures { (e : A.Vector) → A.algebra.◌⊗◌ e e ≡ e
         → (C : AlgebraOn A.field.ring (Corner A.algebra e)) × IsCorner A.algebra e C (λ x. x.0) }
+{}
+
+/// An algebra with a basis, and a space of coordinates.
+pub trait AlgebraAndSpace {
+    ghost Scalar: { Type 0 };
+
+    ghost Vector: { Type 0 };
+
+    ghost Part: { Type 0 };
+
+    ghost field: { FieldOn Scalar };
+
+    ghost algebra: { AlgebraOn field.ring Vector };
+
+    ghost dimension: { ℕ };
+
+    ghost basis: { Basis (module_of algebra) dimension };
+}
+
+/// The corner of an idempotent has a basis with constants, and the product by these on a space of coordinates makes the
+/// corner: it is associative, and the coordinates of the idempotent are its one.
+pub fn corner_by_constants<A: AlgebraAndSpace>()
+    ensures basis { (e : A.Vector) → A.algebra.◌⊗◌ e e ≡ e
+        → (k : ℕ) × BasisOf (module_of A.algebra) k (InCorner A.algebra e) }
+    ensures constants { (e : A.Vector) → A.algebra.◌⊗◌ e e ≡ e
+        → (k : ℕ) (U : BasisOf (module_of A.algebra) k (InCorner A.algebra e)) → CornerConstants A.algebra e k U.vec }
+    ensures table { (e : A.Vector) → A.algebra.◌⊗◌ e e ≡ e
+        → (k : ℕ) (U : BasisOf (module_of A.algebra) k (InCorner A.algebra e)) (D : CornerConstants A.algebra e k U.vec)
+        → (N : ModuleOn A.field.ring A.Part) (S : SpaceOn N k) → CornerTable A.field A.algebra e k U.vec D N S }
 {}
 
 /// An algebra with a basis, an idempotent of it, and the corner of the idempotent, however its elements are written.

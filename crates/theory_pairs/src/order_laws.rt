@@ -6,7 +6,12 @@ ghost use Rattle.theory_spaces.specs.Linear.{comb};
 ghost use Rattle.theory_spaces.proofs.Families.{push};
 ghost use Rattle.theory_orders.specs.Orders.{IsOrder};
 ghost use Rattle.theory_lattices.specs.CommonBasis.{InSpanWith};
+ghost use Rattle.theory_orders.specs.Uniformizer.{IsIntegral};
 ghost use Rattle.theory_pairs.specs.Subring.{IsSubring};
+ghost use Rattle.theory_pairs.specs.PlaceLaws.{OrderOnLattice};
+
+use crate::place_laws::AlgebraOverFractions;
+use theory_orders::order_laws::PlacedAlgebra;
 
 /// Vectors of an algebra whose products are combinations of them, and a subring of the field as a condition on its
 /// elements.
@@ -45,4 +50,22 @@ pub fn first_order<A: AlgebraWithTable>()
         → (i : ℕ) → i < A.size
         → InSpanWith (module_of A.algebra) (suc A.size) (λ i x. A.Weight x)
         (push A.size A.algebra.one (λ i. A.algebra.◌•◌ c (A.vec i))) (A.algebra.◌•◌ c (A.vec i)) }
+{}
+
+/// At a place, where c times each structure constant of a basis is integral and c isn't 0, the lattice of one and the c
+/// times basis vectors is that of as many vectors as the dimension, and an order at the place.
+pub fn first_order_at_a_place<A: PlacedAlgebra>()
+    ensures { (c : A.Scalar) → (c ≡ A.field.zero → ⊥)
+        → ((i j k : ℕ) → i < A.dimension → j < A.dimension → k < A.dimension → IsIntegral A.field A.valuation
+        (A.field.◌⊗◌ c (A.basis.coord (A.algebra.◌⊗◌ (A.basis.vec i) (A.basis.vec j)) k)))
+        → OrderOnLattice A.field A.valuation A.algebra A.dimension (suc A.dimension)
+        (push A.dimension A.algebra.one (λ i. A.algebra.◌•◌ c (A.basis.vec i))) }
+{}
+
+/// Where each element of the field is a fraction of elements of a subring, some element of it other than 0 carries all
+/// structure constants into it.
+pub fn constants_have_a_denominator<A: AlgebraOverFractions>()
+    ensures { (constants : ℕ → ℕ → ℕ → A.Scalar) → (c : A.Scalar) × A.Weight c × (c ≡ A.field.zero → ⊥)
+        × ((i : ℕ) → i < A.dimension → (j : ℕ) → j < A.dimension → (k : ℕ) → k < A.dimension
+        → A.Weight (A.field.◌⊗◌ c (constants i j k))) }
 {}

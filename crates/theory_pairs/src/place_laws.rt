@@ -41,8 +41,8 @@ pub trait RingOfPlaces {
     ghost basis: { Basis (module_of algebra) dimension };
 }
 
-/// The lattice of the basis over the subring is the intersection of its lattices at the places; and it is an order exactly
-/// where each of these is one.
+/// The lattice of the basis over the subring is the intersection of its lattices at the places; and it is an order
+/// exactly where each of these is one.
 pub fn orders_are_local<R: RingOfPlaces>()
     ensures members { Same (InSpanWith (module_of R.algebra) R.dimension (λ i c. R.Weight c) R.basis.vec)
         (λ x. (place : R.Place) → Lattice R.field (R.valuation place) R.algebra R.dimension R.basis.vec x) }
@@ -50,16 +50,18 @@ pub fn orders_are_local<R: RingOfPlaces>()
         ↔ ((place : R.Place) → IsOrderAt R.field (R.valuation place) R.algebra R.dimension R.basis.vec) }
 {}
 
-/// The dual of the lattice of a basis at a place, by the trace form, is the lattice of the dual basis; and the lattice is
-/// its own dual exactly where the entries of the Gram matrix and of its inverse are integral.
+/// The dual of the lattice of a basis at a place, by the trace form, is the lattice of the dual basis; and the lattice
+/// is its own dual exactly where the entries of the Gram matrix and of its inverse are integral.
 pub fn duals_at_places<A: PlacedAlgebra>()
     ensures dual { (v : Basis (module_of A.algebra) A.dimension)
         (D : DualBasis (module_of A.algebra) (trace_form A.algebra A.dimension A.basis) A.dimension v)
-        → Same (Dual A.field A.valuation A.algebra A.dimension A.basis (Lattice A.field A.valuation A.algebra A.dimension v.vec))
+        → Same (Dual A.field A.valuation A.algebra A.dimension A.basis
+        (Lattice A.field A.valuation A.algebra A.dimension v.vec))
         (Lattice A.field A.valuation A.algebra A.dimension D.basis.vec) }
     ensures own_dual { (v : Basis (module_of A.algebra) A.dimension) (N : Matrix A.Scalar)
         → InvertsGram (module_of A.algebra) (trace_form A.algebra A.dimension A.basis) A.dimension v.vec N
-        → IsSelfDual A.field A.valuation A.algebra A.dimension A.basis (Lattice A.field A.valuation A.algebra A.dimension v.vec)
+        → IsSelfDual A.field A.valuation A.algebra A.dimension A.basis
+        (Lattice A.field A.valuation A.algebra A.dimension v.vec)
         ↔ (EntriesIn (IsIntegral A.field A.valuation) A.dimension
         (gram (module_of A.algebra) (trace_form A.algebra A.dimension A.basis) v.vec)
         × EntriesIn (IsIntegral A.field A.valuation) A.dimension N) }
