@@ -12,3 +12,6 @@ pub mod DualsAtPlaces
 pub mod Denominators
 pub mod OrderLattices
 pub mod CornerTables
+pub mod PolynomialPlaces
+pub mod MatrixTraces
+pub mod MatrixPairs

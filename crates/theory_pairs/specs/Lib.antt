@@ -3,3 +3,5 @@ pub mod Subring
 pub mod PlaceLaws
 pub mod OwnDual
 pub mod DegreeElement
+pub mod PolynomialPlaces
+pub mod MatrixPair

@@ -7,7 +7,12 @@ ghost use Rattle.theory_spaces.specs.Matrix.{Matrix};
 ghost use Rattle.theory_spaces.specs.Algebra.{Nondegenerate};
 ghost use Rattle.theory_spaces.specs.Form.{DualBasis, gram, trace_form};
 ghost use Rattle.theory_spaces.specs.Valuation.{ValuationOn};
-ghost use Rattle.theory_orders.specs.Uniformizer.{IsIntegral};
+ghost use Rattle.theory_rings.specs.Polynomial.{Poly};
+ghost use Rattle.theory_rings.specs.Division.{Divides};
+ghost use Rattle.theory_rings.proofs.Polynomials.Bezout.{field_polynomials};
+ghost use Rattle.theory_lattices.specs.RationalFunctions.{IsPolynomial, of_polynomial};
+ghost use Rattle.theory_pairs.specs.PolynomialPlaces.{FinitePlace, FiniteValuations, valuation_at};
+ghost use Rattle.theory_orders.specs.Uniformizer.{IsIntegral, IsUnit};
 ghost use Rattle.theory_orders.specs.Orders.{IsOrder, Same};
 ghost use Rattle.theory_orders.specs.Lattices.{Lattice, IsOrderAt};
 ghost use Rattle.theory_orders.specs.Dual.{Dual, IsSelfDual};
@@ -16,6 +21,7 @@ ghost use Rattle.theory_pairs.specs.Subring.{IsSubring, IsIntersection, HasFract
 ghost use Rattle.theory_pairs.specs.OwnDual.{EntriesIn, InvertsGram};
 ghost use Rattle.theory_pairs.specs.PlaceLaws.{SelfDualOutside};
 
+use theory_lattices::rational_laws::RationalFunctions;
 use theory_orders::order_laws::PlacedAlgebra;
 
 /// An algebra with a basis over a field, and a subring of the field that is the intersection of valuation rings.
@@ -93,4 +99,15 @@ pub trait AlgebraOverFractions {
 pub fn self_dual_almost_everywhere<A: AlgebraOverFractions>()
     ensures { Nondegenerate A.algebra A.dimension A.basis → (v : Basis (module_of A.algebra) A.dimension)
         → (d : A.Scalar) × SelfDualOutside A.field A.Weight A.algebra A.dimension A.basis v.vec d }
+{}
+
+/// The polynomials are what is integral at all finite places of the rational functions; and a polynomial is a unit at
+/// each finite place whose polynomial does not divide it.
+pub fn polynomials_at_places<Q: RationalFunctions>()
+    ensures intersection { (V : FiniteValuations Q.constants Q.field)
+        → IsIntersection Q.field (IsPolynomial Q.constants) (valuation_at Q.constants Q.field V) }
+    ensures units { (V : FiniteValuations Q.constants Q.field) (place : FinitePlace Q.constants)
+        (u : Poly Q.constants.cring)
+        → (Divides (field_polynomials Q.constants) place.0 u → ⊥)
+        → IsUnit Q.field (valuation_at Q.constants Q.field V place) (of_polynomial Q.constants u) }
 {}
