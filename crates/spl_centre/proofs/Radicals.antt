@@ -42,7 +42,7 @@ module _ {E : Type 0} (o : Ops E) (L : FieldLaws o) (m : ℕ) (cs : List E) (ove
       let width = form_width o m cs form e some in
       let square = subst (λ w. SpansKernel o m w form rows) width (subst (λ h. SpansKernel o h (width_of form) form rows) height k) in
       let by_form = subst (λ g. SpansKernel o m m g rows) e square in
-      let r = (trace_radical o L m cs over assoc identity).kernel v hv in
+      let r = (trace_radical o L m cs over assoc).kernel v hv in
       (λ s. r.1 ((by_form v hv).0 s), λ h. (by_form v hv).1 (r.0 h))
 
   -- without rows the form is nondegenerate
@@ -54,7 +54,7 @@ module _ {E : Type 0} (o : Ops E) (L : FieldLaws o) (m : ℕ) (cs : List E) (ove
 
   pub ideal_claim : (rows : List (List E)) → IsReducedBasis o m rows → length rows ≢ 0 → SpansRadical rows → times_of o m o.one ≢ o.zero → IdealClaim o m cs rows
   ideal_claim rows x some spans apart =
-      let R = trace_radical o L m cs over assoc identity in
+      let R = trace_radical o L m cs over assoc in
       let one = identity.one in
       let tuple = identity.is_one.tuple in
       let row = λ (r : ℕ). get_or rows r [] in

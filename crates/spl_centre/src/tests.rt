@@ -11,8 +11,8 @@ use crate::centre::{KAlgebra, centre_fault, identity_or_refutation, trace_ideal}
 use spl_algebra::algebra::Algebra;
 use spl_algebra::identity::One;
 use spl_field::field::{Field, NoMemory};
-use spl_field::small::SmallField;
 use spl_field::list::Vector;
+use spl_field::small::SmallField;
 use spl_fraction::field::Fractions;
 use spl_fraction::fraction::Fraction;
 use spl_fraction::tuples::Tuple;

@@ -5,6 +5,7 @@ pub mod Dimension
 pub mod Spaces
 pub mod Matrices
 pub mod Traces
+pub mod ProductTraces
 pub mod Tables
 pub mod Tuples
 pub mod TupleProducts

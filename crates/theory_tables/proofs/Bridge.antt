@@ -148,7 +148,7 @@ module _ {E : Type 0} (o : Ops E) (L : FieldLaws o) where
           ∙ sum_of-delta_mul o L m i rest (λ s. sum_of-elem o L m (λ j. o.mul (at o a j) (constant o m cs s j k)) (λ j _. L.mul-elem (at o a j) (constant o m cs s j k) (a_in j) (constant-elem s j k))) i_in
 
 -- a linear map that takes the vectors v into a span takes their span there
-map_span : {K V W : Type 0} {R : RingOn K} (M : ModuleOn R V) (N : ModuleOn R W) (f : V → W) → IsLinear M N f → (n : ℕ) (v : ℕ → V) (x : V) → InSpan M n v x
+pub map_span : {K V W : Type 0} {R : RingOn K} (M : ModuleOn R V) (N : ModuleOn R W) (f : V → W) → IsLinear M N f → (n : ℕ) (v : ℕ → V) (x : V) → InSpan M n v x
     → (k : ℕ) (w : ℕ → W) → ((i : ℕ) → i < n → InSpan N k w (f (v i))) → InSpan N k w (f x)
 map_span M N f h n v x s k w each =
     let P = InSpan N k w in

@@ -14,7 +14,7 @@ use Rattle.theory_tables.specs.Claims.{TripleClaim, NoIdentityClaim, CentralClai
 
 module _ {E : Type 0} (o : Ops E) (m : ℕ) (cs : List E) where
   -- the radical of the trace form is a two-sided ideal, and holds each nilpotent ideal; where m·1 is not 0 it doesn't hold
-  -- the identity, so it isn't everything
+  -- an identity, so it isn't everything
   pub record TraceRadical : Type 0 where
     pub zero-in : InTraceRadical o m cs (tuple_zero o m)
     pub add-in : (a b : List E) → InTraceRadical o m cs a → InTraceRadical o m cs b → InTraceRadical o m cs (tuple_add o m a b)
@@ -22,14 +22,14 @@ module _ {E : Type 0} (o : Ops E) (m : ℕ) (cs : List E) where
     pub left : (a b : List E) → IsTuple o m b → InTraceRadical o m cs a → InTraceRadical o m cs (product o m cs b a)
     pub right : (a b : List E) → IsTuple o m b → InTraceRadical o m cs a → InTraceRadical o m cs (product o m cs a b)
     pub not_everything : (one : List E) → IsTableOne o m cs one → times_of o m o.one ≢ o.zero → InTraceRadical o m cs one → ⊥
-    pub nilpotent : (one : List E) (rows : List (List E)) → IsTableOne o m cs one → SpansIdeal o m cs rows → PowerVanishes o m cs one rows
+    pub nilpotent : (rows : List (List E)) → SpansIdeal o m cs rows → PowerVanishes o m cs rows
         → (v : List E) → IsTuple o m v → InSpan o m rows v → InTraceRadical o m cs v
     -- its elements are those that the matrix of the form sends to 0
     pub kernel : (a : List E) → IsTuple o m a
         → (InTraceRadical o m cs a ↔ ((i : ℕ) → i < m → sum_of o m (λ j. o.mul (entry o (trace_form o m cs) i j) (at o a j)) ≡ o.zero))
 
   abbrev pub TraceRadicalLaw : Type 0
-  TraceRadicalLaw = IsTuple o (m * m * m) cs → AssociativeTable o m cs → HasIdentity o m cs → TraceRadical
+  TraceRadicalLaw = IsTuple o (m * m * m) cs → AssociativeTable o m cs → TraceRadical
 
   -- an associative algebra whose centre is the multiples of an identity, and whose trace form is nondegenerate, is central
   -- simple

@@ -28,12 +28,13 @@ module _ {E : Type 0} (o : Ops E) (m : ℕ) (cs : List E) where
   abbrev pub IsNondegenerate : Type 0
   IsNondegenerate = (a : List E) → InTraceRadical a → a ≡ tuple_zero o m
 
-  -- a_(e − 1)·(a_(e − 2)·(.. ·a_0)), from one on
-  abbrev pub product_of_list : List E → (ℕ → List E) → ℕ → List E
-  product_of_list one a zero = one
-  product_of_list one a (suc e) = product o m cs (a e) (product_of_list one a e)
+  -- a_e·(a_(e − 1)·(.. ·a_0))
+  abbrev pub product_of_list : (ℕ → List E) → ℕ → List E
+  product_of_list a zero = a 0
+  product_of_list a (suc e) = product o m cs (a (suc e)) (product_of_list a e)
 
-  -- products of e combinations of the rows are 0, for some e
-  pub record PowerVanishes (one : List E) (rows : List (List E)) : Type 0 where
+  -- products of e + 1 combinations of the rows are 0, for some e
+  pub record PowerVanishes (rows : List (List E)) : Type 0 where
     pub exponent : ℕ
-    pub vanishes : (a : ℕ → List E) → ((s : ℕ) → IsTuple o m (a s)) → ((s : ℕ) → InSpan o m rows (a s)) → product_of_list one a exponent ≡ tuple_zero o m
+    pub vanishes : (a : ℕ → List E) → ((s : ℕ) → IsTuple o m (a s)) → ((s : ℕ) → InSpan o m rows (a s))
+        → product_of_list a exponent ≡ tuple_zero o m

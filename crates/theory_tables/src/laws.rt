@@ -4,8 +4,8 @@ ghost use Rattle.std.specs.Prelude.{ℕ, List};
 ghost use Rattle.theory_rings.specs.Ops.{Ops, FieldLaws};
 ghost use Rattle.theory_tables.specs.Laws.{TraceRadicalLaw, CentralSimpleByTraceForm, ClaimsExcludeCentralSimple};
 
-/// The radical of the trace form of an associative algebra with an identity is a two-sided ideal, the kernel of the matrix of
-/// the form. It holds each nilpotent ideal, and not the identity where the dimension is not 0 in the field.
+/// The radical of the trace form of an associative algebra, which need not have an identity, is a two-sided ideal, the kernel
+/// of the matrix of the form. It holds each nilpotent ideal, and no identity where the dimension is not 0 in the field.
 pub fn trace_radical_is_an_ideal<E>()
     ensures radical { (o : Ops E) → FieldLaws o → (m : ℕ) (cs : List E) → TraceRadicalLaw o m cs }
 {}
