@@ -7,7 +7,7 @@ use Rattle.theory_spaces.specs.Module.{AlgebraOn, module_of}
 use Rattle.theory_spaces.specs.Linear.{InSpan, Basis, BasisOf}
 use Rattle.theory_spaces.specs.AlgebraMap.{IsSimple}
 use Rattle.theory_spaces.specs.Functions.{functions}
-use Rattle.theory_spaces.proofs.Families.{push}
+use Rattle.theory_spaces.specs.Families.{push}
 use Rattle.theory_blocks.specs.Centre.{Centre, CentreIsField}
 use Rattle.theory_blocks.specs.Maps.{maps}
 

@@ -3,7 +3,7 @@ ghost use Rattle.std.specs.Prelude.{◌≡◌, ℕ, suc, ◌<◌};
 ghost use Rattle.theory_rings.specs.Ring.{FieldOn};
 ghost use Rattle.theory_spaces.specs.Module.{AlgebraOn, module_of};
 ghost use Rattle.theory_spaces.specs.Linear.{comb};
-ghost use Rattle.theory_spaces.proofs.Families.{push};
+ghost use Rattle.theory_spaces.specs.Families.{push};
 ghost use Rattle.theory_orders.specs.Orders.{IsOrder};
 ghost use Rattle.theory_lattices.specs.CommonBasis.{InSpanWith};
 ghost use Rattle.theory_orders.specs.Uniformizer.{IsIntegral};

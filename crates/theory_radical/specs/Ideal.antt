@@ -1,6 +1,6 @@
 -- Two-sided ideals of a ring, and nilpotent ones. In an algebra over a field they are subspaces.
 -- (Pierce, Associative Algebras, chapter 4.)
-use Rattle.std.specs.Prelude.{◌≡◌, ℕ, zero, suc}
+use Rattle.std.specs.Prelude.{◌≡◌, ℕ}
 use Rattle.theory_rings.specs.Ring.{RingOn}
 use Rattle.theory_rings.specs.Power.{power}
 use Rattle.theory_spaces.specs.Module.{AlgebraOn, module_of}
@@ -13,8 +13,7 @@ use Rattle.theory_spaces.specs.Sets.{ring_ops}
 module _ {V : Type 0} (R : RingOn V) where
   -- a (n − 1) · .. · a 0
   abbrev pub product : (ℕ → V) → ℕ → V
-  product a zero = R.one
-  product a (suc n) = R.◌⊗◌ (a n) (product a n)
+  product = sets.product (ring_ops R) R.one
 
   -- closed under sums, and under products with all elements from both sides
   abbrev pub IsIdeal : (V → Type 0) → Type 0
@@ -22,13 +21,11 @@ module _ {V : Type 0} (R : RingOn V) where
 
   -- products of n members are 0
   abbrev pub ProductsVanish : (V → Type 0) → ℕ → Type 0
-  ProductsVanish J n = (a : ℕ → V) → ((i : ℕ) → J (a i)) → product a n ≡ R.zero
+  ProductsVanish = sets.ProductsVanish (ring_ops R) R.one
 
   -- an ideal of which some power is 0
-  pub record IsNilpotentIdeal (J : V → Type 0) : Type 0 where
-    pub ideal : IsIdeal J
-    pub exponent : ℕ
-    pub vanishes : ProductsVanish J exponent
+  abbrev pub IsNilpotentIdeal : (V → Type 0) → Type 0
+  IsNilpotentIdeal = sets.IsNilpotentIdeal (ring_ops R) R.one Whole
 
 module _ {K V : Type 0} {R : RingOn K} (A : AlgebraOn R V) where
   -- a subspace that is closed under products, in which each element is nilpotent

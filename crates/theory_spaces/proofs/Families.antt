@@ -4,10 +4,7 @@ use Rattle.std.specs.Prelude.{◌≡◌, ℕ, suc, pred, ◌+◌, ◌-◌, ◌<�
 use Rattle.std.proofs.Common.{refl, sym, ap, subst, arith, inl, inr, ⊎_elim}
 use Rattle.std.proofs.lemmas.Bool.{cases_lt, lt-ltb, le-ltb}
 use Rattle.theory_rings.proofs.Sums.Bump.{bump, bump-below, bump-above}
-
--- v below n, and x from there on
-abbrev pub push : {X : Type 0} → ℕ → X → (ℕ → X) → ℕ → X
-push n x v i = cond (ltb i n) (v i) x
+pub use Rattle.theory_spaces.specs.Families.{push}
 
 pub push-below : {X : Type 0} (n : ℕ) (x : X) (v : ℕ → X) (i : ℕ) → i < n → push n x v i ≡ v i
 push-below n x v i l = rw (lt-ltb i n l) refl

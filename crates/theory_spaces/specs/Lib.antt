@@ -1,5 +1,6 @@
 pub mod Module
 pub mod ModuleLaws
+pub mod Families
 pub mod Linear
 pub mod Functions
 pub mod Matrix

@@ -80,6 +80,21 @@ module _ {V : Type 0} (S : RingOps V) where
   Power J zero = J
   Power J (suc e) = Products (Power J e) J
 
+  -- a (n − 1) · .. · a 0, from one on
+  abbrev pub product : V → (ℕ → V) → ℕ → V
+  product one a zero = one
+  product one a (suc n) = S.mul (a n) (product one a n)
+
+  -- products of n members are 0
+  abbrev pub ProductsVanish : V → (V → Type 0) → ℕ → Type 0
+  ProductsVanish one J n = (a : ℕ → V) → ((i : ℕ) → J (a i)) → product one a n ≡ S.zero
+
+  -- an ideal of L of which some power is 0
+  pub record IsNilpotentIdeal (one : V) (L J : V → Type 0) : Type 0 where
+    pub ideal : IsIdeal L J
+    pub exponent : ℕ
+    pub vanishes : ProductsVanish one J exponent
+
   -- a product of members of the sets of a word, one of L first; the last factor stands first in the word
   abbrev pub WordProduct : {X : Type 0} → (V → Type 0) → (X → V → Type 0) → List X → V → Type 0
   WordProduct L M [] x = L x
