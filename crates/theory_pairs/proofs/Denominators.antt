@@ -10,7 +10,7 @@ use Rattle.theory_spaces.specs.Matrix.{Matrix}
 use Rattle.theory_spaces.specs.Algebra.{Nondegenerate}
 use Rattle.theory_spaces.specs.Form.{gram, trace_form}
 use Rattle.theory_spaces.proofs.Families.{below_suc}
-use Rattle.theory_spaces.proofs.TraceForms.{trace_form_bilinear, trace_form_nondegenerate}
+use Rattle.theory_spaces.proofs.TraceForms.{trace_form_bilinear}
 use Rattle.theory_orders.specs.Uniformizer.{IsIntegral}
 use Rattle.theory_pairs.specs.Subring.{IsSubring, HasFractions}
 use Rattle.theory_pairs.specs.OwnDual.{InvertsGram}
@@ -69,7 +69,7 @@ module _ {K : Type 0} (F : FieldOn K) (P : K → Type 0) (R : IsSubring F.ring P
     G = gram M f v.vec
 
     inverse : (N : Matrix K) × InvertsGram M f n v.vec N
-    inverse = gram_inverse F M f (trace_form_bilinear F.cring A n B) n v (trace_form_nondegenerate F.cring A n B non)
+    inverse = gram_inverse F M f (trace_form_bilinear F.cring A n B) n v non
 
     pub self_dual_outside : (d : K) × SelfDualOutside F P A n B v.vec d
     self_dual_outside =

@@ -36,7 +36,7 @@ module _ {K V : Type 0} (F : FieldOn K) (M : ModuleOn F.ring V) (form : V → V 
       let non : IsNondegenerate M form = flip_nondegenerate_of_dual F M (flip form) back n B d left in
       record {
         basis = left_dual_basis F M (flip form) back n B d left (flip_nondegenerate F M form bilinear n B non);
-        pairing = p;
+        dual = record { pairing = p };
       }
 
   -- a nondegenerate form has invertible Gram matrices
