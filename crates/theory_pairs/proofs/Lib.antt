@@ -15,3 +15,4 @@ pub mod CornerTables
 pub mod PolynomialPlaces
 pub mod MatrixTraces
 pub mod MatrixPairs
+pub mod Isomorphisms

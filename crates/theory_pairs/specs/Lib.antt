@@ -5,3 +5,4 @@ pub mod OwnDual
 pub mod DegreeElement
 pub mod PolynomialPlaces
 pub mod MatrixPair
+pub mod Isomorphism
