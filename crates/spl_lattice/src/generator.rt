@@ -50,7 +50,8 @@ fn first_value(
     requires multipliers_trimmed { All (IsTrimmed 0) found.multipliers }
     requires b_over { IsOver (small_ops f.now) b.now }
     requires zero { found.value ≡ [] }
-    ensures value { IfOk result (λ g. IsExtension (small_ops f.now) found.value found.multipliers b.now g.value g.multipliers) }
+    ensures value { IfOk result
+        (λ g. IsExtension (small_ops f.now) found.value found.multipliers b.now g.value g.multipliers) }
     ensures over { IfOk result (λ g. IsOver (small_ops f.now) g.value) }
     ensures multipliers_over { IfOk result (λ g. All (IsOver (small_ops f.now)) g.multipliers) }
     ensures multipliers_trimmed { IfOk result (λ g. All (IsTrimmed 0) g.multipliers) }
@@ -79,7 +80,8 @@ fn same_value(
     requires multipliers_trimmed { All (IsTrimmed 0) found.multipliers }
     requires b_over { IsOver (small_ops f.now) b.now }
     requires divides { Divides (small_ops f.now) found.value b.now }
-    ensures value { IfOk result (λ g. IsExtension (small_ops f.now) found.value found.multipliers b.now g.value g.multipliers) }
+    ensures value { IfOk result
+        (λ g. IsExtension (small_ops f.now) found.value found.multipliers b.now g.value g.multipliers) }
     ensures over { IfOk result (λ g. IsOver (small_ops f.now) g.value) }
     ensures multipliers_over { IfOk result (λ g. All (IsOver (small_ops f.now)) g.multipliers) }
     ensures multipliers_trimmed { IfOk result (λ g. All (IsTrimmed 0) g.multipliers) }
@@ -104,7 +106,8 @@ fn new_value(
     requires multipliers_over { All (IsOver (small_ops f.now)) found.multipliers }
     requires multipliers_trimmed { All (IsTrimmed 0) found.multipliers }
     requires b_over { IsOver (small_ops f.now) b.now }
-    ensures value { IfOk result (λ g. IsExtension (small_ops f.now) found.value found.multipliers b.now g.value g.multipliers) }
+    ensures value { IfOk result
+        (λ g. IsExtension (small_ops f.now) found.value found.multipliers b.now g.value g.multipliers) }
     ensures over { IfOk result (λ g. IsOver (small_ops f.now) g.value) }
     ensures multipliers_over { IfOk result (λ g. All (IsOver (small_ops f.now)) g.multipliers) }
     ensures multipliers_trimmed { IfOk result (λ g. All (IsTrimmed 0) g.multipliers) }
@@ -127,7 +130,8 @@ fn extended(
     requires multipliers_over { All (IsOver (small_ops f.now)) found.multipliers }
     requires multipliers_trimmed { All (IsTrimmed 0) found.multipliers }
     requires b_over { IsOver (small_ops f.now) b.now }
-    ensures value { IfOk result (λ g. IsExtension (small_ops f.now) found.value found.multipliers b.now g.value g.multipliers) }
+    ensures value { IfOk result
+        (λ g. IsExtension (small_ops f.now) found.value found.multipliers b.now g.value g.multipliers) }
     ensures over { IfOk result (λ g. IsOver (small_ops f.now) g.value) }
     ensures multipliers_over { IfOk result (λ g. All (IsOver (small_ops f.now)) g.multipliers) }
     ensures multipliers_trimmed { IfOk result (λ g. All (IsTrimmed 0) g.multipliers) }
@@ -150,7 +154,8 @@ fn divided_by_lead(
     requires nonzero { found.now.value ≢ [] }
     requires value_over { IsOver (small_ops f.now) found.now.value }
     requires multipliers_over { All (IsOver (small_ops f.now)) found.now.multipliers }
-    ensures value { IfOk result (λ g. IsMultiple (small_ops f.now) found.now.value found.now.multipliers g.value g.multipliers) }
+    ensures value { IfOk result
+        (λ g. IsMultiple (small_ops f.now) found.now.value found.now.multipliers g.value g.multipliers) }
     ensures monic { IfOk result (λ g. IsZeroOrMonic (small_ops f.now) g.value) }
     ensures over { IfOk result (λ g. IsOver (small_ops f.now) g.value) }
     ensures trimmed { IfOk result (λ g. IsTrimmed 0 g.value) }
@@ -166,8 +171,8 @@ fn divided_by_lead(
 }
 
 /// The monic generator of the ideal that the polynomials generate, and multipliers that combine it from them; 0 where
-/// all are 0, or there is none. The one fault is want of memory. (Cox, Little, O'Shea, Ideals, Varieties, and Algorithms,
-/// chapter 1, section 5; Lang, Algebra, chapter IV.)
+/// all are 0, or there is none. The one fault is want of memory. (Cox, Little, O'Shea, Ideals, Varieties, and
+/// Algorithms, chapter 1, section 5; Lang, Algebra, chapter IV.)
 pub fn generator(alloc: Global, f: &SmallField, list: &PolyRow) -> Result<IdealGenerator, NoMemory>
     requires over { All (IsOver (small_ops f.now)) list.now }
     ensures value { IfOk result (λ g. IsGenerator (small_ops f.now) list.now g.multipliers g.value) }

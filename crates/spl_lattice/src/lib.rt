@@ -7,5 +7,3 @@
 mod euclid;
 pub mod generator;
 pub mod rows;
-#[cfg(test)]
-mod tests;

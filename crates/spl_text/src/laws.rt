@@ -1,6 +1,7 @@
 // The laws of the words.
 ghost use Rattle.std.specs.Prelude.{◌≡◌, ℕ, List, decimal};
-ghost use Rattle.spl_text.specs.Text.{IsNumber, AreNumbers, IsNumberList, FractionText, IsFractionText, numbers_text, fraction_text};
+ghost use Rattle.spl_text.specs.Text.{IsNumber, AreNumbers, IsNumberList, FractionText, IsFractionText, numbers_text};
+ghost use Rattle.spl_text.specs.Text.{fraction_text};
 
 /// A word spells at most one number.
 pub fn one_number_a_word()

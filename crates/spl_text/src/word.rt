@@ -13,14 +13,16 @@ pub fn split_once(bytes: &[u8], separator: u8) -> Option<(&[u8], &[u8])>
 
 /// What stands after the prefix; None exactly where the bytes don't begin with it.
 pub fn strip_prefix<'a>(bytes: &'a [u8], prefix: &[u8]) -> Option<&'a [u8]>
-    ensures { MatchOption result ((rest : List ℕ) → bytes.now ≢ prefix.now ++ rest) (λ rest. bytes.now ≡ prefix.now ++ rest.now) }
+    ensures { MatchOption result ((rest : List ℕ)
+        → bytes.now ≢ prefix.now ++ rest) (λ rest. bytes.now ≡ prefix.now ++ rest.now) }
 {
     bytes.strip_prefix(prefix)
 }
 
 /// The number that the word spells: 0, or a digit from 1 to 9 and at most eight digits.
 pub fn number_of(word: &[u8]) -> Option<u32>
-    ensures { MatchOption result ((n : ℕ) → IsNumber n → word.now ≢ decimal n) (λ n. IsNumber n × (word.now ≡ decimal n)) }
+    ensures { MatchOption result ((n : ℕ) → IsNumber n
+        → word.now ≢ decimal n) (λ n. IsNumber n × (word.now ≡ decimal n)) }
 {
     if word.is_empty() || word.len() > 9 || (word[0] == b'0' && word.len() != 1) {
         return None;

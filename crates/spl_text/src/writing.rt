@@ -29,8 +29,8 @@ fn push_all(out: &mut Vec<u8>, c: &[u8]) -> Result<(), NoMemory>
     Ok(())
 }
 
-/// Writes the coefficients of a polynomial behind the text, `0` where it has none. The text stays as it is where memory is
-/// wanting.
+/// Writes the coefficients of a polynomial behind the text, `0` where it has none. The text stays as it is where memory
+/// is wanting.
 pub fn push_coefficients(out: &mut Vec<u8>, c: &[u8]) -> Result<(), NoMemory>
     ensures ok { OnOk result (out.new.items ≡ out.old.items ++ coefficients_text c.now) }
     ensures err { OnErr result (out.new.items ≡ out.old.items) }
