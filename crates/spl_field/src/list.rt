@@ -1,6 +1,6 @@
 // Lists, for contracts that see a list.
 ghost use Rattle.std.specs.Prelude.{◌≡◌, ◌<◌, ◌≤◌, ◌↔◌, [], ◌∷◌, ◌++◌, length, ◌==◌, IfOk, IfSome, OnOk, OnErr};
-ghost use Rattle.std.specs.Prelude.{slice_index_or, take, All};
+ghost use Rattle.std.specs.Prelude.{slice_index_or, slice_set, take, All};
 ghost use Rattle.theory_rings.specs.Ops.{IsElem};
 
 use crate::field::{Field, NoMemory};
@@ -73,6 +73,14 @@ impl<T: Drop> List<T> {
         ensures some { IfSome result (λ r. (i < length self.now) × (r.now ≡ slice_index_or self.now i r.now)) }
     {
         self.items.get(i)
+    }
+
+    /// Puts the item at place i.
+    pub fn set(&mut self, i: usize, item: T)
+        requires { i < length self.old }
+        ensures { self.new ≡ slice_set self.old i item }
+    {
+        self.items[i] = item;
     }
 
     /// All items in order.
