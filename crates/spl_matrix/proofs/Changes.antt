@@ -1,9 +1,10 @@
 -- Lists that a loop changes item by item.
 use Rattle.std.specs.Prelude.{◌≡◌, ℕ, ◌+◌, ◌<◌, ◌≤◌, List, length, get_or}
-use Rattle.std.proofs.Common.{refl, sym, ◌∙◌, arith, below_more, get_or-set_same, get_or-set_other}
-use Rattle.std.proofs.lemmas.List.{length-set, ext_get_or}
+use Rattle.std.proofs.Common.{refl, sym, ap, ◌∙◌, arith, below_more, get_or-set_same, get_or-set_other}
+use Rattle.std.proofs.lemmas.List.{length-set, ext_get_or, get_or_default}
 use Rattle.std.proofs.Math.ListN.{set}
-use Rattle.theory_rings.specs.Sum.{table}
+use Rattle.theory_rings.specs.Ops.{Ops}
+use Rattle.theory_rings.specs.Sum.{table, at}
 use Rattle.theory_rings.proofs.Sums.Lists.{length-table, get_or-table}
 
 -- the items below k are those of f, and the others are as they were
@@ -40,3 +41,8 @@ pub ChangedBelow-all : {X : Type 0} (d : X) (n : ℕ) (old new : List X) (f : �
 ChangedBelow-all d n old new f long a =
     ext_get_or d new (table n f) (a.same_length ∙ long ∙ sym (length-table n f)) (λ k l.
     let m : k < n = omega (arith, a.same_length) in a.done k m ∙ sym (get_or-table n f k d m))
+
+-- an item that was read through a slice of the list
+pub read_slice : {E : Type 0} (o : Ops E) (xs ys : List E) (i : ℕ) (x : E) → ys ≡ xs → i < length xs
+    → x ≡ get_or ys i x → x ≡ at o xs i
+read_slice o xs ys i x e h r = r ∙ ap (λ zs. get_or zs i x) e ∙ get_or_default xs i x o.zero h

@@ -11,7 +11,7 @@ ghost use Rattle.spl_matrix.specs.Spanning.{IsLeadingPlace};
 use crate::matrix::Indices;
 use crate::reduced::{Reduced, reduced_rows};
 use spl_field::field::{Field, NoMemory};
-use spl_field::list::Vector;
+use spl_field::list::{List, Vector};
 use std::alloc::Global;
 
 /// The rows with a pivot of the reduced row echelon form of a matrix with w columns.
@@ -59,7 +59,7 @@ pub(crate) fn pivots_of<F: Field>(
     ensures reduced { IfOk result (λ p. IsReduced (F.ops f.now) (length rows.now) rows.now p w) }
 {
     let zero = f.zero(alloc)?;
-    let mut pivots = Indices::new(alloc);
+    let mut pivots = List::new(alloc);
     for i in 0..rows.len() {
         pivots.push(leading_place(f, &zero, rows[i].as_slice()))?;
     }
@@ -78,7 +78,7 @@ pub(crate) fn gathered<F: Field>(
     ensures elem { IfOk result (IsTuple (F.ops f.now) (length places.now)) }
     ensures value { IfOk result (λ c. c ≡ table (length places.now) (λ s. at (F.ops f.now) v.now (get_or places.now s 0))) }
 {
-    let mut items = Vector::new(alloc);
+    let mut items = List::new(alloc);
     for s in 0..places.len() {
         items.push(f.copy(alloc, &v[places[s]])?)?;
     }

@@ -9,9 +9,8 @@ ghost use Rattle.spl_matrix.specs.Elimination.{columns};
 
 use crate::elimination::{augmented_of, eliminate};
 use crate::matrix::{Indices, Matrix};
-use crate::rows::Row;
 use spl_field::field::{Field, NoMemory};
-use spl_field::list::Vector;
+use spl_field::list::{List, Vector};
 use std::alloc::{AllocError, Global};
 
 /// A reduced row echelon form.
@@ -34,7 +33,7 @@ fn part_of<F: Field>(
     ensures elem { IfOk result (IsTuple (F.ops f.now) count) }
     ensures value { IfOk result (λ r. r ≡ table count (λ j. at (F.ops f.now) row.now (from + j))) }
 {
-    let mut items = Vector::new(alloc);
+    let mut items = List::new(alloc);
     for j in 0..count {
         items.push(f.copy(alloc, &row[from + j])?)?;
     }
@@ -45,7 +44,7 @@ fn columns_of<F: Field>(
     alloc: Global,
     f: &F,
     n: usize,
-    rows: &[Row<F>],
+    rows: &[Vector<F>],
     from: usize,
     count: usize,
 ) -> Result<Matrix<F>, NoMemory>

@@ -7,9 +7,9 @@ ghost use Rattle.theory_tables.specs.Matrix.{entry, IsMatrix};
 ghost use Rattle.spl_matrix.specs.Elimination.{cleared_row, pivoted, IsStep, IsEliminated, augmented_item, augmented};
 
 use crate::matrix::Indices;
-use crate::rows::Row;
+use crate::rows::{divide, reduce};
 use spl_field::field::{Field, NoMemory};
-use spl_field::list::Vector;
+use spl_field::list::{List, Vector};
 use std::alloc::Global;
 use std::mem;
 
@@ -18,7 +18,7 @@ fn find_pivot<F: Field>(
     alloc: Global,
     f: &F,
     n: usize,
-    rows: &[Row<F>],
+    rows: &[Vector<F>],
     r: usize,
     col: usize,
 ) -> Result<Option<usize>, NoMemory>
@@ -40,7 +40,7 @@ fn clear_column<F: Field>(
     alloc: Global,
     f: &F,
     n: usize,
-    rows: &mut [Row<F>],
+    rows: &mut [Vector<F>],
     r: usize,
     col: usize,
     lead: &[F::Elem],
@@ -53,7 +53,7 @@ fn clear_column<F: Field>(
     let zero = f.zero(alloc)?;
     for i in 0..rows.len() {
         if i != r {
-            rows[i].reduce(alloc, f, &zero, col, lead)?;
+            reduce(alloc, f, &zero, &mut rows[i], col, lead)?;
         }
     }
     Ok(())
@@ -64,7 +64,7 @@ fn pivot<F: Field>(
     alloc: Global,
     f: &F,
     n: usize,
-    rows: &mut [Row<F>],
+    rows: &mut [Vector<F>],
     p: usize,
     r: usize,
     col: usize,
@@ -78,8 +78,8 @@ fn pivot<F: Field>(
 {
     let zero = f.zero(alloc)?;
     rows.swap(p, r);
-    let mut lead = mem::replace(&mut rows[r], Row::new(alloc));
-    lead.divide(alloc, f, &zero, col)?;
+    let mut lead = mem::replace(&mut rows[r], List::new(alloc));
+    divide(alloc, f, &zero, &mut lead, col)?;
     clear_column(alloc, f, n, rows, r, col, lead.as_slice())?;
     mem::swap(&mut rows[r], &mut lead);
     Ok(())
@@ -90,7 +90,7 @@ fn advance<F: Field>(
     alloc: Global,
     f: &F,
     n: usize,
-    rows: &mut [Row<F>],
+    rows: &mut [Vector<F>],
     pivots: &mut Indices,
     col: usize,
 ) -> Result<(), NoMemory>
@@ -116,13 +116,13 @@ pub(crate) fn eliminate<F: Field>(
     f: &F,
     n: usize,
     w: usize,
-    rows: &mut [Row<F>],
+    rows: &mut [Vector<F>],
 ) -> Result<Indices, NoMemory>
     requires shape { IsMatrix (F.ops f.now) n rows.old }
     requires columns { w ≤ n }
     ensures { IfOk result (λ pivots. IsEliminated (F.ops f.now) (length rows.old) n w rows.old rows.new pivots) }
 {
-    let mut pivots = Indices::new(alloc);
+    let mut pivots = List::new(alloc);
     for col in 0..w {
         advance(alloc, f, n, rows, &mut pivots, col)?;
     }
@@ -158,14 +158,14 @@ fn augmented_row<F: Field>(
     h: usize,
     row: &[F::Elem],
     i: usize,
-) -> Result<Row<F>, NoMemory>
+) -> Result<Vector<F>, NoMemory>
     requires row { IsTuple (F.ops f.now) w row.now }
     requires place { i < h }
     requires fits { w + h < 2 ^ 64 }
     ensures elem { IfOk result (IsTuple (F.ops f.now) (w + h)) }
     ensures value { IfOk result (λ r. r ≡ table (w + h) (augmented_item (F.ops f.now) w row.now i)) }
 {
-    let mut items = Row::new(alloc);
+    let mut items = List::new(alloc);
     for j in 0..w + h {
         items.push(augmented_item_of(alloc, f, w, row, i, j)?)?;
     }
@@ -178,7 +178,7 @@ pub(crate) fn augmented_of<F: Field>(
     f: &F,
     w: usize,
     a: &[Vector<F>],
-) -> Result<Vec<Row<F>>, NoMemory>
+) -> Result<Vec<Vector<F>>, NoMemory>
     requires shape { IsMatrix (F.ops f.now) w a.now }
     requires fits { w + length a.now < 2 ^ 64 }
     ensures elem { IfOk result (λ r. IsMatrix (F.ops f.now) (w + length a.now) r.items) }

@@ -11,7 +11,7 @@ use crate::basis::basis_of;
 use crate::matrix::{Indices, Matrix};
 use crate::subspace::{Subspace, span_of};
 use spl_field::field::{Field, NoMemory};
-use spl_field::list::Vector;
+use spl_field::list::{List, Vector};
 use std::alloc::Global;
 
 /// The place of j in the list, or the length of the list where j isn't in it.
@@ -31,7 +31,7 @@ fn places_of(alloc: Global, indices: &[usize], w: usize) -> Result<Indices, NoMe
     ensures long { IfOk result (λ p. length p ≡ w) }
     ensures each { IfOk result (λ p. (j : ℕ) → j < w → IsPlace indices.now j (get_or p j 0)) }
 {
-    let mut places = Indices::new(alloc);
+    let mut places = List::new(alloc);
     for j in 0..w {
         places.push(place_of(indices, j))?;
     }
@@ -85,7 +85,7 @@ fn kernel_row_of<F: Field>(
     ensures elem { IfOk result (IsTuple (F.ops f.now) w) }
     ensures value { IfOk result (λ r. r ≡ table w (kernel_item (F.ops f.now) rows.now places.now j)) }
 {
-    let mut items = Vector::new(alloc);
+    let mut items = List::new(alloc);
     for l in 0..w {
         items.push(kernel_item_of(alloc, f, w, rows, places, j, l)?)?;
     }

@@ -16,5 +16,3 @@ mod reduced;
 mod rows;
 pub mod solve;
 pub mod subspace;
-#[cfg(test)]
-mod tests;

@@ -4,71 +4,24 @@ ghost use Rattle.theory_rings.specs.Ops.{IsElem};
 ghost use Rattle.theory_tables.specs.Matrix.{width_of, trace_of, IsMatrix, IsRectangular};
 
 use spl_field::field::{Field, NoMemory};
-use spl_field::list::Vector;
+use spl_field::list::{List, Vector};
 use std::alloc::Global;
 use std::marker::Model;
 
 /// A list of places, counted from 0.
-#[derive(Drop)]
-pub struct Indices {
-    items: Vec<usize>,
-}
-
-impl Model for Indices {
-    ghost use Rattle.std.specs.Prelude.{ℕ, List};
-
-    ghost Value = { List ℕ };
-
-    ghost view = { λ v. v.items.items };
-}
-
-impl Indices {
-    /// The empty list. It takes no memory; the list keeps the allocator.
-    pub fn new(alloc: Global) -> Self
-        ensures { result ≡ [] }
-    {
-        Indices {
-            items: Vec::new(alloc),
-        }
-    }
-
-    /// Appends the item. Where memory is wanting the list stays as it was.
-    pub fn push(&mut self, item: usize) -> Result<(), NoMemory>
-        ensures ok { OnOk result (self.new ≡ self.old ++ item ∷ []) }
-        ensures err { OnErr result (self.new ≡ self.old) }
-    {
-        self.items.push(item)?;
-        Ok(())
-    }
-
-    /// The number of items.
-    pub fn len(&self) -> usize
-        ensures { result ≡ length self.now }
-    {
-        self.items.len()
-    }
-
-    /// The item at place i, counted from 0; None exactly where i is past the end.
-    pub fn at(&self, i: usize) -> Option<&usize>
-        ensures none { (result ≡ None) ↔ (length self.now ≤ i) }
-        ensures some { IfSome result (λ r. (i < length self.now) × (r.now ≡ slice_index_or self.now i r.now)) }
-    {
-        self.items.get(i)
-    }
-
-    /// All items in order.
-    pub fn as_slice(&self) -> &[usize]
-        ensures { result.now ≡ self.now }
-    {
-        self.items.as_slice()
-    }
-}
+pub type Indices = List<usize>;
 
 /// Rows of one length. Contracts see them as a list of lists; whose elements they are is a condition of the calls that
 /// take them.
-#[derive(Drop)]
 pub struct Matrix<F: Field> {
     rows: Vec<Vector<F>>,
+}
+
+// (one proof for all functions that drop a matrix, in place of one in each)
+impl<F: Field> Drop for Matrix<F> {
+    fn drop(self) {
+        let Matrix { rows } = self;
+    }
 }
 
 impl<F: Field> Model for Matrix<F> {
@@ -147,6 +100,14 @@ impl<F: Field> Matrix<F> {
             rows.push(row.copy(alloc, f)?)?;
         }
         Ok(Matrix { rows })
+    }
+
+    /// The matrix of these rows, which have one length.
+    pub(crate) fn from_rows(rows: Vec<Vector<F>>) -> Self
+        requires { IsRectangular rows.items }
+        ensures { result ≡ rows.items }
+    {
+        Matrix { rows }
     }
 
     /// Drops the rows from place n on.

@@ -10,7 +10,7 @@ ghost use Rattle.spl_matrix.specs.Spanning.{doubled_item, doubled, right_part};
 use crate::basis::basis_of;
 use crate::matrix::Matrix;
 use spl_field::field::{Field, NoMemory};
-use spl_field::list::Vector;
+use spl_field::list::{List, Vector};
 use std::alloc::{AllocError, Global};
 
 /// The rows of a, and after them those of b.
@@ -69,7 +69,7 @@ fn doubled_row<F: Field>(
     ensures elem { IfOk result (IsTuple (F.ops f.now) (w + w)) }
     ensures value { IfOk result (λ r. r ≡ table (w + w) (doubled_item (F.ops f.now) w twice row.now)) }
 {
-    let mut items = Vector::new(alloc);
+    let mut items = List::new(alloc);
     for j in 0..w + w {
         items.push(doubled_item_of(alloc, f, w, twice, row, j)?)?;
     }
@@ -122,7 +122,7 @@ fn right_half<F: Field>(
     ensures elem { IfOk result (IsTuple (F.ops f.now) w) }
     ensures value { IfOk result (λ r. r ≡ table w (λ j. at (F.ops f.now) row.now (w + j))) }
 {
-    let mut items = Vector::new(alloc);
+    let mut items = List::new(alloc);
     for j in 0..w {
         items.push(f.copy(alloc, &row[w + j])?)?;
     }

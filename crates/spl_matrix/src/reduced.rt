@@ -8,11 +8,9 @@ ghost use Rattle.theory_tables.specs.Subspace.{SameSpan};
 
 use crate::elimination::eliminate;
 use crate::matrix::{Indices, Matrix};
-use crate::rows::Row;
 use spl_field::field::{Field, NoMemory};
 use spl_field::list::Vector;
 use std::alloc::Global;
-use std::mem;
 
 /// Rows in reduced row echelon form, and their pivots.
 #[derive(Drop)]
@@ -21,45 +19,19 @@ pub(crate) struct Reduced<F: Field> {
     pub pivots: Indices,
 }
 
-/// A row with these items.
-fn row_of<F: Field>(alloc: Global, f: &F, items: &[F::Elem]) -> Result<Row<F>, NoMemory>
-    requires { All (IsElem (F.ops f.now)) items.now }
-    ensures { IfOk result (λ r. r ≡ items.now) }
-{
-    let mut row = Row::new(alloc);
-    for item in items {
-        row.push(f.copy(alloc, item)?)?;
-    }
-    Ok(row)
-}
-
 /// These rows, to be changed in place.
 fn rows_of<F: Field>(
     alloc: Global,
     f: &F,
     w: usize,
     rows: &[Vector<F>],
-) -> Result<Vec<Row<F>>, NoMemory>
+) -> Result<Vec<Vector<F>>, NoMemory>
     requires { IsMatrix (F.ops f.now) w rows.now }
     ensures { IfOk result (λ r. r.items ≡ rows.now) }
 {
     let mut out = Vec::with_capacity(alloc, rows.len())?;
     for i in 0..rows.len() {
-        let row = row_of(alloc, f, rows[i].as_slice())?;
-        out.push(row)?;
-    }
-    Ok(out)
-}
-
-/// The matrix of these rows, which are moved into it.
-fn matrix_of<F: Field>(alloc: Global, w: usize, rows: &mut [Row<F>]) -> Result<Matrix<F>, NoMemory>
-    requires { All (λ row. length row ≡ w) rows.old }
-    ensures { IfOk result (λ m. m ≡ rows.old) }
-{
-    let mut out = Matrix::new(alloc);
-    for i in 0..rows.len() {
-        let row = mem::replace(&mut rows[i], Row::new(alloc));
-        out.push(row.into_vector())?;
+        out.push(rows[i].copy(alloc, f)?)?;
     }
     Ok(out)
 }
@@ -79,6 +51,8 @@ pub(crate) fn reduced_rows<F: Field>(
 {
     let mut changed = rows_of(alloc, f, w, rows)?;
     let pivots = eliminate(alloc, f, w, w, &mut changed)?;
-    let rows = matrix_of(alloc, w, &mut changed)?;
-    Ok(Reduced { rows, pivots })
+    Ok(Reduced {
+        rows: Matrix::from_rows(changed),
+        pivots,
+    })
 }

@@ -1,5 +1,5 @@
 // Rows: their multiples, their sums, the sums of their products, and rows that are changed in place.
-ghost use Rattle.std.specs.Prelude.{◌≡◌, ◌≢◌, ◌<◌, List, [], ◌∷◌, ◌++◌, length, IfOk, OnOk, OnErr, All};
+ghost use Rattle.std.specs.Prelude.{◌≡◌, ◌≢◌, ◌<◌, List, length, IfOk, OnOk, All};
 ghost use Rattle.theory_rings.specs.Ops.{IsElem};
 ghost use Rattle.theory_rings.specs.Sum.{table, at};
 ghost use Rattle.theory_spaces.specs.Tuples.{IsTuple};
@@ -7,9 +7,8 @@ ghost use Rattle.theory_tables.specs.Matrix.{dot};
 ghost use Rattle.spl_matrix.specs.Elimination.{divided, reduced_by};
 
 use spl_field::field::{Field, NoMemory};
-use spl_field::list::Vector;
+use spl_field::list::{List, Vector};
 use std::alloc::Global;
-use std::marker::Model;
 
 /// The sum of the products of the items of two tuples of one length.
 pub(crate) fn dot_of<F: Field>(
@@ -44,7 +43,7 @@ pub(crate) fn scaled<F: Field>(
     ensures elem { IfOk result (IsTuple (F.ops f.now) (length row.now)) }
     ensures value { IfOk result (λ r. r ≡ table (length row.now) (λ j. (F.ops f.now).mul c.now (at (F.ops f.now) row.now j))) }
 {
-    let mut items = Vector::new(alloc);
+    let mut items = List::new(alloc);
     for j in 0..row.len() {
         items.push(f.mul(alloc, c, &row[j])?)?;
     }
@@ -56,17 +55,20 @@ fn scale<F: Field>(
     alloc: Global,
     f: &F,
     zero: &F::Elem,
-    row: &mut [F::Elem],
+    row: &mut Vector<F>,
     c: &F::Elem,
 ) -> Result<(), NoMemory>
     requires zero { zero.now ≡ (F.ops f.now).zero }
     requires row { All (IsElem (F.ops f.now)) row.old }
     requires factor { IsElem (F.ops f.now) c.now }
-    ensures { OnOk result (row.new ≡ table (length row.old) (λ j. (F.ops f.now).mul c.now (at (F.ops f.now) row.old j))) }
+    ensures { OnOk result (row.new ≡ table (length row.old) (λ j.
+        (F.ops f.now).mul c.now (at (F.ops f.now) row.old j))) }
 {
     for j in 0..row.len() {
-        if !f.eq(&row[j], zero) {
-            row[j] = f.mul(alloc, c, &row[j])?;
+        let item = &row.as_slice()[j];
+        if !f.eq(item, zero) {
+            let product = f.mul(alloc, c, item)?;
+            row.set(j, product);
         }
     }
     Ok(())
@@ -77,7 +79,7 @@ fn add_multiple<F: Field>(
     alloc: Global,
     f: &F,
     zero: &F::Elem,
-    row: &mut [F::Elem],
+    row: &mut Vector<F>,
     c: &F::Elem,
     other: &[F::Elem],
 ) -> Result<(), NoMemory>
@@ -85,102 +87,61 @@ fn add_multiple<F: Field>(
     requires row { All (IsElem (F.ops f.now)) row.old }
     requires factor { IsElem (F.ops f.now) c.now }
     requires other { IsTuple (F.ops f.now) (length row.old) other.now }
-    ensures { OnOk result (row.new ≡ table (length row.old) (λ j. (F.ops f.now).add (at (F.ops f.now) row.old j) ((F.ops f.now).mul c.now (at (F.ops f.now) other.now j)))) }
+    ensures { OnOk result (row.new ≡ table (length row.old) (λ j.
+        (F.ops f.now).add (at (F.ops f.now) row.old j) ((F.ops f.now).mul c.now (at (F.ops f.now) other.now j)))) }
 {
     for j in 0..row.len() {
         if !f.eq(&other[j], zero) {
             let term = f.mul(alloc, c, &other[j])?;
-            row[j] = f.add(alloc, &row[j], &term)?;
+            let sum = f.add(alloc, &row.as_slice()[j], &term)?;
+            row.set(j, sum);
         }
     }
     Ok(())
 }
 
-/// A row that is changed in place. Contracts see it as a list.
-#[derive(Drop)]
-pub(crate) struct Row<F: Field> {
-    items: Vec<F::Elem>,
+/// Divides the row by its item in column col.
+pub(crate) fn divide<F: Field>(
+    alloc: Global,
+    f: &F,
+    zero: &F::Elem,
+    row: &mut Vector<F>,
+    col: usize,
+) -> Result<(), NoMemory>
+    requires zero { zero.now ≡ (F.ops f.now).zero }
+    requires row { All (IsElem (F.ops f.now)) row.old }
+    requires column { col < length row.old }
+    requires nonzero { at (F.ops f.now) row.old col ≢ (F.ops f.now).zero }
+    ensures { OnOk result (row.new ≡ divided (F.ops f.now) (length row.old) row.old col) }
+{
+    let factor = match f.inv(alloc, &row.as_slice()[col])? {
+        Some(factor) => factor,
+        None => unreachable!(),
+    };
+    scale(alloc, f, zero, row, &factor)?;
+    Ok(())
 }
 
-impl<F: Field> Model for Row<F> {
-    ghost use Rattle.std.specs.Prelude.{List};
-
-    ghost Value = { List F.Elem };
-
-    ghost view = { λ r. r.items.items };
-}
-
-impl<F: Field> Row<F> {
-    pub(crate) fn new(alloc: Global) -> Self
-        ensures { result ≡ [] }
-    {
-        Row {
-            items: Vec::new(alloc),
-        }
+/// Subtracts the multiple of the lead that clears column col. A row that is 0 there stays as it is.
+pub(crate) fn reduce<F: Field>(
+    alloc: Global,
+    f: &F,
+    zero: &F::Elem,
+    row: &mut Vector<F>,
+    col: usize,
+    lead: &[F::Elem],
+) -> Result<(), NoMemory>
+    requires zero { zero.now ≡ (F.ops f.now).zero }
+    requires row { All (IsElem (F.ops f.now)) row.old }
+    requires lead { IsTuple (F.ops f.now) (length row.old) lead.now }
+    requires column { col < length row.old }
+    ensures { OnOk result (row.new ≡ reduced_by (F.ops f.now) (length row.old) row.old col lead.now) }
+{
+    let item = &row.as_slice()[col];
+    if f.eq(item, zero) {
+        return Ok(());
     }
-
-    pub(crate) fn push(&mut self, item: F::Elem) -> Result<(), NoMemory>
-        ensures ok { OnOk result (self.new ≡ self.old ++ item ∷ []) }
-        ensures err { OnErr result (self.new ≡ self.old) }
-    {
-        self.items.push(item)?;
-        Ok(())
-    }
-
-    pub(crate) fn as_slice(&self) -> &[F::Elem]
-        ensures { result.now ≡ self.now }
-    {
-        self.items.as_slice()
-    }
-
-    pub(crate) fn into_vector(self) -> Vector<F>
-        ensures { result ≡ self }
-    {
-        Vector::from_vec(self.items)
-    }
-
-    /// Divides the row by its item in column col.
-    pub(crate) fn divide(
-        &mut self,
-        alloc: Global,
-        f: &F,
-        zero: &F::Elem,
-        col: usize,
-    ) -> Result<(), NoMemory>
-        requires zero { zero.now ≡ (F.ops f.now).zero }
-        requires row { All (IsElem (F.ops f.now)) self.old }
-        requires column { col < length self.old }
-        requires nonzero { at (F.ops f.now) self.old col ≢ (F.ops f.now).zero }
-        ensures { OnOk result (self.new ≡ divided (F.ops f.now) (length self.old) self.old col) }
-    {
-        let factor = match f.inv(alloc, &self.items[col])? {
-            Some(factor) => factor,
-            None => unreachable!(),
-        };
-        scale(alloc, f, zero, &mut self.items, &factor)?;
-        Ok(())
-    }
-
-    /// Subtracts the multiple of the lead that clears column col. A row that is 0 there stays as it is.
-    pub(crate) fn reduce(
-        &mut self,
-        alloc: Global,
-        f: &F,
-        zero: &F::Elem,
-        col: usize,
-        lead: &[F::Elem],
-    ) -> Result<(), NoMemory>
-        requires zero { zero.now ≡ (F.ops f.now).zero }
-        requires row { All (IsElem (F.ops f.now)) self.old }
-        requires lead { IsTuple (F.ops f.now) (length self.old) lead.now }
-        requires column { col < length self.old }
-        ensures { OnOk result (self.new ≡ reduced_by (F.ops f.now) (length self.old) self.old col lead.now) }
-    {
-        if f.eq(&self.items[col], zero) {
-            return Ok(());
-        }
-        let c = f.neg(alloc, &self.items[col])?;
-        add_multiple(alloc, f, zero, &mut self.items, &c, lead)?;
-        Ok(())
-    }
+    let c = f.neg(alloc, item)?;
+    add_multiple(alloc, f, zero, row, &c, lead)?;
+    Ok(())
 }

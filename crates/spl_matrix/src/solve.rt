@@ -12,7 +12,7 @@ use crate::echelon::{Echelon, echelon_of};
 use crate::matrix::Matrix;
 use crate::rows::{dot_of, scaled};
 use spl_field::field::{Field, NoMemory};
-use spl_field::list::Vector;
+use spl_field::list::{List, Vector};
 use std::alloc::{AllocError, Global};
 
 /// m·v
@@ -27,7 +27,7 @@ fn image_of<F: Field>(
     ensures elem { IfOk result (IsTuple (F.ops f.now) (length m.now)) }
     ensures value { IfOk result (λ r. r ≡ image (F.ops f.now) (length m.now) (length v.now) m.now v.now) }
 {
-    let mut items = Vector::new(alloc);
+    let mut items = List::new(alloc);
     for i in 0..m.len() {
         let item = dot_of(alloc, f, m[i].as_slice(), v)?;
         items.push(item)?;
@@ -87,7 +87,7 @@ fn scattered<F: Field>(
     ensures elem { IfOk result (IsTuple (F.ops f.now) w) }
     ensures value { IfOk result (λ v. (j : ℕ) → j < w → IsScattered (F.ops f.now) pivots.now c.now j (at (F.ops f.now) v j)) }
 {
-    let mut items = Vector::new(alloc);
+    let mut items = List::new(alloc);
     for j in 0..w {
         let item = scattered_item(alloc, f, pivots, c, j)?;
         items.push(item)?;

@@ -17,10 +17,15 @@ use std::marker::Model;
 
 /// A subspace of the tuples of `width` elements of a field, by its one basis in reduced row echelon form (Lang, Linear
 /// Algebra). Whose elements they are, and that the basis is reduced, is a condition of the calls that take it.
-#[derive(Drop)]
 pub struct Subspace<F: Field> {
     width: usize,
     rows: Matrix<F>,
+}
+
+impl<F: Field> Drop for Subspace<F> {
+    fn drop(self) {
+        let Subspace { width, rows } = self;
+    }
 }
 
 impl<F: Field> Model for Subspace<F> {

@@ -34,7 +34,7 @@ clear_column-requires-clause-lead g c =
     let r_in : r < length swapped = omega (arith, c.swap.ensures.len) in
     let row_is : c.replace-lead.result ≡ get_or rows p [] = c.replace-lead.ensures.value ∙ get_or_default swapped r _ [] r_in ∙ c.swap.ensures.by_index.1 [] in
     let lead_is : c.as_slice.result.now ≡ lead_of o n rows p c.args.col =
-    c.as_slice.ensures ∙ lead_by o n rows p c.args.col c.replace-lead.result c.divide.new.self row_is (c.requires.shape p [] c.requires.from_row).right_length c.in_ok-divide.ensures in
+    c.as_slice.ensures ∙ lead_by o n rows p c.args.col c.replace-lead.result c.divide.new.row row_is (c.requires.shape p [] c.requires.from_row).right_length c.in_ok-divide.ensures in
     subst (IsTuple o n) (sym lead_is) (lead_of-tuple o L n rows p c.args.col c.requires.shape)
 
 pub returns : goal.returns
@@ -50,8 +50,8 @@ returns g c =
     let taken_is : taken ≡ set swapped r [] = ap (set swapped r) (c.replace-lead.ensures.after ∙ c.new.ensures) in
     let r_in : r < length swapped = omega (arith, c.swap.ensures.len) in
     let row_is : c.replace-lead.result ≡ get_or rows p [] = c.replace-lead.ensures.value ∙ get_or_default swapped r _ [] r_in ∙ c.swap.ensures.by_index.1 [] in
-    let lead_is : c.divide.new.self ≡ lead_of o n rows p col =
-    lead_by o n rows p col c.replace-lead.result c.divide.new.self row_is (c.requires.shape p [] c.requires.from_row).right_length c.in_ok-divide.ensures in
+    let lead_is : c.divide.new.row ≡ lead_of o n rows p col =
+    lead_by o n rows p col c.replace-lead.result c.divide.new.row row_is (c.requires.shape p [] c.requires.from_row).right_length c.in_ok-divide.ensures in
     let lead = c.as_slice.result.now in
     let cleared = c.clear_column.new.rows in
     pivoted_by o n rows swapped taken cleared (set cleared r c.swap-2.new.x) p r col lead c.requires.to_row c.swap.ensures.len c.swap.ensures.by_index taken_is

@@ -17,6 +17,6 @@ returns-clause-same g c =
     let P : List (List g.row.F-Elem.Denot) → Type 0 = λ m. IsEliminated o (length m) w w m new pivots in
     let e = subst P before_is c.in_ok-pivots.ensures in
     let kept = take_at new (drop (length new) c.in_ok-changed.changed.items) c.in_ok-changed.changed.len (e.height ∙ sym (ap length before_is) ∙ c.deref_mut.ensures.len) in
-    let is : c.in_ok-rows.rows ≡ new = c.in_ok-rows.ensures ∙ c.deref_mut-2.ensures.value ∙ kept in
+    let is : c.from_rows.result ≡ new = c.from_rows.ensures ∙ kept in
     let Q : List (List g.row.F-Elem.Denot) → Type 0 = λ m. SameSpan o w rows m in
     subst Q (sym is) (same_span o L w w rows new pivots c.requires.shape e)

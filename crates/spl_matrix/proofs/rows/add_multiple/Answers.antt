@@ -1,14 +1,14 @@
 use Rattle.std.proofs.Common.{◌≡◌, ℕ, ◌<◌, length, refl, subst, ◌∙◌, sym, ap, ap₂, arith}
-use Rattle.std.proofs.lemmas.List.{get_or_default}
+use Rattle.std.proofs.Math.ListN.{set}
 use Rattle.std.proofs.lemmas.List.Elements.{All-set}
 use Rattle.theory_rings.specs.Ops.{IsElem}
 use Rattle.theory_rings.specs.Sum.{at}
 use Rattle.theory_rings.proofs.Rings.Elements.{at-elem}
-use Rattle.spl_matrix.proofs.Changes.{ChangedBelow, ChangedBelow-set, ChangedBelow-skip, ChangedBelow-all}
+use Rattle.spl_matrix.proofs.Changes.{ChangedBelow, ChangedBelow-set, ChangedBelow-skip, ChangedBelow-all, read_slice}
 use Rattle.theory_tables.proofs.Sums.{read_at}
 use Rattle.theory_tables.proofs.Terms.{add-zero, mul-zero}
 use Rattle.spl_matrix.proofs.rows.add_multiple.Goals as goal
-use Rattle.spl_matrix.proofs.rows.add_multiple.Goals.{then-not-eq+in_ok-term+in_ok-row, else-not-eq}
+use Rattle.spl_matrix.proofs.rows.add_multiple.Goals.{then-not-eq+in_ok-term+in_ok-sum, else-not-eq}
 
 pub loop-j-preserved : goal.loop-j-preserved
 loop-j-preserved g c =
@@ -25,13 +25,16 @@ loop-j-preserved g c =
     let j_other : j < length other = omega (arith, c.requires.other.right_length) in
     let here : at o row j ≡ at o old j = inv.changed.rest j (omega arith) in
     elim c.if-not-eq.branch [
-      | then-not-eq+in_ok-term+in_ok-row w ↦
-          let y = w.in_ok-row.field-0 in
+      | then-not-eq+in_ok-term+in_ok-sum w ↦
+          let y = w.in_ok-sum.sum in
+          let x = w.index-as_slice-j.result in
+          let read : x ≡ at o row j = read_slice o row w.as_slice.result.now j x w.as_slice.ensures j_in w.index-as_slice-j.is in
           let term : w.in_ok-term.term ≡ o.mul factor (at o other j) =
           w.in_ok-term.ensures.value ∙ ap (o.mul factor) (read_at o other j w.index-other-j-then-not-eq.result j_other w.index-other-j-then-not-eq.is) in
-          let value : y ≡ f j = w.in_ok-row.ensures.value ∙ ap₂ o.add (get_or_default row j _ o.zero j_in ∙ here) term in
-          rw w.row-is record {
-            elems = All-set (IsElem o) row j y w.in_ok-row.ensures.elem inv.elems;
+          let value : y ≡ f j = w.in_ok-sum.ensures.value ∙ ap₂ o.add (read ∙ here) term in
+          let is : c.if-not-eq.row ≡ set row j y = w.row-is ∙ w.set.ensures in
+          rw is record {
+            elems = All-set (IsElem o) row j y w.in_ok-sum.ensures.elem inv.elems;
             changed = ChangedBelow-set o.zero j old row f y j_in inv.changed value;
           }
       | else-not-eq w ↦
