@@ -10,6 +10,7 @@ ghost use Rattle.spl_matrix.specs.Spanning.{IsLeadingPlace};
 
 use crate::matrix::Indices;
 use crate::reduced::{Reduced, reduced_rows};
+use crate::rows::add_product;
 use spl_field::field::{Field, NoMemory};
 use spl_field::list::{List, Vector};
 use std::alloc::Global;
@@ -76,40 +77,14 @@ pub(crate) fn gathered<F: Field>(
     requires elems { All (IsElem (F.ops f.now)) v.now }
     requires within { (s : ℕ) → s < length places.now → get_or places.now s 0 < length v.now }
     ensures elem { IfOk result (IsTuple (F.ops f.now) (length places.now)) }
-    ensures value { IfOk result (λ c. c ≡ table (length places.now) (λ s. at (F.ops f.now) v.now (get_or places.now s 0))) }
+    ensures value { IfOk result (λ c. c ≡ table (length places.now) (λ s.
+        at (F.ops f.now) v.now (get_or places.now s 0))) }
 {
     let mut items = List::new(alloc);
     for s in 0..places.len() {
         items.push(f.copy(alloc, &v[places[s]])?)?;
     }
     Ok(items)
-}
-
-/// sum + a·b; a factor 0 costs no product.
-fn add_product<F: Field>(
-    alloc: Global,
-    f: &F,
-    zero: &F::Elem,
-    sum: F::Elem,
-    a: &F::Elem,
-    b: &F::Elem,
-) -> Result<F::Elem, NoMemory>
-    requires zero_elem { IsElem (F.ops f.now) zero.now }
-    requires zero { zero.now ≡ (F.ops f.now).zero }
-    requires sum { IsElem (F.ops f.now) sum }
-    requires left { IsElem (F.ops f.now) a.now }
-    requires right { IsElem (F.ops f.now) b.now }
-    ensures elem { IfOk result (IsElem (F.ops f.now)) }
-    ensures value { IfOk result (λ r. r ≡ (F.ops f.now).add sum ((F.ops f.now).mul a.now b.now)) }
-{
-    if f.eq(a, zero) {
-        return Ok(sum);
-    }
-    if f.eq(b, zero) {
-        return Ok(sum);
-    }
-    let term = f.mul(alloc, a, b)?;
-    f.add(alloc, &sum, &term)
 }
 
 /// Item j of the combination of the rows by c.
@@ -128,7 +103,8 @@ fn combined_item<F: Field>(
     requires zero { zero.now ≡ (F.ops f.now).zero }
     requires column { j < w }
     ensures elem { IfOk result (IsElem (F.ops f.now)) }
-    ensures value { IfOk result (λ r. r ≡ sum_of (F.ops f.now) (length rows.now) (λ i. (F.ops f.now).mul (at (F.ops f.now) c.now i) (entry (F.ops f.now) rows.now i j))) }
+    ensures value { IfOk result (λ r. r ≡ sum_of (F.ops f.now) (length rows.now) (λ i.
+        (F.ops f.now).mul (at (F.ops f.now) c.now i) (entry (F.ops f.now) rows.now i j))) }
 {
     let mut sum = f.zero(alloc)?;
     for i in 0..rows.len() {
@@ -148,7 +124,9 @@ pub(crate) fn is_combination<F: Field>(
     requires shape { IsMatrix (F.ops f.now) (length v.now) rows.now }
     requires weights { IsTuple (F.ops f.now) (length rows.now) c.now }
     requires vector { All (IsElem (F.ops f.now)) v.now }
-    ensures { IfOk result (λ b. IsTrue b ↔ ((j : ℕ) → j < length v.now → at (F.ops f.now) v.now j ≡ sum_of (F.ops f.now) (length rows.now) (λ i. (F.ops f.now).mul (at (F.ops f.now) c.now i) (entry (F.ops f.now) rows.now i j)))) }
+    ensures { IfOk result (λ b. IsTrue b ↔ ((j : ℕ) → j < length v.now →
+        at (F.ops f.now) v.now j ≡ sum_of (F.ops f.now) (length rows.now) (λ i.
+        (F.ops f.now).mul (at (F.ops f.now) c.now i) (entry (F.ops f.now) rows.now i j)))) }
 {
     let zero = f.zero(alloc)?;
     for j in 0..v.len() {

@@ -1,5 +1,6 @@
 // The reduced row echelon form.
-ghost use Rattle.std.specs.Prelude.{◌≡◌, ◌≢◌, ◌+◌, ◌^◌, ◌<◌, ◌≤◌, ◌↔◌, ℕ, List, [], ◌∷◌, ◌++◌, length, IfOk, IfSome, OnOk, OnErr, MatchOption, get_or, All};
+ghost use Rattle.std.specs.Prelude.{◌≡◌, ◌≢◌, ◌+◌, ◌^◌, ◌<◌, ◌≤◌, ◌↔◌, ℕ, List, [], ◌∷◌, ◌++◌, length, IfOk, IfSome};
+ghost use Rattle.std.specs.Prelude.{OnOk, OnErr, MatchOption, get_or, All};
 ghost use Rattle.theory_rings.specs.Ops.{IsElem};
 ghost use Rattle.theory_rings.specs.Sum.{sum_of, table, at};
 ghost use Rattle.theory_spaces.specs.Tuples.{IsTuple};
@@ -88,7 +89,8 @@ impl<F: Field> Matrix<F> {
     /// The reduced row echelon form.
     pub fn echelon(&self, alloc: Global, f: &F) -> Result<Echelon<F>, NoMemory>
         requires { All (All (IsElem (F.ops f.now))) self.now }
-        ensures { IfOk result (λ e. IsEchelon (F.ops f.now) (length self.now) (width_of self.now) self.now e.rows e.pivots e.transform) }
+        ensures { IfOk result (λ e.
+            IsEchelon (F.ops f.now) (length self.now) (width_of self.now) self.now e.rows e.pivots e.transform) }
     {
         let w = self.width();
         match w.checked_add(self.len()) {

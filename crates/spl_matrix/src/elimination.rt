@@ -1,5 +1,7 @@
-// The elimination, in place: the pivot of one column after the other is moved to its row and cleared from the other rows.
-ghost use Rattle.std.specs.Prelude.{◌≡◌, ◌≢◌, ◌+◌, ◌^◌, ◌<◌, ◌≤◌, ℕ, List, [], length, IfOk, OnOk, MatchOption, get_or, All};
+// The elimination, in place: the pivot of one column after the other is moved to its row and cleared from the other
+// rows.
+ghost use Rattle.std.specs.Prelude.{◌≡◌, ◌≢◌, ◌+◌, ◌^◌, ◌<◌, ◌≤◌, ℕ, List, [], length, IfOk, OnOk, MatchOption};
+ghost use Rattle.std.specs.Prelude.{get_or, All};
 ghost use Rattle.theory_rings.specs.Ops.{IsElem};
 ghost use Rattle.theory_rings.specs.Sum.{table, at};
 ghost use Rattle.theory_spaces.specs.Tuples.{IsTuple};
@@ -24,7 +26,9 @@ fn find_pivot<F: Field>(
 ) -> Result<Option<usize>, NoMemory>
     requires shape { IsMatrix (F.ops f.now) n rows.now }
     requires column { col < n }
-    ensures { IfOk result (λ o. MatchOption o ((i : ℕ) → r ≤ i → i < length rows.now → entry (F.ops f.now) rows.now i col ≡ (F.ops f.now).zero) (λ p. (r ≤ p) × (p < length rows.now) × (entry (F.ops f.now) rows.now p col ≢ (F.ops f.now).zero))) }
+    ensures { IfOk result (λ o. MatchOption o
+        ((i : ℕ) → r ≤ i → i < length rows.now → entry (F.ops f.now) rows.now i col ≡ (F.ops f.now).zero)
+        (λ p. (r ≤ p) × (p < length rows.now) × (entry (F.ops f.now) rows.now p col ≢ (F.ops f.now).zero))) }
 {
     let zero = f.zero(alloc)?;
     for i in r..rows.len() {

@@ -35,7 +35,8 @@ impl<F: Field> Matrix<F> {
     pub fn inverse(&self, alloc: Global, f: &F) -> Result<Option<Matrix<F>>, NoMemory>
         requires elems { All (All (IsElem (F.ops f.now))) self.now }
         requires square { width_of self.now ≡ length self.now }
-        ensures none { IfOk result (λ r. (r ≡ None) ↔ AreDependent (F.ops f.now) (length self.now) (length self.now) self.now) }
+        ensures none { IfOk result (λ r.
+            (r ≡ None) ↔ AreDependent (F.ops f.now) (length self.now) (length self.now) self.now) }
         ensures some { IfOk result (λ r. IfSome r (IsInverse (F.ops f.now) (length self.now) self.now)) }
     {
         let h = self.width();

@@ -164,7 +164,8 @@ impl<F: Field> Matrix<F> {
         requires rows { 1 ≤ length self.now }
         ensures basis { IfOk result (λ s. IsSubspace (F.ops f.now) s) }
         ensures width { IfOk result (λ s. s.width ≡ width_of self.now) }
-        ensures members { IfOk result (λ s. SpansKernel (F.ops f.now) (length self.now) (width_of self.now) self.now s.rows) }
+        ensures members { IfOk result (λ s.
+            SpansKernel (F.ops f.now) (length self.now) (width_of self.now) self.now s.rows) }
     {
         kernel_of(alloc, f, self.width(), self.as_slice())
     }

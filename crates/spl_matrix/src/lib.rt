@@ -13,6 +13,6 @@ pub mod lists;
 pub mod matrix;
 mod meet;
 mod reduced;
-mod rows;
+pub mod rows;
 pub mod solve;
 pub mod subspace;

@@ -10,6 +10,33 @@ use spl_field::field::{Field, NoMemory};
 use spl_field::list::{List, Vector};
 use std::alloc::Global;
 
+/// sum + a·b; a factor 0 costs no product.
+pub fn add_product<F: Field>(
+    alloc: Global,
+    f: &F,
+    zero: &F::Elem,
+    sum: F::Elem,
+    a: &F::Elem,
+    b: &F::Elem,
+) -> Result<F::Elem, NoMemory>
+    requires zero_elem { IsElem (F.ops f.now) zero.now }
+    requires zero { zero.now ≡ (F.ops f.now).zero }
+    requires sum { IsElem (F.ops f.now) sum }
+    requires left { IsElem (F.ops f.now) a.now }
+    requires right { IsElem (F.ops f.now) b.now }
+    ensures elem { IfOk result (IsElem (F.ops f.now)) }
+    ensures value { IfOk result (λ r. r ≡ (F.ops f.now).add sum ((F.ops f.now).mul a.now b.now)) }
+{
+    if f.eq(a, zero) {
+        return Ok(sum);
+    }
+    if f.eq(b, zero) {
+        return Ok(sum);
+    }
+    let term = f.mul(alloc, a, b)?;
+    f.add(alloc, &sum, &term)
+}
+
 /// The sum of the products of the items of two tuples of one length.
 pub(crate) fn dot_of<F: Field>(
     alloc: Global,
@@ -41,7 +68,8 @@ pub(crate) fn scaled<F: Field>(
     requires factor { IsElem (F.ops f.now) c.now }
     requires row { All (IsElem (F.ops f.now)) row.now }
     ensures elem { IfOk result (IsTuple (F.ops f.now) (length row.now)) }
-    ensures value { IfOk result (λ r. r ≡ table (length row.now) (λ j. (F.ops f.now).mul c.now (at (F.ops f.now) row.now j))) }
+    ensures value { IfOk result (λ r. r ≡ table (length row.now) (λ j.
+        (F.ops f.now).mul c.now (at (F.ops f.now) row.now j))) }
 {
     let mut items = List::new(alloc);
     for j in 0..row.len() {

@@ -43,7 +43,9 @@ fn find_nonzero<F: Field>(
     r: usize,
 ) -> Result<Option<usize>, NoMemory>
     requires { All (IsElem (F.ops f.now)) v.now }
-    ensures { IfOk result (λ o. MatchOption o ((i : ℕ) → r ≤ i → i < length v.now → at (F.ops f.now) v.now i ≡ (F.ops f.now).zero) (λ i. (r ≤ i) × (i < length v.now) × (at (F.ops f.now) v.now i ≢ (F.ops f.now).zero))) }
+    ensures { IfOk result (λ o. MatchOption o
+        ((i : ℕ) → r ≤ i → i < length v.now → at (F.ops f.now) v.now i ≡ (F.ops f.now).zero)
+        (λ i. (r ≤ i) × (i < length v.now) × (at (F.ops f.now) v.now i ≢ (F.ops f.now).zero))) }
 {
     let zero = f.zero(alloc)?;
     for i in r..v.len() {
@@ -85,7 +87,8 @@ fn scattered<F: Field>(
     requires elems { All (IsElem (F.ops f.now)) c.now }
     requires enough { length pivots.now ≤ length c.now }
     ensures elem { IfOk result (IsTuple (F.ops f.now) w) }
-    ensures value { IfOk result (λ v. (j : ℕ) → j < w → IsScattered (F.ops f.now) pivots.now c.now j (at (F.ops f.now) v j)) }
+    ensures value { IfOk result (λ v. (j : ℕ) → j < w →
+        IsScattered (F.ops f.now) pivots.now c.now j (at (F.ops f.now) v j)) }
 {
     let mut items = List::new(alloc);
     for j in 0..w {

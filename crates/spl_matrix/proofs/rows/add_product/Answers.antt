@@ -1,6 +1,6 @@
 use Rattle.std.proofs.Common.{refl, ◌∙◌}
 use Rattle.theory_tables.proofs.Spans.{add_zero_left, add_zero_right}
-use Rattle.spl_matrix.proofs.basis.add_product.Goals as goal
+use Rattle.spl_matrix.proofs.rows.add_product.Goals as goal
 
 pub returns-then-eq-clause-value : goal.returns-then-eq-clause-value
 returns-then-eq-clause-value g c =
