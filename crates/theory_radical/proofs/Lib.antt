@@ -9,6 +9,7 @@ pub mod MatrixCorners
 pub mod Cores
 pub mod Fitting
 pub mod NilIdeals
+pub mod IdealPowers
 pub mod LiftRings
 pub mod LiftedMatrices
 pub mod RegularMatrices

@@ -1,9 +1,10 @@
 // Theorems on nilpotent elements and ideals of finite-dimensional algebras.
-ghost use Rattle.std.specs.Prelude.{ℕ};
+ghost use Rattle.std.specs.Prelude.{ℕ, suc, ◌↔◌};
 ghost use Rattle.theory_rings.specs.Ring.{FieldOn};
 ghost use Rattle.theory_spaces.specs.Module.{AlgebraOn, module_of};
 ghost use Rattle.theory_spaces.specs.Linear.{Basis};
 ghost use Rattle.theory_spaces.specs.Algebra.{IsNilpotent};
+ghost use Rattle.theory_spaces.specs.Sets.{Within, Zero, Power, ring_ops};
 ghost use Rattle.theory_radical.specs.Ideal.{IsIdeal, ProductsVanish, IsNilpotentIdeal, IsNilSubalgebra, FittingIdempotent};
 
 use theory_spaces::algebra_laws::BasedAlgebra;
@@ -34,4 +35,10 @@ pub trait AlgebraSubset {
 pub fn nil_ideals_are_nilpotent<J: AlgebraSubset>()
     ensures products { IsNilSubalgebra J.algebra J.Subset → ProductsVanish J.algebra.ring J.Subset J.dimension }
     ensures ideal { IsIdeal J.algebra.ring J.Subset → ((x : J.Vector) → J.Subset x → IsNilpotent J.algebra.ring x) → IsNilpotentIdeal J.algebra.ring J.Subset }
+{}
+
+/// The power e + 1 of an ideal is 0 just where products of e + 1 members are.
+pub fn powers_and_products<J: AlgebraSubset>()
+    ensures { IsIdeal J.algebra.ring J.Subset → (e : ℕ)
+        → Within (Power (ring_ops J.algebra.ring) J.Subset e) (Zero (ring_ops J.algebra.ring)) ↔ ProductsVanish J.algebra.ring J.Subset (suc e) }
 {}
