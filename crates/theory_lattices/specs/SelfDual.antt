@@ -20,9 +20,9 @@ pub record ClosedWeights {K : Type 0} (F : FieldOn K) (P : K → Type 0) : Type 
   pub mul_in : (a b : K) → P a → P b → P (F.◌⊗◌ a b)
 
 module _ {K V : Type 0} (F : FieldOn K) (W : DegreeOn F.ring) (A : AlgebraOn F.ring V) (P : K → Type 0) where
-  -- two sets that are closed under products; the finite one holds all that pairs with it into P, the infinite one all that pairs
-  -- with it into the elements of degree at most 0; the trace is linear, the same for both orders of a product, and 0 at
-  -- nilpotent elements
+  -- two sets that are closed under products; the finite one holds all that pairs with it into P, the infinite one all
+  -- that pairs with it into the elements of degree at most 0; the trace is linear, the same for both orders of a
+  -- product, and 0 at nilpotent elements
   pub record SelfDualPair (finite infinite : V → Type 0) (tr : V → K) : Type 0 where
     pub finite-mul : (x y : V) → finite x → finite y → finite (A.◌⊗◌ x y)
     pub infinite-mul : (x y : V) → infinite x → infinite y → infinite (A.◌⊗◌ x y)

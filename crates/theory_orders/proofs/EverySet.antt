@@ -1,5 +1,5 @@
--- What the definitions ask of the ideals that tests tell holds of each set: the ideal that one member of it generates is a
--- lattice, and so it is told by a test.
+-- What the definitions ask of the ideals that tests tell holds of each set: the ideal that one member of it generates
+-- is a lattice, and so it is told by a test.
 use Rattle.std.specs.Prelude.{ℕ, Bool, ◌⊎◌}
 use Rattle.std.proofs.Common.{sym, ◌∙◌, ap, subst, inl, inr, ⊎_elim}
 use Rattle.theory_rings.specs.Ring.{FieldOn}
@@ -9,7 +9,8 @@ use Rattle.theory_spaces.specs.Valuation.{ValuationOn, integers, restrict}
 use Rattle.theory_spaces.proofs.Modules.{InSpan-scale, span_in}
 use Rattle.theory_spaces.proofs.Spaces.{coords_of}
 use Rattle.theory_orders.specs.Uniformizer.{UniformizerOn}
-use Rattle.theory_orders.specs.Orders.{IsOrder, IsIdeal, Around, Generated, Multiple, Power, Radical, SimpleQuotient, IsMaximalIdeal, OnlyMaximalIdeal, Within, Same, Test}
+use Rattle.theory_orders.specs.Orders.{IsOrder, IsIdeal, Around, Generated, Multiple, Power, Radical, SimpleQuotient}
+use Rattle.theory_orders.specs.Orders.{IsMaximalIdeal, OnlyMaximalIdeal, Within, Same, Test}
 use Rattle.theory_orders.specs.Lattices.{Lattice, IsOrderAt}
 use Rattle.theory_orders.specs.MaximalIdealLaws.{RadicalHolds, SimpleHolds, OnlyHolds}
 use Rattle.theory_orders.proofs.Ideals.{ideal_same, whole, generated_in}
@@ -17,7 +18,8 @@ use Rattle.theory_orders.proofs.LeftOrders.{Power_map}
 use Rattle.theory_orders.proofs.Multiples.{Multiple-ideal}
 use Rattle.theory_orders.proofs.Scaling.{Lam_scale}
 use Rattle.theory_orders.proofs.LatticeTests.{lattice_test, lattice_test-in, in-lattice_test}
-use Rattle.theory_orders.proofs.SimpleQuotients.{simple_by_elements, one_or_within, size, vec, each, J_Gen, T_Gen, Gen_ideal}
+use Rattle.theory_orders.proofs.SimpleQuotients.{simple_by_elements, one_or_within, size, vec, each, J_Gen, T_Gen}
+use Rattle.theory_orders.proofs.SimpleQuotients.{Gen_ideal}
 use Rattle.theory_orders.proofs.Composition.{multiple_same}
 use Rattle.theory_orders.proofs.OnlyMaximal.{not_one, within_maximal}
 
@@ -93,7 +95,8 @@ module _ {K V : Type 0} (F : FieldOn K) (Z : ValuationOn F) (p q : K) (U : Unifo
         x_in = T_Gen F Z A N C N os N ps O P_ideal x (I.inside x h) x
             (inl (A.one, A.one, O.one_in, O.one_in, sym (A.mul-one (A.one ⊗ x) ∙ A.one-mul x)))
 
-        in_radical : (m : ℕ) (w : ℕ → V) → Radical A p L (Lattice F Z A m w) → (e : ℕ) → Within (Power A T e) P → Lattice F Z A m w x
+        in_radical : (m : ℕ) (w : ℕ → V) → Radical A p L (Lattice F Z A m w) → (e : ℕ) → Within (Power A T e) P
+            → Lattice F Z A m w x
         in_radical m w R e falls = R.largest t e
             (ideal_same A L Gen (Test t) t_same (Gen_ideal F Z A N C N os N ps O P_ideal x (I.inside x h)))
             (λ y s. t_same.0 y (J_Gen F Z A N C N os N ps O P_ideal x (I.inside x h) y (P_same.0 y s)))
@@ -107,7 +110,8 @@ module _ {K V : Type 0} (F : FieldOn K) (Z : ValuationOn F) (p q : K) (U : Unifo
       let L = Lattice F Z A N v in
       let J = Lattice F Z A m w in
       ⊎_elim inl
-      (λ (r : Generated A L J x A.one). inr (whole A L J D.order (T i) IT (generated_in A L J D.order (T i) IT over x h A.one r)))
+      (λ (r : Generated A L J x A.one). inr (whole A L J D.order (T i) IT
+      (generated_in A L J D.order (T i) IT over x h A.one r)))
       ((simple_by_elements F Z A N C N v m w D.order I S).generates x (IT.inside x h))
 
   pub only_holds : {X : Type 0} (T : X → V → Type 0) → OnlyHolds F Z p A N T
@@ -117,5 +121,8 @@ module _ {K V : Type 0} (F : FieldOn K) (Z : ValuationOn F) (p q : K) (U : Unifo
       let S = simple_by_elements F Z A N C N v m w D.order H.maximal.ideal H.maximal.simple in
       let inside : Within (T i) J = λ x h. ⊎_elim (λ j. j)
       (λ (one : T i A.one). absurd (not_one F Z p q U A N B v D (T i) t one))
-      (one_or_within A L J D.order S p H.maximal.ideal H.maximal.over H.exponent H.power.0 (T i) t.ideal t.over x h) in
-      (inside, within_maximal F Z p q U A N B v D (T i) t m w H.maximal.ideal (not_one F Z p q U A N B v D J H.maximal) inside)
+      (one_or_within A L J D.order S p H.maximal.ideal H.maximal.over H.exponent H.power.0 (T i) t.ideal t.over x h) in (
+        inside,
+        within_maximal F Z p q U A N B v D (T i) t m w H.maximal.ideal
+            (not_one F Z p q U A N B v D J H.maximal) inside,
+      )

@@ -6,7 +6,7 @@ use Rattle.theory_rings.proofs.Rings.RingLaws.{add_add_add_comm}
 use Rattle.theory_spaces.specs.Module.{AlgebraOn}
 use Rattle.theory_spaces.specs.Sets.{ring_ops}
 use Rattle.theory_spaces.proofs.SetLemmas as lemmas
-use Rattle.theory_orders.specs.Orders.{IsOrder, IsIdeal, Around, Generated, SimpleQuotient, SimpleByElements, Within, Same, Test}
+use Rattle.theory_orders.specs.Orders.{IsOrder, IsIdeal, Around, Generated, SimpleQuotient, SimpleByElements, Within, Same}
 use Rattle.theory_orders.proofs.SumsOf.{SumOf_in, SumOf_map}
 
 abbrev pub Both : {V : Type 0} → (V → Type 0) → (V → Type 0) → V → Type 0

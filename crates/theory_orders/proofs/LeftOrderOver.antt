@@ -1,18 +1,20 @@
--- The left order of an ideal over p·L is a lattice of full rank, whatever the trace form is. It is q times the set of those
--- members of L by which the coordinates of all products with a basis of the ideal are multiples of p; and what is left of a
--- lattice by the condition that a functional, integral on it, has a multiple of p as value is a lattice again: where the value
--- at a vector is a unit, a multiple of that vector corrects the others.
+-- The left order of an ideal over p·L is a lattice of full rank, whatever the trace form is. It is q times the set of
+-- those members of L by which the coordinates of all products with a basis of the ideal are multiples of p; and what
+-- is left of a lattice by the condition that a functional, integral on it, has a multiple of p as value is a lattice
+-- again: where the value at a vector is a unit, a multiple of that vector corrects the others.
 use Rattle.std.specs.Prelude.{◌≡◌, ℕ, zero, suc, ◌+◌, ◌*◌, ◌/◌, ◌%◌, ◌<◌, ◌⊎◌, IsTrue}
 use Rattle.std.proofs.Common.{refl, sym, ◌∙◌, ap, ap₂, subst, arith, ⊎_elim}
 use Rattle.std.proofs.lemmas.Nat.{div-mul-add, mod-mul-add}
 use Rattle.theory_rings.specs.Ring.{FieldOn}
-use Rattle.theory_rings.proofs.Rings.RingLaws.{add-zero, add-neg, neg_add, add_add_add_comm, mul-zero, additive-zero, additive-neg}
+use Rattle.theory_rings.proofs.Rings.RingLaws.{add-zero, add-neg, neg_add, add_add_add_comm, mul-zero, additive-zero}
+use Rattle.theory_rings.proofs.Rings.RingLaws.{additive-neg}
 use Rattle.theory_rings.proofs.Rings.Semirings.{semiring, mul_left_comm}
 use Rattle.theory_spaces.specs.Module.{ModuleOn, AlgebraOn, module_of}
 use Rattle.theory_spaces.specs.Linear.{InSpan, Independent, IsLinear, IsSubmodule, Basis, Coords}
 use Rattle.theory_spaces.specs.Valuation.{ValuationOn, integers, restrict, LatticeBasis}
 use Rattle.theory_spaces.proofs.Families.{join, each_join, below_suc}
-use Rattle.theory_spaces.proofs.Modules.{scale-neg, map-comb, InSpan-zero, InSpan-add, InSpan-neg, InSpan-scale, InSpan-member, InSpan_trans, InSpan-join_left, InSpan-join_right, span_in}
+use Rattle.theory_spaces.proofs.Modules.{scale-neg, map-comb, InSpan-zero, InSpan-add, InSpan-neg, InSpan-scale}
+use Rattle.theory_spaces.proofs.Modules.{InSpan-member, InSpan_trans, InSpan-join_left, InSpan-join_right, span_in}
 use Rattle.theory_spaces.proofs.Spaces.{basis_of, coords_of}
 use Rattle.theory_spaces.proofs.Dimension.{dimension_unique}
 use Rattle.theory_spaces.proofs.Lattices.{lattice_basis}
@@ -26,7 +28,8 @@ use Rattle.theory_orders.proofs.Ramified.{spanning}
 use Rattle.theory_orders.proofs.LeftOrders.{left_order_is_order, in_left_order, left_order_bounded}
 use Rattle.theory_orders.proofs.LeftOrderLattice.{order_same}
 
-module _ {K V : Type 0} (F : FieldOn K) (Z : ValuationOn F) (p q : K) (U : UniformizerOn F Z p q) (M : ModuleOn F.ring V) where
+module _ {K V : Type 0} (F : FieldOn K) (Z : ValuationOn F) (p q : K) (U : UniformizerOn F Z p q)
+    (M : ModuleOn F.ring V) where
   infixl 65 ◌⊕◌
   infixl 70 ◌•◌
   infixl 70 ◌⊗◌
@@ -62,11 +65,13 @@ module _ {K V : Type 0} (F : FieldOn K) (Z : ValuationOn F) (p q : K) (U : Unifo
   }
 
   -- c times a lattice
-  pub scaled : (c d : K) → ((x : V) → d • (c • x) ≡ x) → (n : ℕ) (g : ℕ → V) (x : V) → Lat n g (c • x) → Lat n (λ i. d • g i) x
+  pub scaled : (c d : K) → ((x : V) → d • (c • x) ≡ x) → (n : ℕ) (g : ℕ → V) (x : V) → Lat n g (c • x)
+      → Lat n (λ i. d • g i) x
   scaled c d e n g x s = let P : V → Type 0 = Lat n (λ i. d • g i) in
       subst P (e x) (map_lattice (λ y. d • y) (scale_linear d) n g (c • x) s)
 
-  module _ (f : V → K) (f-add : (x y : V) → f (x ⊕ y) ≡ F.◌⊕◌ (f x) (f y)) (f-scale : (c : K) (x : V) → f (c • x) ≡ c ⊗ f x) where
+  module _ (f : V → K) (f-add : (x y : V) → f (x ⊕ y) ≡ F.◌⊕◌ (f x) (f y))
+      (f-scale : (c : K) (x : V) → f (c • x) ≡ c ⊗ f x) where
     -- the members of S with a multiple of p as value
     abbrev Cut : (V → Type 0) → V → Type 0
     Cut S x = S x × In (q ⊗ f x)
@@ -116,11 +121,13 @@ module _ {K V : Type 0} (F : FieldOn K) (Z : ValuationOn F) (p q : K) (U : Unifo
         rest_linear : IsLinear M M rest
         rest_linear = record {
           map-add = λ x y.
-              ap (λ z. (x ⊕ y) ⊕ z) (ap neg (ap (λ a. (a ⊗ d) • g i) (f-add x y) ∙ ap (λ a. a • g i) (F.add-mul (f x) (f y) d)
+              ap (λ z. (x ⊕ y) ⊕ z) (ap neg (ap (λ a. (a ⊗ d) • g i) (f-add x y)
+              ∙ ap (λ a. a • g i) (F.add-mul (f x) (f y) d)
               ∙ M.add-scale (f x ⊗ d) (f y ⊗ d) (g i)) ∙ neg_add M.additive ((f x ⊗ d) • g i) ((f y ⊗ d) • g i))
               ∙ add_add_add_comm M.monoid x y (neg ((f x ⊗ d) • g i)) (neg ((f y ⊗ d) • g i));
           map-scale = λ c x.
-              ap (λ z. c • x ⊕ z) (ap neg (ap (λ a. (a ⊗ d) • g i) (f-scale c x) ∙ ap (λ a. a • g i) (F.mul_assoc c (f x) d)
+              ap (λ z. c • x ⊕ z) (ap neg (ap (λ a. (a ⊗ d) • g i) (f-scale c x)
+              ∙ ap (λ a. a • g i) (F.mul_assoc c (f x) d)
               ∙ M.mul-scale c (f x ⊗ d) (g i)) ∙ sym (scale-neg M c ((f x ⊗ d) • g i)))
               ∙ sym (M.scale-add c x (neg ((f x ⊗ d) • g i)));
         }
@@ -128,7 +135,8 @@ module _ {K V : Type 0} (F : FieldOn K) (Z : ValuationOn F) (p q : K) (U : Unifo
         rest-value : (x : V) → f (rest x) ≡ F.zero
         rest-value x = f-add x (neg ((f x ⊗ d) • g i))
             ∙ ap (λ a. F.◌⊕◌ (f x) a) (additive-neg M.additive F.additive f f-add ((f x ⊗ d) • g i)
-            ∙ ap F.neg (f-scale (f x ⊗ d) (g i) ∙ F.mul_assoc (f x) d (f (g i)) ∙ ap (λ a. f x ⊗ a) (F.inv-mul (f (g i)) u.0)
+            ∙ ap F.neg (f-scale (f x ⊗ d) (g i) ∙ F.mul_assoc (f x) d (f (g i))
+            ∙ ap (λ a. f x ⊗ a) (F.inv-mul (f (g i)) u.0)
             ∙ F.mul-one (f x)))
             ∙ add-neg F.additive (f x)
 
@@ -140,7 +148,8 @@ module _ {K V : Type 0} (F : FieldOn K) (Z : ValuationOn F) (p q : K) (U : Unifo
             let y = (f x ⊗ d) • g i in
             let e : ((q ⊗ f x) ⊗ d) • (p • g i) ≡ y =
             sym (M.mul-scale ((q ⊗ f x) ⊗ d) p (g i))
-            ∙ ap (λ a. a • g i) (F.mul_comm ((q ⊗ f x) ⊗ d) p ∙ ap (λ a. p ⊗ a) (F.mul_assoc q (f x) d) ∙ pq (f x ⊗ d)) in
+            ∙ ap (λ a. a • g i) (F.mul_comm ((q ⊗ f x) ⊗ d) p ∙ ap (λ a. p ⊗ a) (F.mul_assoc q (f x) d)
+            ∙ pq (f x ⊗ d)) in
             ap (λ z. rest x ⊕ z) e ∙ M.add_assoc x (neg y) y ∙ ap (λ z. x ⊕ z) (M.neg-add y) ∙ add-zero M.monoid x
 
         cut_unit : CutLattice n g
@@ -160,7 +169,8 @@ module _ {K V : Type 0} (F : FieldOn K) (Z : ValuationOn F) (p q : K) (U : Unifo
                 (λ j b. (
                   InSpan-add RM n g (g j) (neg ((f (g j) ⊗ d) • g i)) (InSpan-member RM n j g b)
                       (InSpan-neg RM n g ((f (g j) ⊗ d) • g i)
-                      (InSpan-scale RM n g (f (g j) ⊗ d, Z.mul_in (f (g j)) d (int j b) u.1) (g i) (InSpan-member RM n i g l))),
+                      (InSpan-scale RM n g (f (g j) ⊗ d, Z.mul_in (f (g j)) d (int j b) u.1) (g i)
+                      (InSpan-member RM n i g l))),
                   subst In (sym (ap (λ a. q ⊗ a) (rest-value (g j)) ∙ mul-zero F.ring q)) Z.zero_in,
                 ))
                 (λ j b. (
@@ -184,7 +194,8 @@ module _ {K V : Type 0} (F : FieldOn K) (Z : ValuationOn F) (p q : K) (U : Unifo
     abbrev pub Cuts : ℕ → V → Type 0
     Cuts k x = Lat n g x × ((t : ℕ) → t < k → In (q ⊗ f t x))
 
-    pub cuts : (k : ℕ) → ((t : ℕ) → t < k → (x : V) → Lat n g x → In (f t x)) → (s : ℕ) × (w : ℕ → V) × Same (Cuts k) (Lat s w)
+    pub cuts : (k : ℕ) → ((t : ℕ) → t < k → (x : V) → Lat n g x → In (f t x))
+        → (s : ℕ) × (w : ℕ → V) × Same (Cuts k) (Lat s w)
     cuts zero int = (n, g, (λ x h. h.0, λ x s. (s, λ t l. absurd (omega arith))))
     cuts (suc k) int =
         let r = cuts k (λ t l. int t (omega arith)) in
@@ -199,7 +210,8 @@ module _ {K V : Type 0} (F : FieldOn K) (Z : ValuationOn F) (p q : K) (U : Unifo
         )
 
 -- the left order
-module _ {K V : Type 0} (F : FieldOn K) (Z : ValuationOn F) (p q : K) (U : UniformizerOn F Z p q) (A : AlgebraOn F.ring V)
+module _ {K V : Type 0} (F : FieldOn K) (Z : ValuationOn F) (p q : K) (U : UniformizerOn F Z p q)
+    (A : AlgebraOn F.ring V)
     (n : ℕ) (B : Basis (module_of A) n) (v : ℕ → V) (D : IsOrderAt F Z A n v) (m : ℕ) (w : ℕ → V)
     (I : IsIdeal A (Lattice F Z A n v) (Lattice F Z A m w))
     (over : Within (Multiple A p (Lattice F Z A n v)) (Lattice F Z A m w)) where
@@ -246,7 +258,8 @@ module _ {K V : Type 0} (F : FieldOn K) (Z : ValuationOn F) (p q : K) (U : Unifo
 
   basis_all : (x : V) → InSpan MA r b x
   basis_all = spans_all r b (λ i l.
-      let s = over_field F Z MA r b (p • v i) (J_basis.0 (p • v i) (over (p • v i) (v i, InSpan-member RA n i v l, refl))) in
+      let s = over_field F Z MA r b (p • v i) (J_basis.0 (p • v i)
+      (over (p • v i) (v i, InSpan-member RA n i v l, refl))) in
       let P : V → Type 0 = InSpan MA r b in
       subst P (cancel (v i)) (InSpan-scale MA r b q (p • v i) s))
 
@@ -258,7 +271,8 @@ module _ {K V : Type 0} (F : FieldOn K) (Z : ValuationOn F) (p q : K) (U : Unifo
   f t x = E.coord (x ⊗ b (t / r)) (t % r)
 
   f-add : (t : ℕ) (x y : V) → f t (A.◌⊕◌ x y) ≡ F.◌⊕◌ (f t x) (f t y)
-  f-add t x y = ap (λ z. E.coord z (t % r)) (A.add-mul x y (b (t / r))) ∙ E.coord-add (x ⊗ b (t / r)) (y ⊗ b (t / r)) (t % r)
+  f-add t x y = ap (λ z. E.coord z (t % r)) (A.add-mul x y (b (t / r)))
+      ∙ E.coord-add (x ⊗ b (t / r)) (y ⊗ b (t / r)) (t % r)
 
   f-scale : (t : ℕ) (c : K) (x : V) → f t (c • x) ≡ F.◌⊗◌ c (f t x)
   f-scale t c x = ap (λ z. E.coord z (t % r)) (A.scale-left c x (b (t / r))) ∙ E.coord-scale c (x ⊗ b (t / r)) (t % r)
@@ -296,7 +310,8 @@ module _ {K V : Type 0} (F : FieldOn K) (Z : ValuationOn F) (p q : K) (U : Unifo
       let t = j * r + k in
       let e : f t a ≡ E.coord (a ⊗ b j) k =
       ap₂ (λ y z. E.coord (a ⊗ b y) z) (div-mul-add j r k g) (mod-mul-add j r k g) in
-      subst (IsIntegral F Z) (ap (F.◌⊗◌ q) (f-scale t p a) ∙ qp F Z p q U MA (f t a) ∙ e) (h.1 t (pair-lt r r j k l g))))
+      subst (IsIntegral F Z) (ap (F.◌⊗◌ q) (f-scale t p a) ∙ qp F Z p q U MA (f t a) ∙ e)
+      (h.1 t (pair-lt r r j k l g))))
       (J_basis.0 x s)
 
   abbrev size : ℕ
@@ -310,7 +325,8 @@ module _ {K V : Type 0} (F : FieldOn K) (Z : ValuationOn F) (p q : K) (U : Unifo
     λ a h. scaled F Z p q U MA p q cancel size cut_out.1 a (cut_out.2.0 (p • a) (to_kept a h)),
     λ a s. of_kept a (cut_out.2.1 (p • a) (let P : V → Type 0 = Lattice F Z A size cut_out.1 in
         let g : ℕ → V = λ i. p • vec i in
-        InSpan_trans RA size size g cut_out.1 (p • a) (λ i l. subst P (sym (uncancel (cut_out.1 i))) (InSpan-member RA size i cut_out.1 l))
+        InSpan_trans RA size size g cut_out.1 (p • a) (λ i l. subst P (sym (uncancel (cut_out.1 i)))
+        (InSpan-member RA size i cut_out.1 l))
         (map_lattice F Z p q U MA (λ x. p • x) (scale_linear F Z p q U MA p) size vec a s))),
   )
 

@@ -1,20 +1,19 @@
 -- Matrices that represent an algebra: it is the algebra of all linear maps of a space. They come from an isomorphism to
 -- the algebra of all matrices, or from matrices that split a table.
 use Rattle.std.specs.Prelude.{◌≡◌, ℕ, ◌<◌}
-use Rattle.std.proofs.Common.{refl, sym, ◌∙◌, ap, ap₂}
+use Rattle.std.proofs.Common.{sym, ◌∙◌, ap, ap₂}
 use Rattle.theory_rings.specs.Ring.{FieldOn}
 use Rattle.theory_rings.specs.Sum.{sum}
 use Rattle.theory_rings.proofs.Rings.Semirings.{semiring, mul_left_comm}
-use Rattle.theory_rings.proofs.Rings.Solver.{◌⊠◌, ring4}
-use Rattle.theory_rings.proofs.Sums.Sums.{sum_congr, sum-add, map-sum, sum_comm, mul-sum, sum-mul}
-use Rattle.theory_spaces.specs.Module.{ModuleOn, AlgebraOn, module_of}
+use Rattle.theory_rings.proofs.Sums.Sums.{sum_congr, sum-add, map-sum, mul-sum}
+use Rattle.theory_spaces.specs.Module.{ModuleOn, AlgebraOn}
 use Rattle.theory_spaces.specs.Matrix.{Matrix, Mat, delta, mat_mul}
-use Rattle.theory_spaces.specs.Space.{SpaceOn, sum2}
+use Rattle.theory_spaces.specs.Space.{SpaceOn}
 use Rattle.theory_spaces.specs.AlgebraMap.{IsAlgebraIso}
 use Rattle.theory_spaces.specs.MatrixAlgebra.{IsMatrixAlgebra}
 use Rattle.theory_spaces.proofs.Modules.{zero-scale}
 use Rattle.theory_spaces.proofs.Matrices.{mat_mul_assoc, sum-mul_delta, sum-delta_mul, mat, mat-entry, Mat-ext}
-use Rattle.theory_spaces.proofs.Tables.{sum2_congr, unit, coord-unit, coord-sum, space_expand}
+use Rattle.theory_spaces.proofs.Tables.{unit, coord-unit, coord-sum, space_expand}
 use Rattle.theory_orders.proofs.LinearMaps.{ActionOn}
 
 -- each element has a matrix of size n, sums, multiples and products have those of the matrices, and each matrix is that

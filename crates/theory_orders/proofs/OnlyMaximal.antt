@@ -15,7 +15,7 @@ use Rattle.theory_orders.specs.Uniformizer.{UniformizerOn}
 use Rattle.theory_orders.specs.Orders.{IsOrder, IsIdeal, SumOf, Product, Products, Power, Multiple, WordProduct, Generated, Radical, LeftOrder, Inverse, SimpleByElements, IsMaximalIdeal, IsInvertible, OnlyMaximalIdeal, Within, Same, Test}
 use Rattle.theory_orders.specs.Lattices.{Lattice, IsOrderAt, NothingGrows}
 use Rattle.theory_orders.specs.Ramified.{IsRamified}
-use Rattle.theory_orders.proofs.SumsOf.{SumOf_in, SumOf_map, SumOf_zero, SumOf_one, SumOf_add, SumOf_left, SumOf_right}
+use Rattle.theory_orders.proofs.SumsOf.{SumOf_in, SumOf_zero, SumOf_one, SumOf_add, SumOf_left, SumOf_right}
 use Rattle.theory_orders.proofs.Ideals.{ideal_same, whole, generated_in}
 use Rattle.theory_orders.proofs.Multiples.{Multiple-ideal, cancel_scale, of-Multiple}
 use Rattle.theory_orders.proofs.Chains.{Chain, Chain_last, Chain_unlast, chain_in_power, power_in_chains, power_chains, Chain_fewer}

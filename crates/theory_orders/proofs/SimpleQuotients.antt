@@ -10,7 +10,7 @@ use Rattle.theory_spaces.specs.Valuation.{ValuationOn, Integer, integers, restri
 use Rattle.theory_spaces.proofs.Families.{join, each_join}
 use Rattle.theory_spaces.proofs.Modules.{left_linear, right_linear, map-comb, InSpan-add, InSpan-scale, InSpan-comb, InSpan_trans, InSpan-member, InSpan-join_left, InSpan-join_right}
 use Rattle.theory_spaces.proofs.PairIndex.{pair-lt, row-lt, column-lt}
-use Rattle.theory_orders.specs.Orders.{IsOrder, IsIdeal, Product, Power, Around, Generated, Multiple, Within, Test, Radical, SimpleQuotient, SimpleByElements}
+use Rattle.theory_orders.specs.Orders.{IsOrder, IsIdeal, Power, Around, Generated, Multiple, Within, Test, Radical, SimpleQuotient, SimpleByElements}
 use Rattle.theory_orders.specs.Lattices.{Lattice}
 use Rattle.theory_orders.proofs.LeftOrders.{Power_one}
 use Rattle.theory_orders.proofs.Ideals.{IdealSum, IdealSum_ideal, whole, generated_in}

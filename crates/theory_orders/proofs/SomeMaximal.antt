@@ -1,6 +1,6 @@
--- Where p is not a unit and the algebra is not 0, one is no multiple of p in an order; so where nothing grows it is absurd that
--- there is no maximal ideal over p times the order, and the radical is one. Nothing grows where the ideals of a list don't
--- which has all the maximal ones.
+-- Where p is not a unit and the algebra is not 0, one is no multiple of p in an order; so where nothing grows it is
+-- absurd that there is no maximal ideal over p times the order, and the radical is one. Nothing grows where the
+-- ideals of a list don't which has all the maximal ones.
 use Rattle.std.specs.Prelude.{◌≡◌, ℕ, zero, suc, ◌<◌, ◌⊎◌}
 use Rattle.std.proofs.Common.{refl, sym, ◌∙◌, ap, subst, inl, inr, ⊎_elim}
 use Rattle.theory_rings.specs.Ring.{FieldOn}
@@ -15,7 +15,8 @@ use Rattle.theory_spaces.specs.Valuation.{ValuationOn}
 use Rattle.theory_spaces.proofs.SpanTests.{some_or_all}
 use Rattle.theory_spaces.proofs.Modules.{comb_zero, comb-scale}
 use Rattle.theory_orders.specs.Uniformizer.{IsIntegral, UniformizerOn}
-use Rattle.theory_orders.specs.Orders.{IsOrder, Multiple, Power, Radical, LeftOrder, IsMaximalIdeal, OnlyMaximalIdeal, Within, Same}
+use Rattle.theory_orders.specs.Orders.{IsOrder, Multiple, Power, Radical, LeftOrder, IsMaximalIdeal, OnlyMaximalIdeal}
+use Rattle.theory_orders.specs.Orders.{Within, Same}
 use Rattle.theory_orders.specs.Lattices.{Lattice, IsOrderAt, NothingGrows}
 use Rattle.theory_orders.specs.MaximalIdealLaws.{SomeIsOnly, RadicalIsTheOnly, NothingGrowsByList}
 use Rattle.theory_orders.proofs.Ideals.{whole}
@@ -85,7 +86,8 @@ module _ {K V : Type 0} (F : FieldOn K) (Z : ValuationOn F) (p q : K) (U : Unifo
     (A : AlgebraOn F.ring V) (N : ℕ) (B : Basis (module_of A) N) where
   module _ (strict : IsIntegral F Z q → ⊥) (nonzero : A.one ≡ A.zero → ⊥) (ct : Central A) where
     pub some_is_only : SomeIsOnly F Z p A N
-    some_is_only os D ng none = some_power F Z p q U A N B os D ct ng (one_not_multiple F Z p q U A N os D strict nonzero)
+    some_is_only os D ng none = some_power F Z p q U A N B os D ct ng
+        (one_not_multiple F Z p q U A N os D strict nonzero)
         (λ i e l pw. none i.0 i.1 (only_of F Z p q U A N B os D i.0 i.1 i.2 (ng i.0 i.1 i.2) (λ stop. stop e l pw)))
 
     pub radical_is_the_only : RadicalIsTheOnly F Z p A N

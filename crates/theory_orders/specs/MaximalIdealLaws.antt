@@ -3,14 +3,16 @@ use Rattle.std.specs.Prelude.{ℕ, ◌<◌, List, ◌⊎◌}
 use Rattle.theory_rings.specs.Ring.{FieldOn}
 use Rattle.theory_spaces.specs.Module.{AlgebraOn}
 use Rattle.theory_spaces.specs.Valuation.{ValuationOn}
-use Rattle.theory_orders.specs.Orders.{IsIdeal, IsMaximalIdeal, OnlyMaximalIdeal, SimpleQuotient, SimpleByElements, LeftOrder, Multiple, Power, Radical, Within, Same, WordProduct}
+use Rattle.theory_orders.specs.Orders.{IsIdeal, IsMaximalIdeal, OnlyMaximalIdeal, SimpleQuotient, SimpleByElements}
+use Rattle.theory_orders.specs.Orders.{LeftOrder, Multiple, Power, Radical, Within, Same, WordProduct}
 use Rattle.theory_orders.specs.Lattices.{Lattice, IsOrderAt, NothingGrows}
 
 module _ {K V : Type 0} (F : FieldOn K) (Z : ValuationOn F) (p : K) (A : AlgebraOn F.ring V) (n : ℕ) where
   -- where no left order is larger, each maximal ideal is the only one
   abbrev pub MaximalIsOnly : Type 0
   MaximalIsOnly = (v : ℕ → V) → IsOrderAt F Z A n v → NothingGrows F Z A p (Lattice F Z A n v)
-      → (m : ℕ) (w : ℕ → V) → IsMaximalIdeal A p (Lattice F Z A n v) (Lattice F Z A m w) → OnlyMaximalIdeal A p (Lattice F Z A n v) (Lattice F Z A m w)
+      → (m : ℕ) (w : ℕ → V) → IsMaximalIdeal A p (Lattice F Z A n v) (Lattice F Z A m w)
+      → OnlyMaximalIdeal A p (Lattice F Z A n v) (Lattice F Z A m w)
 
   -- and the radical is it, unless it is the order
   abbrev pub RadicalIsOnly : Type 0
@@ -42,7 +44,8 @@ module _ {K V : Type 0} (F : FieldOn K) (Z : ValuationOn F) (p : K) (A : Algebra
   FamilyIsOnly = (v : ℕ → V) → IsOrderAt F Z A n v → (m : ℕ → ℕ) (w : ℕ → ℕ → V)
       → ((i : ℕ) → IsMaximalIdeal A p (Lattice F Z A n v) (Lattice F Z A (m i) (w i)))
       → ((i : ℕ) → Within (LeftOrder A (Lattice F Z A (m i) (w i))) (Lattice F Z A n v))
-      → (word : List ℕ) → Within (WordProduct A (Lattice F Z A n v) (λ i. Lattice F Z A (m i) (w i)) word) (Multiple A p (Lattice F Z A n v))
+      → (word : List ℕ) → Within (WordProduct A (Lattice F Z A n v) (λ i. Lattice F Z A (m i) (w i)) word)
+      (Multiple A p (Lattice F Z A n v))
       → (i : ℕ) → OnlyMaximalIdeal A p (Lattice F Z A n v) (Lattice F Z A (m i) (w i))
 
   -- the radical, a lattice, holds each of the sets that is an ideal over p·L with a power in p·L
@@ -52,8 +55,8 @@ module _ {K V : Type 0} (F : FieldOn K) (Z : ValuationOn F) (p : K) (A : Algebra
       → (i : X) (e : ℕ) → IsIdeal A (Lattice F Z A n v) (T i) → Within (Multiple A p (Lattice F Z A n v)) (T i)
       → Within (Power A (T i) e) (Multiple A p (Lattice F Z A n v)) → Within (T i) (Lattice F Z A m w)
 
-  -- where the quotient by an ideal, a lattice, is simple, each of the sets that is an ideal over it with a further member is
-  -- everything
+  -- where the quotient by an ideal, a lattice, is simple, each of the sets that is an ideal over it with a further
+  -- member is everything
   abbrev pub SimpleHolds : {X : Type 0} → (X → V → Type 0) → Type 0
   SimpleHolds {X} T = (v : ℕ → V) → IsOrderAt F Z A n v → (m : ℕ) (w : ℕ → V)
       → IsIdeal A (Lattice F Z A n v) (Lattice F Z A m w) → SimpleQuotient A (Lattice F Z A n v) (Lattice F Z A m w)

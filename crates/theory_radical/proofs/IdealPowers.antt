@@ -24,14 +24,17 @@ module _ {V : Type 0} (R : RingOn V) (J : V → Type 0) where
       (cases_lt i k)
 
   push_product : (k : ℕ) (x : V) (c : ℕ → V) → product R (push k x c) (suc k) ≡ x ⊗ product R c k
-  push_product k x c = ap₂ (λ y z. y ⊗ z) (push-at k x c) (product_congr R k (push k x c) c (λ i l. push-below k x c i l))
+  push_product k x c = ap₂ (λ y z. y ⊗ z) (push-at k x c)
+      (product_congr R k (push k x c) c (λ i l. push-below k x c i l))
 
   -- a member of a power times k members is 0, where as many products vanish
-  vanish_through : (e k : ℕ) → ProductsVanish R J (suc (e + k)) → (x : V) → JPower e x → (c : ℕ → V) → ((i : ℕ) → J (c i))
+  vanish_through : (e k : ℕ) → ProductsVanish R J (suc (e + k)) → (x : V) → JPower e x → (c : ℕ → V)
+      → ((i : ℕ) → J (c i))
       → x ⊗ product R c k ≡ R.zero
   vanish_through zero k h x j c hc =
       sym (push_product k x c)
-      ∙ (let e : suc k ≡ suc (zero + k) = omega arith in ap (product R (push k x c)) e) ∙ h (push k x c) (push_members k x c j hc)
+      ∙ (let e : suc k ≡ suc (zero + k) = omega arith in ap (product R (push k x c)) e)
+      ∙ h (push k x c) (push_members k x c j hc)
   vanish_through (suc e) k h x s c hc =
       let t = product R c k in
       ap (λ y. y ⊗ t) s.gives ∙ sum-mul R s.size t s.term
@@ -42,7 +45,8 @@ module _ {V : Type 0} (R : RingOn V) (J : V → Type 0) where
       ∙ vanish_through e (suc k) (subst (ProductsVanish R J) q h) w.0 w.2 (push k w.1 c) (push_members k w.1 c w.3 hc))
 
   -- a member of a power times n members lies in the power that is further by n
-  power_further : (n j : ℕ) (x : V) → JPower j x → (a : ℕ → V) → ((i : ℕ) → J (a i)) → JPower (j + n) (x ⊗ product R a n)
+  power_further : (n j : ℕ) (x : V) → JPower j x → (a : ℕ → V) → ((i : ℕ) → J (a i))
+      → JPower (j + n) (x ⊗ product R a n)
   power_further zero j x h a ha =
       let e : j ≡ j + zero = omega arith in subst (JPower (j + zero)) (sym (R.mul-one x)) (subst (λ k. JPower k x) e h)
   power_further (suc n) j x h a ha =

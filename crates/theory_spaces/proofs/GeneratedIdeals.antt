@@ -1,4 +1,5 @@
--- In an algebra with a basis the ideal that an element generates is the span of its products with two vectors of the basis.
+-- In an algebra with a basis the ideal that an element generates is the span of its products with two vectors of the
+-- basis.
 use Rattle.std.specs.Prelude.{ℕ, ◌+◌, ◌*◌, ◌/◌, ◌%◌, ◌<◌}
 use Rattle.std.proofs.Common.{sym, ◌∙◌, ap, ap₂, subst}
 use Rattle.std.proofs.lemmas.Nat.{div-mul-add, mod-mul-add}
@@ -8,7 +9,8 @@ use Rattle.theory_spaces.specs.Linear.{InSpan, IsLinear, Basis}
 use Rattle.theory_spaces.specs.Algebra.{IdealSpan}
 use Rattle.theory_spaces.specs.Sets.{Whole, ring_ops, IsIdeal}
 use Rattle.theory_spaces.proofs.Ideals.{span_ideal, ideal_submodule}
-use Rattle.theory_spaces.proofs.Modules.{InSpan-comb, InSpan-member, left_linear, right_linear, linear_comp, map-comb, span_in}
+use Rattle.theory_spaces.proofs.Modules.{InSpan-comb, InSpan-member, left_linear, right_linear, linear_comp, map-comb}
+use Rattle.theory_spaces.proofs.Modules.{span_in}
 use Rattle.theory_spaces.proofs.PairIndex.{pair-lt}
 
 module _ {K V : Type 0} {R : RingOn K} (A : AlgebraOn R V) (n : ℕ) (B : Basis (module_of A) n) (x : V) where
@@ -40,7 +42,8 @@ module _ {K V : Type 0} {R : RingOn K} (A : AlgebraOn R V) (n : ℕ) (B : Basis 
   pub around_ideal : IdealSpan A (n * n) around
   around_ideal = span_ideal A (n * n) around
       (λ t _ c. subst Around
-      (ap (λ z. z ⊗ B.vec (t % n)) (A.mul_assoc c (B.vec (t / n)) x) ∙ A.mul_assoc c (B.vec (t / n) ⊗ x) (B.vec (t % n)))
+      (ap (λ z. z ⊗ B.vec (t % n)) (A.mul_assoc c (B.vec (t / n)) x)
+      ∙ A.mul_assoc c (B.vec (t / n) ⊗ x) (B.vec (t % n)))
       (around-in (c ⊗ B.vec (t / n)) (B.vec (t % n))))
       (λ t _ c. subst Around (sym (A.mul_assoc (B.vec (t / n) ⊗ x) (B.vec (t % n)) c))
       (around-in (B.vec (t / n)) (B.vec (t % n) ⊗ c)))

@@ -18,14 +18,17 @@ module _ {K V : Type 0} {R : RingOn K} (A : AlgebraOn R V) (n : ℕ) (g : ℕ �
   abbrev In : V → Type 0
   In = InSpan M n g
 
-  pub span_ideal : ((i : ℕ) → i < n → (x : V) → In (x ⊗ g i)) → ((i : ℕ) → i < n → (x : V) → In (g i ⊗ x)) → IdealSpan A n g
+  pub span_ideal : ((i : ℕ) → i < n → (x : V) → In (x ⊗ g i)) → ((i : ℕ) → i < n → (x : V) → In (g i ⊗ x))
+      → IdealSpan A n g
   span_ideal left right = record {
     inside = λ x _. tt;
     zero_in = InSpan-zero M n g;
     add_in = InSpan-add M n g;
-    left = λ x y _ s. subst In (sym (ap (λ z. x ⊗ z) s.combines ∙ map-comb M M (λ z. x ⊗ z) (left_linear A x) n s.weights g))
+    left = λ x y _ s. subst In (sym (ap (λ z. x ⊗ z) s.combines
+        ∙ map-comb M M (λ z. x ⊗ z) (left_linear A x) n s.weights g))
         (InSpan-comb M n n s.weights (λ i. x ⊗ g i) g (λ i l. left i l x));
-    right = λ x y _ s. subst In (sym (ap (λ z. z ⊗ x) s.combines ∙ map-comb M M (λ z. z ⊗ x) (right_linear A x) n s.weights g))
+    right = λ x y _ s. subst In (sym (ap (λ z. z ⊗ x) s.combines
+        ∙ map-comb M M (λ z. z ⊗ x) (right_linear A x) n s.weights g))
         (InSpan-comb M n n s.weights (λ i. g i ⊗ x) g (λ i l. right i l x));
   }
 
@@ -37,7 +40,8 @@ module _ {K V : Type 0} {R : RingOn K} (A : AlgebraOn R V) (n : ℕ) (g : ℕ �
     ideal_right x y s = ideal.right x y tt s
 
 -- a two-sided ideal of an algebra is a submodule
-pub ideal_submodule : {K V : Type 0} {R : RingOn K} (A : AlgebraOn R V) (J : V → Type 0) → IsIdeal (ring_ops A.ring) Whole J
+pub ideal_submodule : {K V : Type 0} {R : RingOn K} (A : AlgebraOn R V) (J : V → Type 0)
+    → IsIdeal (ring_ops A.ring) Whole J
     → IsSubmodule (module_of A) J
 ideal_submodule A J I = record {
   zero-in = I.zero_in;

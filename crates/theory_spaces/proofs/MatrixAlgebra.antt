@@ -1,5 +1,5 @@
 -- The n by n matrices are an algebra with the matrix units as a basis, and over a field it is central simple.
-use Rattle.std.specs.Prelude.{◌≡◌, ℕ, zero, suc, ◌+◌, ◌*◌, ◌/◌, ◌%◌, ◌<◌, ◌⊎◌}
+use Rattle.std.specs.Prelude.{◌≡◌, ℕ, ◌+◌, ◌*◌, ◌/◌, ◌%◌, ◌<◌, ◌⊎◌}
 use Rattle.std.proofs.Common.{refl, sym, ◌∙◌, ap, ap₂, subst, arith, inl, inr, ⊎_elim}
 use Rattle.std.proofs.lemmas.Nat.{div-mul-add, mod-mul-add, div-add-mod'}
 use Rattle.theory_rings.specs.Ring.{CommRingOn, FieldOn}
@@ -14,7 +14,6 @@ use Rattle.theory_spaces.specs.Matrix.{Mat, delta}
 use Rattle.theory_spaces.specs.Space.{SpaceOn}
 use Rattle.theory_spaces.specs.Algebra.{IdealSpan, Central, CentralSimple}
 use Rattle.theory_spaces.specs.MatrixAlgebra.{unit_entries, IsMatrixAlgebra, MatrixUnits}
-use Rattle.theory_spaces.proofs.Families.{below_suc}
 use Rattle.theory_spaces.proofs.Modules.{InSpan-scale, InSpan-member, InSpan_trans}
 use Rattle.theory_spaces.proofs.SpanTests.{some_or_all}
 use Rattle.theory_spaces.proofs.Matrices.{Mat-path, Mat-ext, mat, mat-entry, matrices, delta-same, delta-other, delta_comm}

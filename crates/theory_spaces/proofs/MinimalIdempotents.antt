@@ -1,21 +1,19 @@
 -- An idempotent e of a simple algebra A with eAe = Ke: one is a sum of products x·e·y, and so each linear map of Ae
 -- is the multiplication by one element of A from the left.
-use Rattle.std.specs.Prelude.{◌≡◌, ℕ, zero, suc, ◌+◌, ◌*◌, ◌/◌, ◌%◌, ◌<◌}
-use Rattle.std.proofs.Common.{sym, ◌∙◌, ap, ap₂, subst, ⊎_elim}
-use Rattle.std.proofs.lemmas.Nat.{div-mul-add, mod-mul-add}
+use Rattle.std.specs.Prelude.{◌≡◌, ℕ, zero, suc, ◌*◌, ◌/◌, ◌%◌, ◌<◌}
+use Rattle.std.proofs.Common.{sym, ◌∙◌, ap, ap₂, ⊎_elim}
 use Rattle.theory_rings.specs.Ring.{RingOn, FieldOn}
 use Rattle.theory_rings.specs.Sum.{sum}
 use Rattle.theory_rings.proofs.Rings.RingLaws.{zero-mul}
 use Rattle.theory_rings.proofs.Sums.Sums.{sum_congr, sum_eq_zero, mul-sum, sum-mul}
 use Rattle.theory_spaces.specs.Module.{ModuleOn, AlgebraOn, module_of}
-use Rattle.theory_spaces.specs.Linear.{InSpan, IsSubmodule, IsLinear, Basis, BasisOf}
+use Rattle.theory_spaces.specs.Linear.{InSpan, IsSubmodule, Basis, BasisOf}
 use Rattle.theory_spaces.specs.AlgebraMap.{IsSimple}
 use Rattle.theory_spaces.specs.MinimalIdempotent.{InLeftIdeal, OneThrough, IsEndomorphism, multiplier}
 use Rattle.theory_spaces.proofs.GeneratedIdeals.{around, Around, around-in, around_ideal}
-use Rattle.theory_spaces.proofs.Modules.{scale-zero, zero-scale, comb_congr_right, InSpan-comb, InSpan-member, left_linear, right_linear, linear_comp, map-comb, span_in}
+use Rattle.theory_spaces.proofs.Modules.{scale-zero, zero-scale, comb_congr_right, right_linear, map-comb, span_in}
 use Rattle.theory_spaces.proofs.Spaces.{coords_of, span_basis}
 use Rattle.theory_spaces.proofs.Subspaces.{BasisOf-iff}
-use Rattle.theory_spaces.proofs.PairIndex.{pair-lt}
 
 module _ {K V : Type 0} {R : RingOn K} (A : AlgebraOn R V) (n : ℕ) (B : Basis (module_of A) n) (e : V) where
   infixl 65 ◌⊕◌

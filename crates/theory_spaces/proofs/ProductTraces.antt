@@ -1,5 +1,5 @@
--- The regular trace of a product that need not have a one: the trace of the multiplication by an element from the left. It is
--- linear, the same for both orders of a product, and 0 where some power is 0.
+-- The regular trace of a product that need not have a one: the trace of the multiplication by an element from the
+-- left. It is linear, the same for both orders of a product, and 0 where some power is 0.
 use Rattle.std.specs.Prelude.{◌≡◌, ℕ, zero, suc}
 use Rattle.std.proofs.Common.{refl, sym, ◌∙◌, ap}
 use Rattle.theory_rings.specs.Ring.{CommRingOn, FieldOn}
@@ -31,7 +31,8 @@ module _ {K V : Type 0} (C : CommRingOn K) (M : ModuleOn C.ring V) (P : ProductO
 
   pub product_trace-add : (a b : V) → product_trace (a ⊕ b) ≡ C.◌⊕◌ (product_trace a) (product_trace b)
   product_trace-add a b =
-      sum_congr C.monoid m (λ j. B.coord ((a ⊕ b) ⊗ B.vec j) j) (λ j. C.◌⊕◌ (B.coord (a ⊗ B.vec j) j) (B.coord (b ⊗ B.vec j) j))
+      sum_congr C.monoid m (λ j. B.coord ((a ⊕ b) ⊗ B.vec j) j)
+      (λ j. C.◌⊕◌ (B.coord (a ⊗ B.vec j) j) (B.coord (b ⊗ B.vec j) j))
       (λ j _. ap (λ y. B.coord y j) (P.add-mul a b (B.vec j)) ∙ B.coord-add (a ⊗ B.vec j) (b ⊗ B.vec j) j)
       ∙ sum-add C.monoid m (λ j. B.coord (a ⊗ B.vec j) j) (λ j. B.coord (b ⊗ B.vec j) j)
 
@@ -52,7 +53,8 @@ module _ {K V : Type 0} (C : CommRingOn K) (M : ModuleOn C.ring V) (P : ProductO
       (λ i _. product_trace-scale (c i) (v i))
 
   pub zero_product : (x : V) → M.zero ⊗ x ≡ M.zero
-  zero_product x = ap (λ y. y ⊗ x) (sym (zero-scale M M.zero)) ∙ P.scale-left C.zero M.zero x ∙ zero-scale M (M.zero ⊗ x)
+  zero_product x = ap (λ y. y ⊗ x) (sym (zero-scale M M.zero)) ∙ P.scale-left C.zero M.zero x
+      ∙ zero-scale M (M.zero ⊗ x)
 
   module _ (assoc : (x y z : V) → (x ⊗ y) ⊗ z ≡ x ⊗ (y ⊗ z)) where
     pub product_trace_comm : (a b : V) → product_trace (a ⊗ b) ≡ product_trace (b ⊗ a)
@@ -82,5 +84,6 @@ module _ {K V : Type 0} (F : FieldOn K) (M : ModuleOn F.ring V) (P : ProductOn M
   -- an element with a power that is 0 has trace 0
   pub product_trace-nilpotent : (x : V) (e : ℕ) → next_power F.cring M P m B assoc x e ≡ M.zero
       → product_trace F.cring M P m B x ≡ F.zero
-  product_trace-nilpotent x e h = map_trace-nilpotent F M m B (λ y. P.◌⊗◌ x y) (by_left_linear F.cring M P m B x) (suc e)
+  product_trace-nilpotent x e h = map_trace-nilpotent F M m B (λ y. P.◌⊗◌ x y) (by_left_linear F.cring M P m B x)
+      (suc e)
       (λ y. iterate-power F.cring M P m B assoc x e y ∙ ap (λ z. P.◌⊗◌ z y) h ∙ zero_product F.cring M P m B y)

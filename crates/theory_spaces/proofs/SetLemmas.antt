@@ -1,5 +1,4 @@
 -- Ideals, simple quotients and maximal ideals by sets with the same members: the operations need no law.
-use Rattle.std.specs.Prelude.{◌⊎◌}
 use Rattle.std.proofs.Common.{inl, inr, ⊎_elim}
 use Rattle.theory_spaces.specs.Sets.{RingOps, Within, Same, Test, IsIdeal, SimpleQuotient, IsMaximalIdeal}
 

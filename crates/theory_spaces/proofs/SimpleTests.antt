@@ -1,5 +1,5 @@
--- Simple algebras by spans and by tests. Over an infinite field no basis can be found of what a test tells; what is in hand is
--- the ideal that one of its members generates, and that is a span.
+-- Simple algebras by spans and by tests. Over an infinite field no basis can be found of what a test tells; what is
+-- in hand is the ideal that one of its members generates, and that is a span.
 use Rattle.std.specs.Prelude.{◌≡◌, ℕ, ◌*◌, ◌<◌, Bool, IsTrue, ◌⊎◌, ◌↔◌}
 use Rattle.std.proofs.Common.{refl, sym, ◌∙◌, ap, ap₂, subst, inl, inr, ⊎_elim}
 use Rattle.theory_rings.specs.Ring.{FieldOn}

@@ -30,7 +30,8 @@ module _ {K V : Type 0} {R : RingOn K} (A : AlgebraOn R V) where
 
   -- each finite span that is an ideal is 0 or everything
   abbrev pub IsSimple : Type 0
-  IsSimple = (n : ℕ) (g : ℕ → V) → IdealSpan n g → ((i : ℕ) → i < n → g i ≡ A.zero) ⊎ ((x : V) → InSpan (module_of A) n g x)
+  IsSimple = (n : ℕ) (g : ℕ → V) → IdealSpan n g
+      → ((i : ℕ) → i < n → g i ≡ A.zero) ⊎ ((x : V) → InSpan (module_of A) n g x)
 
   -- each element that commutes with all is a multiple of one
   pub record Central : Type 0 where

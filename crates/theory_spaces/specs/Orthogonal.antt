@@ -1,5 +1,6 @@
--- What a map of two vectors to a scalar makes orthogonal, by the zeros and a one alone: orthogonal sets, nondegenerate maps,
--- dual vectors. Bilinear forms and the trace form of an algebra are cases of it. (Jacobson, Basic Algebra I, chapter 6.)
+-- What a map of two vectors to a scalar makes orthogonal, by the zeros and a one alone: orthogonal sets,
+-- nondegenerate maps, dual vectors. Bilinear forms and the trace form of an algebra are cases of it. (Jacobson, Basic
+-- Algebra I, chapter 6.)
 use Rattle.std.specs.Prelude.{◌≡◌, ℕ, ◌<◌, cond, eqb}
 
 module _ {K V : Type 0} (nought : K) (f : V → V → K) where

@@ -1,6 +1,6 @@
--- Sets of elements by operations without laws: orders, two-sided ideals with their sums, products and powers, the radical,
--- left orders, simple quotients, maximal and invertible ideals. A ring and an algebra are cases of it. A set is a fact about
--- an element. (Reiner, Maximal Orders, sections 6, 8, 22 and 39.)
+-- Sets of elements by operations without laws: orders, two-sided ideals with their sums, products and powers, the
+-- radical, left orders, simple quotients, maximal and invertible ideals. A ring and an algebra are cases of it. A set
+-- is a fact about an element. (Reiner, Maximal Orders, sections 6, 8, 22 and 39.)
 use Rattle.std.specs.Prelude.{◌≡◌, ℕ, zero, suc, ◌<◌, ◌⊎◌, Bool, IsTrue, List, [], ◌∷◌}
 use Rattle.theory_rings.specs.Sum.{sum_by_ops}
 use Rattle.theory_rings.specs.Ring.{RingOn}
@@ -111,7 +111,8 @@ module _ {V : Type 0} (S : RingOps V) where
   -- L/J is simple: J is less than L, and no ideal lies strictly between
   pub record SimpleQuotient (L J : V → Type 0) : Type 0 where
     pub proper : Within L J → ⊥
-    pub nothing_between : (t : V → Bool) → IsIdeal L (Test t) → Within J (Test t) → Within (Test t) J ⊎ Within L (Test t)
+    pub nothing_between : (t : V → Bool) → IsIdeal L (Test t) → Within J (Test t)
+        → Within (Test t) J ⊎ Within L (Test t)
 
   -- a maximal two-sided ideal of L
   pub record IsMaximalIdeal (L M : V → Type 0) : Type 0 where

@@ -4,7 +4,8 @@ ghost use Rattle.theory_rings.specs.Ring.{CommRingOn, FieldOn};
 ghost use Rattle.theory_spaces.specs.Module.{AlgebraOn, module_of};
 ghost use Rattle.theory_spaces.specs.Linear.{Basis};
 ghost use Rattle.theory_spaces.specs.Matrix.{Matrix, mat_mul, mat_trace};
-ghost use Rattle.theory_spaces.specs.Algebra.{trace, IsNilpotent, Nondegenerate, Central, CentralSimple, IsSimple, SimpleByTests};
+ghost use Rattle.theory_spaces.specs.Algebra.{trace, IsNilpotent, Nondegenerate, Central, CentralSimple, IsSimple};
+ghost use Rattle.theory_spaces.specs.Algebra.{SimpleByTests};
 
 /// An algebra over a field, with a basis.
 pub trait BasedAlgebra {
@@ -37,8 +38,8 @@ pub fn central_simple<A: BasedAlgebra>()
     ensures { Nondegenerate A.algebra A.dimension A.basis → Central A.algebra → CentralSimple A.algebra }
 {}
 
-/// An algebra with a basis is simple and not 0, by ideals that finitely many vectors span, just where it is by ideals that a
-/// test tells.
+/// An algebra with a basis is simple and not 0, by ideals that finitely many vectors span, just where it is by ideals
+/// that a test tells.
 pub fn simple_by_spans_and_tests<A: BasedAlgebra>()
     ensures { (IsSimple A.algebra × (A.algebra.one ≡ A.algebra.zero → ⊥)) ↔ SimpleByTests A.algebra }
 {}
@@ -52,5 +53,6 @@ pub trait Scalars {
 
 /// The trace of a product of an n by m and an m by n matrix is the same for both orders.
 pub fn trace_of_matrix_product<S: Scalars>()
-    ensures { (n m : ℕ) (A B : Matrix S.Elem) → mat_trace S.ring.ring n (mat_mul S.ring.ring m A B) ≡ mat_trace S.ring.ring m (mat_mul S.ring.ring n B A) }
+    ensures { (n m : ℕ) (A B : Matrix S.Elem) → mat_trace S.ring.ring n
+        (mat_mul S.ring.ring m A B) ≡ mat_trace S.ring.ring m (mat_mul S.ring.ring n B A) }
 {}

@@ -13,12 +13,16 @@ use Rattle.theory_rings.proofs.Rings.Elements.{sum_of-elements, sum_of_congr}
 use Rattle.theory_spaces.specs.Module.{ModuleOn}
 use Rattle.theory_spaces.specs.Linear.{InSpan, Basis}
 use Rattle.theory_spaces.specs.Space.{SpaceOn, ProductOn}
-use Rattle.theory_spaces.specs.Tuples.{IsTuple, Tuple, tuple_zero, tuple_add, tuple_scale, basis, product, AssociativeTable, IsTableOne}
+use Rattle.theory_spaces.specs.Tuples.{IsTuple, Tuple, tuple_zero, tuple_add, tuple_scale, basis, product}
+use Rattle.theory_spaces.specs.Tuples.{AssociativeTable, IsTableOne}
 use Rattle.theory_spaces.proofs.Matrices.{delta-same}
 use Rattle.theory_spaces.proofs.Modules.{map-comb}
-use Rattle.theory_spaces.proofs.ProductTraces.{by_left_linear, by_right_linear, product_trace, product_trace-add, product_trace-scale, product_trace-zero, product_trace-comb, product_trace_comm, product_trace-nilpotent, zero_product, next_power}
+use Rattle.theory_spaces.proofs.ProductTraces.{by_left_linear, by_right_linear, product_trace, product_trace-add}
+use Rattle.theory_spaces.proofs.ProductTraces.{product_trace-scale, product_trace-zero, product_trace-comb}
+use Rattle.theory_spaces.proofs.ProductTraces.{product_trace_comm, product_trace-nilpotent, zero_product, next_power}
 use Rattle.theory_spaces.proofs.Tables.{space_basis, space_basis-coord}
-use Rattle.theory_spaces.proofs.Tuples.{Tuple-path, tuples, tuple_space, tuples-zero, tuples-add, tuples-scale, unit-basis}
+use Rattle.theory_spaces.proofs.Tuples.{Tuple-path, tuples, tuple_space, tuples-zero, tuples-add, tuples-scale}
+use Rattle.theory_spaces.proofs.Tuples.{unit-basis}
 use Rattle.theory_spaces.proofs.TupleProducts.{tuple_product, tuple_product-list, tuple_product_assoc, product-one}
 use Rattle.theory_tables.specs.Matrix.{entry}
 use Rattle.theory_tables.specs.Subspace as rows_of
@@ -29,7 +33,8 @@ use Rattle.theory_tables.specs.Laws.{TraceRadicalLaw}
 use Rattle.theory_tables.proofs.Bridge.{as_tuple, IsTuple-of, basis-at, row, row-is, to_span, from_span, map_span}
 
 -- the product of an associative table
-module _ {E : Type 0} (o : Ops E) (L : FieldLaws o) (m : ℕ) (cs : List E) (constants : All (IsElem o) cs) (assoc : AssociativeTable o m cs) where
+module _ {E : Type 0} (o : Ops E) (L : FieldLaws o) (m : ℕ) (cs : List E) (constants : All (IsElem o) cs)
+    (assoc : AssociativeTable o m cs) where
   infixl 65 ◌⊕◌
   infixl 70 ◌⊗◌
   infixl 70 ◌•◌
@@ -68,7 +73,8 @@ module _ {E : Type 0} (o : Ops E) (L : FieldLaws o) (m : ℕ) (cs : List E) (con
   trace-is x =
       sym (sum_of-elements o L m (λ j. B.coord (x ⊗ B.vec j) j))
       ∙ sum_of_congr o m (λ j. (B.coord (x ⊗ B.vec j) j).0) (λ j. at o (product o m cs x.0 (basis o m j)) j) (λ j j_in.
-      coord-is (x ⊗ B.vec j) j j_in ∙ ap (λ xs. at o xs j) (product-is x (B.vec j) ∙ ap (product o m cs x.0) (vec-is j)))
+      coord-is (x ⊗ B.vec j) j j_in ∙ ap (λ xs. at o xs j)
+      (product-is x (B.vec j) ∙ ap (product o m cs x.0) (vec-is j)))
 
   -- the trace of a product
   trace_product : (x y : Tuple o m) → (t (x ⊗ y)).0 ≡ list_trace o m cs (product o m cs x.0 y.0)
@@ -87,40 +93,49 @@ module _ {E : Type 0} (o : Ops E) (L : FieldLaws o) (m : ℕ) (cs : List E) (con
   }
 
   -- the same of a list that the tuple is
-  from_radical_at : (x : Tuple o m) (a : List E) → x.0 ≡ a → ((y : Tuple o m) → t (x ⊗ y) ≡ K.zero) → InTraceRadical o m cs a
+  from_radical_at : (x : Tuple o m) (a : List E) → x.0 ≡ a → ((y : Tuple o m) → t (x ⊗ y) ≡ K.zero)
+      → InTraceRadical o m cs a
   from_radical_at x a e h = subst (InTraceRadical o m cs) e (from_radical x h)
 
   -- row i of the form, times a tuple
-  form_row : (x : Tuple o m) (i : ℕ) → i < m → sum_of o m (λ j. o.mul (entry o (trace_form o m cs) i j) (at o x.0 j)) ≡ (t (x ⊗ B.vec i)).0
+  form_row : (x : Tuple o m) (i : ℕ) → i < m → sum_of o m
+      (λ j. o.mul (entry o (trace_form o m cs) i j) (at o x.0 j)) ≡ (t (x ⊗ B.vec i)).0
   form_row x i i_in =
       let c = B.coord x in
       let v = B.vec i in
-      sum_of_congr o m (λ j. o.mul (entry o (trace_form o m cs) i j) (at o x.0 j)) (λ j. (K.◌⊗◌ (c j) (t (v ⊗ B.vec j))).0) (λ j j_in.
-      ap₂ o.mul (entry_table o L m m (λ i j. list_trace o m cs (product o m cs (basis o m i) (basis o m j))) i j i_in j_in
+      sum_of_congr o m (λ j. o.mul (entry o (trace_form o m cs) i j) (at o x.0 j))
+      (λ j. (K.◌⊗◌ (c j) (t (v ⊗ B.vec j))).0) (λ j j_in.
+      ap₂ o.mul (entry_table o L m m (λ i j. list_trace o m cs
+      (product o m cs (basis o m i) (basis o m j))) i j i_in j_in
       ∙ sym (trace_product v (B.vec j) ∙ ap₂ (λ a b. list_trace o m cs (product o m cs a b)) (vec-is i) (vec-is j)))
       (sym (coord-is x j j_in))
       ∙ ap (λ (a : Elem o). a.0) (K.mul_comm (t (v ⊗ B.vec j)) (c j)))
       ∙ sum_of-elements o L m (λ j. K.◌⊗◌ (c j) (t (v ⊗ B.vec j)))
       ∙ ap (λ (a : Elem o). a.0) (
       sym (product_trace-comb K.cring M P m B m c (λ j. v ⊗ B.vec j))
-      ∙ ap t (sym (map-comb M M (λ y. v ⊗ y) (by_left_linear K.cring M P m B v) m c B.vec) ∙ ap (λ y. v ⊗ y) (sym (B.expand x)))
+      ∙ ap t (sym (map-comb M M (λ y. v ⊗ y) (by_left_linear K.cring M P m B v) m c B.vec)
+      ∙ ap (λ y. v ⊗ y) (sym (B.expand x)))
       ∙ product_trace_comm K.cring M P m B mul_assoc v x)
 
   -- what is orthogonal to the basis is orthogonal to all
-  orthogonal_of_basis : (x : Tuple o m) → ((i : ℕ) → i < m → t (x ⊗ B.vec i) ≡ K.zero) → (y : Tuple o m) → t (x ⊗ y) ≡ K.zero
+  orthogonal_of_basis : (x : Tuple o m) → ((i : ℕ) → i < m → t (x ⊗ B.vec i) ≡ K.zero) → (y : Tuple o m)
+      → t (x ⊗ y) ≡ K.zero
   orthogonal_of_basis x h y =
       let c = B.coord y in
       ap (λ z. t (x ⊗ z)) (B.expand y) ∙ ap t (map-comb M M (λ z. x ⊗ z) (by_left_linear K.cring M P m B x) m c B.vec)
       ∙ product_trace-comb K.cring M P m B m c (λ i. x ⊗ B.vec i)
-      ∙ sum_eq_zero K.monoid m (λ i. K.◌⊗◌ (c i) (t (x ⊗ B.vec i))) (λ i i_in. ap (K.◌⊗◌ (c i)) (h i i_in) ∙ mul-zero K.ring (c i))
+      ∙ sum_eq_zero K.monoid m (λ i. K.◌⊗◌ (c i) (t (x ⊗ B.vec i)))
+      (λ i i_in. ap (K.◌⊗◌ (c i)) (h i i_in) ∙ mul-zero K.ring (c i))
 
   -- an identity has trace m·1
   trace-one : (one : List E) → IsTableOne o m cs one → list_trace o m cs one ≡ times_of o m o.one
   trace-one one is_one = sum_of_congr o m (λ j. at o (product o m cs one (basis o m j)) j) (λ _. o.one) (λ j j_in.
-      ap (λ xs. at o xs j) (is_one.one-mul j j_in) ∙ basis-at o L m j j j_in ∙ ap (λ (x : Elem o). x.0) (delta-same K.ring j))
+      ap (λ xs. at o xs j) (is_one.one-mul j j_in) ∙ basis-at o L m j j j_in
+      ∙ ap (λ (x : Elem o). x.0) (delta-same K.ring j))
 
   -- powers as products of lists
-  power-is : (x : Tuple o m) (e : ℕ) → (next_power K.cring M P m B mul_assoc x e).0 ≡ product_of_list o m cs (λ _. x.0) e
+  power-is : (x : Tuple o m) (e : ℕ) → (next_power K.cring M P m B mul_assoc x e).0 ≡ product_of_list o m cs
+      (λ _. x.0) e
   power-is x zero = refl
   power-is x (suc e) = product-is x (next_power K.cring M P m B mul_assoc x e) ∙ ap (product o m cs x.0) (power-is x e)
 
@@ -139,12 +154,14 @@ module _ {E : Type 0} (o : Ops E) (L : FieldLaws o) (m : ℕ) (cs : List E) (con
         (ideal.right i r i_in r_in))
 
     right_product : (x y : Tuple o m) → In x → In (x ⊗ y)
-    right_product x y s = map_span M M (λ z. z ⊗ y) (by_right_linear K.cring M P m B y) (length rows) v x s (length rows) v (λ r r_in.
+    right_product x y s = map_span M M (λ z. z ⊗ y) (by_right_linear K.cring M P m B y) (length rows) v x s
+        (length rows) v (λ r r_in.
         map_span M M (λ z. v r ⊗ z) (by_left_linear K.cring M P m B (v r)) m B.vec y
         (record { weights = B.coord y; combines = B.expand y }) (length rows) v (λ i i_in. row_basis r i r_in i_in))
 
     -- a nilpotent ideal lies in the radical
-    nilpotent-in : PowerVanishes o m cs rows → (a : List E) → IsTuple o m a → rows_of.InSpan o m rows a → InTraceRadical o m cs a
+    nilpotent-in : PowerVanishes o m cs rows → (a : List E) → IsTuple o m a → rows_of.InSpan o m rows a
+        → InTraceRadical o m cs a
     nilpotent-in p a tuple s =
         let x = as_tuple o L m a tuple in
         from_radical x (λ y.
@@ -152,7 +169,8 @@ module _ {E : Type 0} (o : Ops E) (L : FieldLaws o) (m : ℕ) (cs : List E) (con
         let z_in = from_span o L m rows ideal.shape z (right_product x y (to_span o L m rows ideal.shape x s)) in
         product_trace-nilpotent K M P m B mul_assoc z p.exponent
         (Tuple-path o L m (next_power K.cring M P m B mul_assoc z p.exponent) M.zero
-        (power-is z p.exponent ∙ p.vanishes (λ _. z.0) (λ _. IsTuple-of o L m z) (λ _. z_in) ∙ sym (tuples-zero o L m))))
+        (power-is z p.exponent ∙ p.vanishes (λ _. z.0) (λ _. IsTuple-of o L m z) (λ _. z_in)
+        ∙ sym (tuples-zero o L m))))
 
 module _ {E : Type 0} (o : Ops E) (L : FieldLaws o) (m : ℕ) (cs : List E) where
   -- the radical of the trace form is an ideal, which holds the nilpotent ones
@@ -187,13 +205,15 @@ module _ {E : Type 0} (o : Ops E) (L : FieldLaws o) (m : ℕ) (cs : List E) wher
             let x = tuple a ha.tuple in
             let y = tuple b hb in
             from (P.◌⊗◌ y x) (product o m cs b a) (is y x) (λ z.
-            ap tr (A y x z) ∙ product_trace_comm K.cring M P m B A y (P.◌⊗◌ x z) ∙ ap tr (A x z y) ∙ to x ha (P.◌⊗◌ z y));
+            ap tr (A y x z) ∙ product_trace_comm K.cring M P m B A y (P.◌⊗◌ x z) ∙ ap tr (A x z y)
+            ∙ to x ha (P.◌⊗◌ z y));
         right = λ a b hb ha.
             let x = tuple a ha.tuple in
             let y = tuple b hb in
             from (P.◌⊗◌ x y) (product o m cs a b) (is x y) (λ z. ap tr (A x y z) ∙ to x ha (P.◌⊗◌ y z));
         not_everything = λ one is_one d k. d (sym (trace-one o L m cs g assoc one is_one)
-            ∙ ap (list_trace o m cs) (sym (product-one o L m cs g one is_one one is_one.tuple)) ∙ k.orthogonal one is_one.tuple);
+            ∙ ap (list_trace o m cs) (sym (product-one o L m cs g one is_one one is_one.tuple))
+            ∙ k.orthogonal one is_one.tuple);
         nilpotent = λ rows ideal p v v_in s. nilpotent-in o L m cs g assoc rows ideal p v v_in s;
         kernel = λ a a_in.
             let x = tuple a a_in in
