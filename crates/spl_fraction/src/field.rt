@@ -1,9 +1,11 @@
 // The field of fractions.
-ghost use Rattle.std.specs.Prelude.{◌≡◌, ◌≢◌, ◌↔◌, ℕ, List, [], ◌∷◌, ◌++◌, Some, IfOk, IfSome, IsTrue, MatchOption, OnOk, OnErr};
+ghost use Rattle.std.specs.Prelude.{◌≡◌, ◌≢◌, ◌↔◌, ℕ, List, [], ◌∷◌, ◌++◌, Some, IfOk, IfSome, IsTrue, MatchOption};
+ghost use Rattle.std.specs.Prelude.{OnOk, OnErr};
 ghost use Rattle.theory_rings.specs.Ops.{IsElem};
 ghost use Rattle.spl_field.specs.SmallField.{small_ops, characteristic, modulus_of};
 ghost use Rattle.spl_poly.specs.Operations.{IsOver};
-ghost use Rattle.spl_fraction.specs.Fraction.{Pair, IsLowestTerms, IsFraction, IsFractionSum, IsFractionProduct, IsFractionNegative, IsFractionInverse};
+ghost use Rattle.spl_fraction.specs.Fraction.{Pair, IsLowestTerms, IsFraction, IsFractionSum, IsFractionProduct};
+ghost use Rattle.spl_fraction.specs.Fraction.{IsFractionNegative, IsFractionInverse};
 ghost use Rattle.spl_fraction.specs.FractionsOver.{fractions_over, fractions_laws};
 
 use crate::arithmetic::{are_same, copy_of, inverse_of, negative_of, product_of, sum_of};
@@ -148,7 +150,8 @@ impl Fractions {
         Ok(Some(reduced(alloc, &self.field, num, den)?))
     }
 
-    /// The fraction whose canonical text this is; None exactly where it is that of none. The one fault is want of memory.
+    /// The fraction whose canonical text this is; None exactly where it is that of none. The one fault is want of
+    /// memory.
     pub fn read_fraction(&self, alloc: Global, text: &[u8]) -> Result<Option<Fraction>, NoMemory>
         ensures elem { IfOk result (λ o. IfSome o (IsElem (fractions_over (field_of self.now)))) }
         ensures value { IfOk result (λ o. MatchOption o
@@ -163,7 +166,7 @@ impl Fractions {
     /// Writes the canonical text of the fraction behind what there is, which stays as it was where memory is wanting.
     pub fn write_fraction(
         &self,
-        alloc: Global,
+        _alloc: Global,
         a: &Fraction,
         out: &mut Vec<u8>,
     ) -> Result<(), NoMemory>
@@ -171,6 +174,6 @@ impl Fractions {
         ensures ok { OnOk result (out.new.items ≡ out.old.items ++ canonical_text a.now) }
         ensures err { OnErr result (out.new.items ≡ out.old.items) }
     {
-        push_fraction(alloc, a, out)
+        push_fraction(a, out)
     }
 }

@@ -4,12 +4,21 @@ ghost use Rattle.std.specs.Prelude.{◌≡◌};
 use spl_poly::poly::Poly;
 use std::marker::Model;
 
-/// A fraction: a numerator, and a monic denominator without a common divisor of degree 1 or more. Contracts see it as the
-/// pair of their coefficients. Over which field it is one is a condition of the calls that take it.
-#[derive(Drop)]
+/// A fraction: a numerator, and a monic denominator without a common divisor of degree 1 or more. Contracts see it as
+/// the pair of their coefficients. Over which field it is one is a condition of the calls that take it.
 pub struct Fraction {
     numerator: Poly,
     denominator: Poly,
+}
+
+// (one proof for all functions that drop a fraction, in place of one in each)
+impl Drop for Fraction {
+    fn drop(self) {
+        let Fraction {
+            numerator,
+            denominator,
+        } = self;
+    }
 }
 
 impl Model for Fraction {

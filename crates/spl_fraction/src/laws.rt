@@ -20,5 +20,6 @@ pub fn operations_are_of_fractions(f: &SmallField)
 
 /// A text is the canonical text of at most one fraction.
 pub fn one_fraction_a_text(f: &SmallField)
-    ensures { (bytes : List ℕ) (w x : Pair ℕ) → IsCanonicalText (small_ops f.now) bytes w → IsCanonicalText (small_ops f.now) bytes x → w ≡ x }
+    ensures { (bytes : List ℕ) (w x : Pair ℕ) → IsCanonicalText (small_ops f.now) bytes w
+        → IsCanonicalText (small_ops f.now) bytes x → w ≡ x }
 {}

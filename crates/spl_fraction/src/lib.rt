@@ -11,7 +11,5 @@ pub mod laws;
 pub mod place;
 mod reading;
 mod reduction;
-#[cfg(test)]
-mod tests;
 pub mod tuples;
 mod writing;

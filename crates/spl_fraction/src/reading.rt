@@ -11,8 +11,8 @@ ghost use Rattle.spl_fraction.specs.CanonicalWords.{denominator_of, words_of, Is
 
 use crate::fraction::Fraction;
 use crate::reduction::{are_coprime, is_monic, one_poly};
-use smallvec::SmallVec;
 use spl_field::field::NoMemory;
+use spl_field::list::Codes;
 use spl_field::small::SmallField;
 use spl_poly::poly::Poly;
 use spl_text::fraction::{FractionWords, fraction_of};
@@ -25,13 +25,14 @@ fn polynomial_of_numbers(
     f: &SmallField,
     numbers: &Numbers,
 ) -> Result<Option<Poly>, NoMemory>
-    ensures value { IfOk result (λ o. MatchOption o (IsOver (small_ops f.now) numbers.now → ⊥) (λ p. p ≡ without_zeros numbers.now)) }
+    ensures value { IfOk result (λ o. MatchOption o (IsOver (small_ops f.now) numbers.now
+        → ⊥) (λ p. p ≡ without_zeros numbers.now)) }
     ensures over { IfOk result (λ o. IfSome o (IsOver (small_ops f.now))) }
     ensures trimmed { IfOk result (λ o. IfSome o (IsTrimmed 0)) }
 {
     let size = u32::from(f.size());
     let items = numbers.as_slice();
-    let mut coefficients: SmallVec<u8, 16> = SmallVec::new(alloc);
+    let mut coefficients = Codes::new(alloc);
     for number in items {
         if *number >= size {
             return Ok(None);

@@ -1,4 +1,4 @@
-use Rattle.std.proofs.Common.{◌∙◌, ap, ⊎_elim}
+use Rattle.std.proofs.Common.{⊎_elim}
 use Rattle.spl_field.specs.SmallField.{small_ops}
 use Rattle.spl_fraction.specs.FractionsOver.{small_laws}
 use Rattle.spl_fraction.proofs.Reducing.{zero_lowest_pair, zero_value_pair, coprime_of_constant_left, coprime_of_constant_right, coprime_of_constant_divisor, divisor_nonzero}
@@ -7,12 +7,12 @@ use Rattle.spl_fraction.proofs.reduction.reduced.Goals as goal
 pub returns-then-is_zero-clause-lowest : goal.returns-then-is_zero-clause-lowest
 returns-then-is_zero-clause-lowest c =
     zero_lowest_pair (small_ops c.args.f.now) (small_laws c.args.f.now) c.of.result c.args.num c.in_ok-one_poly.field-0
-    (c.is_zero.ensures.0 c.if-is_zero.true) c.in_ok-one_poly.ensures (c.of.ensures ∙ ap (λ x. (x, c.in_ok-one_poly.field-0)) c.num.view_is)
+    (c.is_zero.ensures.0 c.if-is_zero.true) c.in_ok-one_poly.ensures c.of.ensures
 
 pub returns-then-is_zero-clause-value : goal.returns-then-is_zero-clause-value
 returns-then-is_zero-clause-value c =
     zero_value_pair (small_ops c.args.f.now) (small_laws c.args.f.now) c.of.result c.args.num c.in_ok-one_poly.field-0
-    (c.is_zero.ensures.0 c.if-is_zero.true) c.in_ok-one_poly.ensures (c.of.ensures ∙ ap (λ x. (x, c.in_ok-one_poly.field-0)) c.num.view_is) c.args.den c.requires.den_over
+    (c.is_zero.ensures.0 c.if-is_zero.true) c.in_ok-one_poly.ensures c.of.ensures c.args.den c.requires.den_over
 
 pub with_monic_denominator-requires-clause-coprime : goal.with_monic_denominator-requires-clause-coprime
 with_monic_denominator-requires-clause-coprime c =

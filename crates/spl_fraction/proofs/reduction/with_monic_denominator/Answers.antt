@@ -17,7 +17,7 @@ returns-then-lead-eq1-clause-lowest c =
 pub returns-clause-lowest : goal.returns-clause-lowest
 returns-clause-lowest c =
     let o = small_ops c.args.f.now in
-    subst (λ w. IsLowestTerms o w.0 w.1) (sym c.of-3.ensures)
+    subst (λ w. IsLowestTerms o w.0 w.1) (sym c.of-2.ensures)
     (monic_lowest o (small_laws c.args.f.now) c.args.num c.args.den c.in_ok-scaled.field-0 c.in_ok-scaled-2.field-0
     record { over = c.requires.num_over; trimmed = c.requires.num_trimmed }
     record { over = c.requires.den_over; trimmed = c.requires.den_trimmed }
@@ -30,7 +30,7 @@ returns-clause-lowest c =
 pub returns-clause-value : goal.returns-clause-value
 returns-clause-value c =
     let o = small_ops c.args.f.now in
-    subst (λ w. IsFraction o w c.args.num c.args.den) (sym c.of-3.ensures)
+    subst (λ w. IsFraction o w c.args.num c.args.den) (sym c.of-2.ensures)
     (monic_value o (small_laws c.args.f.now) c.args.num c.args.den c.in_ok-scaled.field-0 c.in_ok-scaled-2.field-0
     record { over = c.requires.num_over; trimmed = c.requires.num_trimmed }
     record { over = c.requires.den_over; trimmed = c.requires.den_trimmed }
