@@ -7,5 +7,4 @@
 pub mod centre;
 mod identity;
 mod radical;
-#[cfg(test)]
-mod tests;
+

@@ -7,6 +7,4 @@
 pub mod evidence;
 pub mod laws;
 mod lines;
-#[cfg(test)]
-mod tests;
 pub mod writing;

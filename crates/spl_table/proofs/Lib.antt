@@ -2,7 +2,7 @@ pub mod Spellings
 pub mod TextLaws
 mod Places
 mod Faults
-mod OneRefusal
+pub mod OneRefusal
 mod Elements
 mod Filling
 mod Constants

@@ -12,8 +12,6 @@ mod constants;
 mod entries;
 mod entry;
 mod head;
-#[cfg(test)]
-mod tests;
 
 use crate::reader::entries::read_entries;
 use crate::reader::head::{read_degree, read_fractions};

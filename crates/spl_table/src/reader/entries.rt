@@ -16,7 +16,7 @@ use crate::reader::entry::{EntryWords, read_entry};
 use crate::refusal::{Kind, TableFault};
 use spl_algebra::algebra::Constants;
 use spl_field::field::NoMemory;
-use spl_field::list::Vector;
+use spl_field::list::List;
 use spl_fraction::field::Fractions;
 use spl_text::word::split_once;
 use std::alloc::Global;
@@ -66,7 +66,7 @@ pub fn read_entries<'a>(
     ensures few { IfOk result (λ r. r.number ≤ 15629) }
     ensures fault { IfErr result (λ e. IfRefused e (IsFaultAfter (head_of (field_of k.now) n) bytes.now)) }
 {
-    let mut constants = Vector::new(alloc);
+    let mut constants = List::new(alloc);
     let mut rest = bytes;
     let mut number = 4;
     while let Some((text, after)) = split_once(rest, b'\n') {
