@@ -13,7 +13,7 @@ use Rattle.theory_spaces.specs.Linear.{InSpan, Basis}
 use Rattle.theory_spaces.specs.Algebra.{IdealSpan}
 use Rattle.theory_spaces.specs.AlgebraMap.{IsSimple}
 use Rattle.theory_spaces.specs.Subspaces.{Whole}
-use Rattle.theory_spaces.proofs.Modules.{InSpan-add, InSpan-member, linear_ext, linear_id, left_linear}
+use Rattle.theory_spaces.proofs.Modules.{InSpan-member, linear_ext, linear_id, left_linear}
 use Rattle.theory_spaces.specs.Sets.{Within, Same, Test, ring_ops}
 use Rattle.theory_spaces.proofs.Ideals.{span_ideal, ideal_whole}
 use Rattle.theory_spaces.proofs.GeneratedIdeals.{around, around_ideal, around-self, around_within}

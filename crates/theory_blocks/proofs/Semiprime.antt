@@ -1,14 +1,13 @@
 -- An algebra without nilpotent ideals but 0. An element x with x·a·x = 0 for all a is 0, since the square of the ideal that it generates
 -- is 0; so a nilpotent element of the centre is 0.
 use Rattle.std.specs.Prelude.{◌≡◌, ℕ, zero, suc, ◌+◌, ◌*◌, ◌/◌, ◌%◌}
-use Rattle.std.proofs.Common.{refl, sym, ◌∙◌, ap, subst, arith}
+use Rattle.std.proofs.Common.{refl, sym, ◌∙◌, ap, arith}
 use Rattle.theory_rings.specs.Ring.{FieldOn}
 use Rattle.theory_rings.specs.Power.{power}
 use Rattle.theory_rings.proofs.Rings.RingLaws.{mul-zero, zero-mul}
 use Rattle.theory_rings.proofs.Powers.Powers.{power-add, power_commutes}
 use Rattle.theory_spaces.specs.Module.{ModuleOn, AlgebraOn, module_of}
-use Rattle.theory_spaces.specs.Linear.{InSpan, Basis}
-use Rattle.theory_spaces.specs.Algebra.{IdealSpan}
+use Rattle.theory_spaces.specs.Linear.{Basis}
 use Rattle.theory_spaces.proofs.Modules.{left_linear, right_linear, linear_comp, linear_id}
 use Rattle.theory_spaces.proofs.GeneratedIdeals as generated
 use Rattle.theory_radical.specs.Ideal.{IsNilpotentIdeal}

@@ -1,6 +1,6 @@
 -- What the definitions ask of the ideals that tests tell holds of each set: the ideal that one member of it generates
 -- is a lattice, and so it is told by a test.
-use Rattle.std.specs.Prelude.{ℕ, Bool, ◌⊎◌}
+use Rattle.std.specs.Prelude.{ℕ, Bool}
 use Rattle.std.proofs.Common.{sym, ◌∙◌, ap, subst, inl, inr, ⊎_elim}
 use Rattle.theory_rings.specs.Ring.{FieldOn}
 use Rattle.theory_spaces.specs.Module.{ModuleOn, AlgebraOn, module_of}
@@ -9,8 +9,8 @@ use Rattle.theory_spaces.specs.Valuation.{ValuationOn, integers, restrict}
 use Rattle.theory_spaces.proofs.Modules.{InSpan-scale, span_in}
 use Rattle.theory_spaces.proofs.Spaces.{coords_of}
 use Rattle.theory_orders.specs.Uniformizer.{UniformizerOn}
-use Rattle.theory_orders.specs.Orders.{IsOrder, IsIdeal, Around, Generated, Multiple, Power, Radical, SimpleQuotient}
-use Rattle.theory_orders.specs.Orders.{IsMaximalIdeal, OnlyMaximalIdeal, Within, Same, Test}
+use Rattle.theory_orders.specs.Orders.{IsOrder, IsIdeal, Around, Generated, Multiple, Power, Radical}
+use Rattle.theory_orders.specs.Orders.{Within, Same, Test}
 use Rattle.theory_orders.specs.Lattices.{Lattice, IsOrderAt}
 use Rattle.theory_orders.specs.MaximalIdealLaws.{RadicalHolds, SimpleHolds, OnlyHolds}
 use Rattle.theory_orders.proofs.Ideals.{ideal_same, whole, generated_in}

@@ -2,7 +2,7 @@
 -- those members of L by which the coordinates of all products with a basis of the ideal are multiples of p; and what
 -- is left of a lattice by the condition that a functional, integral on it, has a multiple of p as value is a lattice
 -- again: where the value at a vector is a unit, a multiple of that vector corrects the others.
-use Rattle.std.specs.Prelude.{◌≡◌, ℕ, zero, suc, ◌+◌, ◌*◌, ◌/◌, ◌%◌, ◌<◌, ◌⊎◌, IsTrue}
+use Rattle.std.specs.Prelude.{◌≡◌, ℕ, zero, suc, ◌+◌, ◌*◌, ◌/◌, ◌%◌, ◌<◌}
 use Rattle.std.proofs.Common.{refl, sym, ◌∙◌, ap, ap₂, subst, arith, ⊎_elim}
 use Rattle.std.proofs.lemmas.Nat.{div-mul-add, mod-mul-add}
 use Rattle.theory_rings.specs.Ring.{FieldOn}
@@ -20,7 +20,7 @@ use Rattle.theory_spaces.proofs.Dimension.{dimension_unique}
 use Rattle.theory_spaces.proofs.Lattices.{lattice_basis}
 use Rattle.theory_spaces.proofs.PairIndex.{pair-lt, row-lt, column-lt}
 use Rattle.theory_orders.specs.Uniformizer.{IsIntegral, IsUnit, UniformizerOn}
-use Rattle.theory_orders.specs.Orders.{IsOrder, IsIdeal, Multiple, LeftOrder, Within, Same}
+use Rattle.theory_orders.specs.Orders.{IsIdeal, Multiple, LeftOrder, Within, Same}
 use Rattle.theory_orders.specs.Lattices.{Lattice, IsOrderAt}
 use Rattle.theory_orders.proofs.LatticeTests.{all_or_not, over_field, over_integers, integral_weights}
 use Rattle.theory_orders.proofs.SimpleQuotients.{mul_lattice}

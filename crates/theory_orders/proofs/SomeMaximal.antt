@@ -1,7 +1,7 @@
 -- Where p is not a unit and the algebra is not 0, one is no multiple of p in an order; so where nothing grows it is
 -- absurd that there is no maximal ideal over p times the order, and the radical is one. Nothing grows where the
 -- ideals of a list don't which has all the maximal ones.
-use Rattle.std.specs.Prelude.{◌≡◌, ℕ, zero, suc, ◌<◌, ◌⊎◌}
+use Rattle.std.specs.Prelude.{◌≡◌, ℕ, zero, suc, ◌<◌}
 use Rattle.std.proofs.Common.{refl, sym, ◌∙◌, ap, subst, inl, inr, ⊎_elim}
 use Rattle.theory_rings.specs.Ring.{FieldOn}
 use Rattle.theory_rings.specs.Power.{power}
@@ -15,11 +15,9 @@ use Rattle.theory_spaces.specs.Valuation.{ValuationOn}
 use Rattle.theory_spaces.proofs.SpanTests.{some_or_all}
 use Rattle.theory_spaces.proofs.Modules.{comb_zero, comb-scale}
 use Rattle.theory_orders.specs.Uniformizer.{IsIntegral, UniformizerOn}
-use Rattle.theory_orders.specs.Orders.{IsOrder, Multiple, Power, Radical, LeftOrder, IsMaximalIdeal, OnlyMaximalIdeal}
-use Rattle.theory_orders.specs.Orders.{Within, Same}
-use Rattle.theory_orders.specs.Lattices.{Lattice, IsOrderAt, NothingGrows}
+use Rattle.theory_orders.specs.Orders.{Multiple}
+use Rattle.theory_orders.specs.Lattices.{Lattice, IsOrderAt}
 use Rattle.theory_orders.specs.MaximalIdealLaws.{SomeIsOnly, RadicalIsTheOnly, NothingGrowsByList}
-use Rattle.theory_orders.proofs.Ideals.{whole}
 use Rattle.theory_orders.proofs.Multiples.{of-Multiple}
 use Rattle.theory_orders.proofs.LatticeTests.{integral_weights}
 use Rattle.theory_orders.proofs.LeftOrders.{Power_one}

@@ -2,7 +2,7 @@
 use Rattle.std.specs.Prelude.{◌≡◌, ℕ, zero, suc, ◌↔◌, Bool, true, false, cond, ltb}
 use Rattle.std.proofs.Common.{refl, sym, ◌∙◌, ap, ap₂, subst}
 use Rattle.theory_rings.specs.Ring.{RingOn}
-use Rattle.theory_rings.proofs.Rings.RingLaws.{add-zero, add-neg, add_cancel_left, neg-mul, zero-mul}
+use Rattle.theory_rings.proofs.Rings.RingLaws.{add-zero, add-neg, add_cancel_left, zero-mul}
 use Rattle.theory_spaces.specs.Module.{AlgebraOn}
 use Rattle.theory_spaces.proofs.Families.{push, push-below, push-at}
 use Rattle.theory_orders.specs.Orders.{IsOrder, IsIdeal, Power, Within}

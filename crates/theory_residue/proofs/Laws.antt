@@ -1,6 +1,6 @@
 -- The laws of the residue algebra.
 use Rattle.std.specs.Prelude.{ℕ, ◌+◌, ◌↔◌, Bool}
-use Rattle.std.proofs.Common.{subst, sym, inl, inr, ⊎_elim}
+use Rattle.std.proofs.Common.{subst, sym}
 use Rattle.theory_rings.specs.Ring.{FieldOn}
 use Rattle.theory_spaces.specs.Module.{ModuleOn, AlgebraOn, module_of}
 use Rattle.theory_spaces.specs.Linear.{InSpan, Basis}

@@ -1,12 +1,12 @@
 -- Simple algebras by spans and by tests. Over an infinite field no basis can be found of what a test tells; what is
 -- in hand is the ideal that one of its members generates, and that is a span.
-use Rattle.std.specs.Prelude.{◌≡◌, ℕ, ◌*◌, ◌<◌, Bool, IsTrue, ◌⊎◌, ◌↔◌}
+use Rattle.std.specs.Prelude.{◌≡◌, ℕ, ◌*◌, ◌<◌, Bool, IsTrue}
 use Rattle.std.proofs.Common.{refl, sym, ◌∙◌, ap, ap₂, subst, inl, inr, ⊎_elim}
 use Rattle.theory_rings.specs.Ring.{FieldOn}
 use Rattle.theory_rings.proofs.Rings.RingLaws.{mul-zero, zero-mul}
 use Rattle.theory_spaces.specs.Module.{ModuleOn, AlgebraOn, module_of}
 use Rattle.theory_spaces.specs.Linear.{InSpan, Coords, Basis}
-use Rattle.theory_spaces.specs.Algebra.{IdealSpan, IsSimple, SimpleByTests}
+use Rattle.theory_spaces.specs.Algebra.{IsSimple, SimpleByTests}
 use Rattle.theory_spaces.specs.Sets.{Whole, Zero, Within, Same, Test, ring_ops, IsIdeal}
 use Rattle.theory_spaces.proofs.Modules.{scale-zero, InSpan-zero, InSpan-member, span_in}
 use Rattle.theory_spaces.proofs.Spaces.{coords_of}

@@ -12,7 +12,7 @@ use Rattle.theory_rings.proofs.Rings.RingLaws.{mul-zero}
 use Rattle.theory_rings.proofs.Rings.Elements.{sum_of-elements, sum_of_congr}
 use Rattle.theory_spaces.specs.Module.{ModuleOn}
 use Rattle.theory_spaces.specs.Linear.{InSpan, Basis}
-use Rattle.theory_spaces.specs.Space.{SpaceOn, ProductOn}
+use Rattle.theory_spaces.specs.Space.{ProductOn}
 use Rattle.theory_spaces.specs.Tuples.{IsTuple, Tuple, tuple_zero, tuple_add, tuple_scale, basis, product}
 use Rattle.theory_spaces.specs.Tuples.{AssociativeTable, IsTableOne}
 use Rattle.theory_spaces.proofs.Matrices.{delta-same}
