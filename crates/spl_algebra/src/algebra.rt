@@ -17,10 +17,16 @@ pub type Constants<F> = Vector<F>;
 /// An algebra over a field, by its dimension m, at least 1, and its m³ structure constants: the product of the basis
 /// elements i and j is the sum over k of the constant at (i, j, k) times the basis element k. An element is a list of m
 /// elements of the field. It need not be associative or have an identity.
-#[derive(Drop)]
 pub struct Algebra<F: Field> {
     dim: usize,
     constants: Constants<F>,
+}
+
+// (one proof for all functions that drop an algebra, in place of one in each)
+impl<F: Field> Drop for Algebra<F> {
+    fn drop(self) {
+        let Algebra { dim, constants } = self;
+    }
 }
 
 impl<F: Field> Model for Algebra<F> {
@@ -31,7 +37,8 @@ impl<F: Field> Model for Algebra<F> {
 
     ghost view = { λ a. record { dim = a.dim; constants = a.constants } };
 
-    ghost invariant = { λ a. (1 ≤ a.dim) × (length a.constants ≡ a.dim * a.dim * a.dim) × (a.dim * a.dim * a.dim < 2 ^ 64) };
+    ghost invariant = { λ a.
+        (1 ≤ a.dim) × (length a.constants ≡ a.dim * a.dim * a.dim) × (a.dim * a.dim * a.dim < 2 ^ 64) };
 }
 
 impl<F: Field> Algebra<F> {

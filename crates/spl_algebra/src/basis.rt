@@ -5,7 +5,7 @@ ghost use Rattle.theory_spaces.specs.Tuples.{IsTuple, basis, product};
 
 use crate::products::{combination, first_of_combination, same};
 use spl_field::field::{Field, NoMemory};
-use spl_field::list::Vector;
+use spl_field::list::{List, Vector};
 use std::alloc::Global;
 
 /// The coordinates of the basis element i, of m.
@@ -27,7 +27,7 @@ pub(crate) fn coordinates<F: Field>(
         };
         items.push(item)?;
     }
-    Ok(Vector::from_vec(items))
+    Ok(List::from_vec(items))
 }
 
 /// The product of the basis elements i and j, which is the row of their constants.
@@ -43,7 +43,8 @@ pub(crate) fn row_of<'a, F: Field>(
     requires left { i < m }
     requires right { j < m }
     ensures elem { IsTuple (F.ops f.now) m result.now }
-    ensures value { result.now ≡ product (F.ops f.now) m constants.now (basis (F.ops f.now) m i) (basis (F.ops f.now) m j) }
+    ensures value { result.now ≡
+        product (F.ops f.now) m constants.now (basis (F.ops f.now) m i) (basis (F.ops f.now) m j) }
 {
     let _ = f;
     let start = (i * m + j) * m;
@@ -124,8 +125,8 @@ fn all_items_agree<F: Field>(
     Ok(same(f, left.as_slice(), right.as_slice()))
 }
 
-/// Whether (b_i·b_j)·b_k and b_i·(b_j·b_k) are the same. The first items are compared first, as where the products differ
-/// they mostly do.
+/// Whether (b_i·b_j)·b_k and b_i·(b_j·b_k) are the same. The first items are compared first, as where the products
+/// differ they mostly do.
 pub(crate) fn associates<F: Field>(
     alloc: Global,
     f: &F,

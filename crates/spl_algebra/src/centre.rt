@@ -11,7 +11,7 @@ ghost use Rattle.spl_algebra.specs.Subspaces.{SpansCentre};
 
 use crate::algebra::Algebra;
 use spl_field::field::{Field, NoMemory};
-use spl_field::list::Vector;
+use spl_field::list::{List, Vector};
 use spl_matrix::matrix::Matrix;
 use spl_matrix::subspace::Subspace;
 use std::alloc::Global;
@@ -58,7 +58,7 @@ fn commutator_row_of<F: Field>(
     ensures elem { IfOk result (IsTuple (F.ops f.now) m) }
     ensures value { IfOk result (λ r. r ≡ table m (commutator_item (F.ops f.now) m constants.now i k)) }
 {
-    let mut row = Vector::new(alloc);
+    let mut row = List::new(alloc);
     for j in 0..m {
         let right = &constants[(j * m + i) * m + k];
         let left = &constants[(i * m + j) * m + k];

@@ -5,20 +5,22 @@ ghost use Rattle.theory_rings.specs.Sum.{table};
 ghost use Rattle.theory_spaces.specs.Tuples.{IsTuple, tuple_neg};
 ghost use Rattle.theory_tables.specs.Structure.{IsOver};
 ghost use Rattle.spl_algebra.specs.Identity.{IsOne};
-ghost use Rattle.spl_algebra.specs.IdentitySystem.{constant_place, constant_row, unit_row, unit_item, IsIdentitySystem, ListsMultipliers};
+ghost use Rattle.spl_algebra.specs.IdentitySystem.{constant_place, constant_row, unit_row, unit_item};
+ghost use Rattle.spl_algebra.specs.IdentitySystem.{IsIdentitySystem, ListsMultipliers};
 
 use crate::algebra::Algebra;
 use crate::basis::coordinates;
 use spl_field::field::{Field, NoMemory};
-use spl_field::list::Vector;
+use spl_field::list::{List, Vector};
 use spl_matrix::lists::Multipliers;
 use spl_matrix::matrix::Matrix;
 use spl_matrix::solve::Solution;
 use std::alloc::Global;
 
 /// An identity, or multipliers of the equations of an identity by which these give 0 = 1. A left identity e solves
-/// Σ_i e_i·γ_ijk = δ_jk for all j and k, and a right one Σ_i e_i·γ_jik = δ_jk; `left` has multipliers of the first, `right`
-/// of the second. Basis elements are counted from 1, pairs (j, k) go up, and one that is not listed has the multiplier 0.
+/// Σ_i e_i·γ_ijk = δ_jk for all j and k, and a right one Σ_i e_i·γ_jik = δ_jk; `left` has multipliers of the first,
+/// `right` of the second. Basis elements are counted from 1, pairs (j, k) go up, and one that is not listed has the
+/// multiplier 0.
 #[derive(Drop)]
 pub enum One<F: Field> {
     Here {
@@ -61,7 +63,7 @@ fn constant_row<F: Field>(
     ensures elem { IfOk result (IsTuple (F.ops f.now) (m * m + m * m)) }
     ensures value { IfOk result (λ r. r ≡ constant_row (F.ops f.now) m constants.now i) }
 {
-    let mut items = Vector::new(alloc);
+    let mut items = List::new(alloc);
     for c in 0..m * m + m * m {
         items.push(f.copy(alloc, &constants[constant_place(m, i, c)])?)?;
     }
@@ -90,7 +92,7 @@ fn unit_row<F: Field>(alloc: Global, f: &F, m: usize) -> Result<Vector<F>, NoMem
     ensures elem { IfOk result (IsTuple (F.ops f.now) (m * m + m * m)) }
     ensures value { IfOk result (λ r. r ≡ unit_row (F.ops f.now) m) }
 {
-    let mut items = Vector::new(alloc);
+    let mut items = List::new(alloc);
     for c in 0..m * m + m * m {
         items.push(unit_item(alloc, f, m, c)?)?;
     }
@@ -130,7 +132,7 @@ fn listed<F: Field>(
     ensures { IfOk result (ListsMultipliers (F.ops f.now) m items.now) }
 {
     let zero = f.zero(alloc)?;
-    let mut list = Multipliers::new(alloc);
+    let mut list = List::new(alloc);
     for s in 0..items.len() {
         if !f.eq(&items[s], &zero) {
             let item = f.copy(alloc, &items[s])?;
@@ -151,7 +153,7 @@ fn opposite<F: Field>(
     ensures elem { IfOk result (IsTuple (F.ops f.now) m) }
     ensures value { IfOk result (λ r. r ≡ tuple_neg (F.ops f.now) m items.now) }
 {
-    let mut opposite = Vector::new(alloc);
+    let mut opposite = List::new(alloc);
     for i in 0..m {
         opposite.push(f.neg(alloc, &items[i])?)?;
     }

@@ -1,7 +1,7 @@
 // Algebras of finite dimension over any field, by their structure constants.
 //
-// It stands on spl_field, on spl_matrix for the linear systems, on theory_spaces for the definition of the product, and on
-// theory_tables for what an identity, the centre and an ideal are. Read the type `Algebra` first.
+// It stands on spl_field, on spl_matrix for the linear systems, on theory_spaces for the definition of the product, and
+// on theory_tables for what an identity, the centre and an ideal are. Read the type `Algebra` first.
 #![tactic(auto)]
 
 pub mod algebra;
@@ -11,6 +11,4 @@ pub mod ideal;
 pub mod identity;
 pub mod laws;
 mod products;
-#[cfg(test)]
-mod tests;
 pub mod trace;

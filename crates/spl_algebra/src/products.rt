@@ -6,7 +6,8 @@ ghost use Rattle.theory_spaces.specs.Tuples.{IsTuple, product};
 ghost use Rattle.spl_algebra.specs.Products.{AddsEach, scaled_rows, sum_of_rows};
 
 use spl_field::field::{Field, NoMemory};
-use spl_field::list::Vector;
+use spl_field::list::{List, Vector};
+use spl_matrix::rows::add_product;
 use std::alloc::Global;
 
 /// Adds c times the row to the sums. A zero of the row costs no multiplication.
@@ -110,7 +111,7 @@ pub(crate) fn product_of_slices<F: Field>(
             )?;
         }
     }
-    Ok(Vector::from_vec(sums))
+    Ok(List::from_vec(sums))
 }
 
 /// The sum over l of b_l times the m items of row l, where a row begins each stride items.
@@ -155,10 +156,7 @@ pub(crate) fn first_of_combination<F: Field>(
     let zero = f.zero(alloc)?;
     let mut total = f.zero(alloc)?;
     for l in 0..m {
-        if !f.eq(&b[l], &zero) {
-            let term = f.mul(alloc, &b[l], &rows[l * stride])?;
-            total = f.add(alloc, &total, &term)?;
-        }
+        total = add_product(alloc, f, &zero, total, &b[l], &rows[l * stride])?;
     }
     Ok(total)
 }

@@ -10,35 +10,10 @@ ghost use Rattle.spl_algebra.specs.Contractions.{contracted, contracted_row, con
 
 use crate::algebra::Algebra;
 use spl_field::field::{Field, NoMemory};
-use spl_field::list::Vector;
+use spl_field::list::{List, Vector};
 use spl_matrix::matrix::Matrix;
+use spl_matrix::rows::add_product;
 use std::alloc::Global;
-
-/// sum + a·b; a factor 0 costs no product.
-fn add_product<F: Field>(
-    alloc: Global,
-    f: &F,
-    zero: &F::Elem,
-    sum: F::Elem,
-    a: &F::Elem,
-    b: &F::Elem,
-) -> Result<F::Elem, NoMemory>
-    requires zero { zero.now ≡ (F.ops f.now).zero }
-    requires sum { IsElem (F.ops f.now) sum }
-    requires left { IsElem (F.ops f.now) a.now }
-    requires right { IsElem (F.ops f.now) b.now }
-    ensures elem { IfOk result (IsElem (F.ops f.now)) }
-    ensures value { IfOk result (λ r. r ≡ (F.ops f.now).add sum ((F.ops f.now).mul a.now b.now)) }
-{
-    if f.eq(a, zero) {
-        return Ok(sum);
-    }
-    if f.eq(b, zero) {
-        return Ok(sum);
-    }
-    let term = f.mul(alloc, a, b)?;
-    f.add(alloc, &sum, &term)
-}
 
 /// The sum over l of a_l times the constant at the place start + l·stride.
 fn contracted_item<F: Field>(
@@ -78,11 +53,13 @@ fn contracted_row_of<F: Field>(
     requires zero { zero.now ≡ (F.ops f.now).zero }
     requires coordinates { All (IsElem (F.ops f.now)) a.now }
     requires constants { All (IsElem (F.ops f.now)) constants.now }
-    requires within { (j l : ℕ) → j < length a.now → l < length a.now → start + j * along + l * stride < length constants.now }
+    requires within { (j l : ℕ) → j < length a.now → l < length a.now →
+        start + j * along + l * stride < length constants.now }
     ensures elem { IfOk result (IsTuple (F.ops f.now) (length a.now)) }
-    ensures value { IfOk result (λ r. r ≡ contracted_row (F.ops f.now) (length a.now) a.now constants.now start along stride) }
+    ensures value { IfOk result (λ r. r ≡
+        contracted_row (F.ops f.now) (length a.now) a.now constants.now start along stride) }
 {
-    let mut row = Vector::new(alloc);
+    let mut row = List::new(alloc);
     for j in 0..a.len() {
         row.push(contracted_item(alloc, f, zero, a, constants, start + j * along, stride)?)?;
     }
@@ -104,7 +81,8 @@ fn contraction_of<F: Field>(
     requires within { (r j l : ℕ) → r < length a.now → j < length a.now → l < length a.now →
         r * down + j * along + l * stride < length constants.now }
     ensures shape { IfOk result (IsMatrix (F.ops f.now) (length a.now)) }
-    ensures value { IfOk result (λ r. r ≡ contraction (F.ops f.now) (length a.now) a.now constants.now down along stride) }
+    ensures value { IfOk result (λ r. r ≡
+        contraction (F.ops f.now) (length a.now) a.now constants.now down along stride) }
 {
     let zero = f.zero(alloc)?;
     let mut rows = Matrix::new(alloc);
@@ -148,7 +126,7 @@ fn basis_traces_of<F: Field>(
     ensures elem { IfOk result (IsTuple (F.ops f.now) m) }
     ensures value { IfOk result (λ r. r ≡ table m (basis_trace (F.ops f.now) m constants.now)) }
 {
-    let mut traces = Vector::new(alloc);
+    let mut traces = List::new(alloc);
     for i in 0..m {
         traces.push(basis_trace_of(alloc, f, m, constants, i)?)?;
     }
