@@ -1,0 +1,13 @@
+pub mod Coefficients
+pub mod Lifting
+pub mod FractionField
+pub mod ListPolynomials
+pub mod LowestTerms
+pub mod FractionValues
+pub mod Coprime
+pub mod Reducing
+pub mod PairEquations
+pub mod SumsOfFractions
+pub mod ProductsOfFractions
+pub mod ElementClauses
+pub mod RationalFractions

@@ -1,0 +1,5 @@
+pub mod PolynomialLists
+pub mod Fraction
+pub mod FractionOps
+pub mod CommonDivisor
+pub mod FractionLaws
