@@ -18,7 +18,7 @@ use Rattle.theory_rings.proofs.Rings.Homomorphisms.{map-zero}
 use Rattle.theory_rings.proofs.Fractions.Fractions.{fraction_of, fraction_of_value}
 use Rattle.theory_rings.proofs.Fractions.Lowest.{polynomial_reduction}
 use Rattle.theory_lattices.specs.RationalFunctions.{Rational, of_polynomial}
-use Rattle.theory_places.specs.Residue.{ResidueOn}
+use Rattle.theory_residue.specs.Residue.{ResidueOn}
 use Rattle.theory_places.proofs.Quotients.{quotient_same, quotient_add, quotient_mul}
 use Rattle.theory_places.proofs.FinitePlaces.{place, in_off, integral_of, off_mul, off_one, multiple, q_value, q}
 

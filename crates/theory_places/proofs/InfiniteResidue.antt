@@ -22,7 +22,7 @@ use Rattle.theory_lattices.proofs.FractionDegrees.{rational_degree, rational_deg
 use Rattle.theory_lattices.proofs.Degrees.{has_degree-mul, below_of_degree}
 use Rattle.theory_lattices.proofs.RationalMembers.{polynomials_of}
 use Rattle.theory_places.specs.Places.{Infinite, PlaceValuation}
-use Rattle.theory_places.specs.Residue.{ResidueOn}
+use Rattle.theory_residue.specs.Residue.{ResidueOn}
 use Rattle.theory_places.proofs.Rationals.{inv_inv, zero_num, zero_of_num}
 use Rattle.theory_places.proofs.Infinity.{x_degree}
 use Rattle.theory_places.proofs.PlaceValuations.{at_infinity, infinite_valuation, x_ne}

@@ -11,3 +11,8 @@ pub mod SwapPlaces
 pub mod PlaceOrders
 pub mod PlaceResidues
 pub mod PolynomialFractions
+pub mod PulledBack
+pub mod FractionPlaces
+pub mod Quaternions
+pub mod QuaternionTables
+pub mod RamifiedPlaces

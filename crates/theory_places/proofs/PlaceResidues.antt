@@ -8,7 +8,7 @@ use Rattle.theory_spaces.specs.Valuation.{ValuationOn}
 use Rattle.theory_orders.specs.Uniformizer.{IsIntegral}
 use Rattle.theory_lattices.specs.RationalFunctions.{Rational, of_polynomial, of_constant, power_of_x}
 use Rattle.theory_places.specs.Places.{Infinite, IsIntegralAtInfinity, PlaceValuation}
-use Rattle.theory_places.specs.Residue.{ResidueOn}
+use Rattle.theory_residue.specs.Residue.{ResidueOn}
 use Rattle.theory_places.specs.PlaceLaws.{FiniteResidueFields, InfiniteResidueField, HasSwap, PolynomialsAmongFractions}
 use Rattle.theory_places.proofs.FinitePlaces.{place, place-tells}
 use Rattle.theory_places.proofs.PlaceValuations.{infinite_valuation}
@@ -20,7 +20,7 @@ use Rattle.theory_places.proofs.SwapPlaces.{swap, swap_hom, swap_twice, swap_con
 -- a residue map at a valuation ring is one at each with the same elements
 module _ {K E : Type 0} (F : FieldOn K) (Z Y : ValuationOn F) (q : K) (k : FieldOn E)
     (same : (x : K) → IsIntegral F Z x ↔ IsIntegral F Y x) where
-  abbrev residue_at : ResidueOn F Z q k → ResidueOn F Y q k
+  abbrev pub residue_at : ResidueOn F Z q k → ResidueOn F Y q k
   residue_at D = record {
     res = D.res;
     lift = D.lift;

@@ -1,4 +1,5 @@
 pub mod Places
 pub mod Valuations
-pub mod Residue
 pub mod PlaceLaws
+pub mod FractionPlaces
+pub mod Quaternions

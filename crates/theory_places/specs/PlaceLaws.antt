@@ -13,7 +13,7 @@ use Rattle.theory_orders.specs.Uniformizer.{IsIntegral}
 use Rattle.theory_lattices.specs.RationalFunctions.{Rational, IsPolynomial, of_polynomial, of_constant, power_of_x}
 use Rattle.theory_places.specs.Places.{PlaceOf, Finite, Infinite, IsIntegralAt, IsPlace, PlaceValuation}
 use Rattle.theory_places.specs.Valuations.{HasValuation}
-use Rattle.theory_places.specs.Residue.{ResidueOn}
+use Rattle.theory_residue.specs.Residue.{ResidueOn}
 
 -- the polynomial x
 abbrev pub x_polynomial : {k : Type 0} (F : FieldOn k) → Poly F.cring
@@ -56,8 +56,8 @@ module _ {k : Type 0} (F : FieldOn k) (Q : FieldOn (Rational F)) where
       → (E : FieldOn (Remainder F.cring m)) → IsRemainderRing F.cring m (field_polynomials F) E.cring
       → ResiduesByRemainders m V E
 
-  -- that of infinity is the field of constants: u/v in lowest terms, where u has no greater degree than the monic v, goes
-  -- to the coefficient of u at the degree of v
+  -- that of infinity is the field of constants: u/v in lowest terms, where u has no greater degree than the monic v,
+  -- goes to the coefficient of u at the degree of v
   pub record InfiniteResidueField (V : PlaceValuation F Q Infinite) : Type 0 where
     pub residue : ResidueOn Q V.valuation (Q.inv (Q.inv (power_of_x F 1))) F
     pub values : (x : Rational F) → IsIntegral Q V.valuation x

@@ -1,5 +1,6 @@
 -- The places of a field of rational functions: the monic irreducible polynomials, and infinity; what is integral there,
--- and the uniformizer. (Reiner, Maximal Orders, section 4; Stichtenoth, Algebraic Function Fields and Codes, section 1.2.)
+-- and the uniformizer. (Reiner, Maximal Orders, section 4; Stichtenoth, Algebraic Function Fields and Codes, section
+-- 1.2.)
 use Rattle.std.specs.Prelude.{◌≡◌, ◌≤◌, IsTrue, ◌⊎◌, ◌↔◌}
 use Rattle.theory_rings.specs.Ring.{FieldOn}
 use Rattle.theory_rings.specs.Polynomial.{Poly, IsMonic, degree}

@@ -1,0 +1,579 @@
+-- Quaternions with i² = p and j² = b are ramified where p is a uniformizer and b is no square modulo p.
+use Rattle.std.specs.Prelude.{◌≡◌, ◌≢◌, ℕ, zero, suc, ◌<◌, IsTrue, List, [], ◌∷◌, ◌⊎◌}
+use Rattle.std.proofs.Common.{refl, sym, ◌∙◌, ap, subst, arith, inl, inr, ⊎_elim}
+use Rattle.theory_rings.specs.Ring.{FieldOn}
+use Rattle.theory_rings.proofs.Rings.RingLaws.{mul-zero}
+use Rattle.theory_rings.proofs.Rings.Solver.{Ex, var, v0, v1, v2, v3, v4, nil, unit, ◌⊞◌, ◌⊠◌, minus, by_sorted, ring2, ring3}
+use Rattle.theory_spaces.specs.Module.{AlgebraOn}
+use Rattle.theory_spaces.specs.Valuation.{ValuationOn}
+use Rattle.theory_orders.specs.Uniformizer.{UniformizerOn}
+use Rattle.theory_orders.specs.Orders.{IsOrder, IsIdeal, Around, SumOf, Generated, Multiple, Power, Product, SimpleByElements, Within}
+use Rattle.theory_orders.specs.Lattices.{Lattice}
+use Rattle.theory_orders.specs.Ramified.{IsRamified}
+use Rattle.theory_orders.proofs.SumsOf.{SumOf_in, SumOf_add, SumOf_one}
+use Rattle.theory_orders.proofs.Multiples.{Multiple-add}
+use Rattle.theory_orders.proofs.SimpleQuotients.{radical_of_simple, simple_by_tests}
+
+-- equal parts
+pub ap₄ : {A B : Type 0} (f : A → A → A → A → B) {a a' b b' c c' d d' : A} → a ≡ a' → b ≡ b' → c ≡ c' → d ≡ d'
+    → f a b c d ≡ f a' b' c' d'
+ap₄ f ea eb ec ed = λ i. f (ea i) (eb i) (ec i) (ed i)
+
+-- expressions for elements, with p and b as the variables 12 and 13, and a scalar as variable 14
+abbrev E : Type 0
+E = Ex × Ex × Ex × Ex
+
+abbrev times_ex : E → E → E
+times_ex x y = (
+  x.0 ⊠ y.0 ⊞ var 12 ⊠ (x.1 ⊠ y.1) ⊞ var 13 ⊠ (x.2 ⊠ y.2) ⊞ minus (var 12 ⊠ (var 13 ⊠ (x.3 ⊠ y.3))),
+  x.0 ⊠ y.1 ⊞ x.1 ⊠ y.0 ⊞ var 13 ⊠ (x.3 ⊠ y.2) ⊞ minus (var 13 ⊠ (x.2 ⊠ y.3)),
+  x.0 ⊠ y.2 ⊞ x.2 ⊠ y.0 ⊞ var 12 ⊠ (x.1 ⊠ y.3) ⊞ minus (var 12 ⊠ (x.3 ⊠ y.1)),
+  x.0 ⊠ y.3 ⊞ x.3 ⊠ y.0 ⊞ x.1 ⊠ y.2 ⊞ minus (x.2 ⊠ y.1),
+)
+
+abbrev add_ex : E → E → E
+add_ex x y = (x.0 ⊞ y.0, x.1 ⊞ y.1, x.2 ⊞ y.2, x.3 ⊞ y.3)
+
+abbrev by_ex : Ex → E → E
+by_ex c x = (c ⊠ x.0, c ⊠ x.1, c ⊠ x.2, c ⊠ x.3)
+
+abbrev one_ex : E
+one_ex = (unit, nil, nil, nil)
+
+abbrev x_ex : E
+x_ex = (v0, v1, v2, v3)
+
+abbrev y_ex : E
+y_ex = (v4, var 5, var 6, var 7)
+
+abbrev z_ex : E
+z_ex = (var 8, var 9, var 10, var 11)
+
+module _ {K : Type 0} (F : FieldOn K) (p b : K) where
+  infixl 65 ◌⊕◌
+  infixl 70 ◌⊗◌
+  open F use {◌⊕◌, ◌⊗◌, neg}
+
+  abbrev pub Quaternion : Type 0
+  Quaternion = K × K × K × K
+
+  abbrev V : Type 0
+  V = Quaternion
+
+  abbrev pub four : K → K → K → K → V
+  four a b c d = (a, b, c, d)
+
+  -- the product, with i² = p, j² = b and k = i·j = −j·i
+  abbrev pub times : V → V → V
+  times x y = (
+    x.0 ⊗ y.0 ⊕ p ⊗ (x.1 ⊗ y.1) ⊕ b ⊗ (x.2 ⊗ y.2) ⊕ neg (p ⊗ (b ⊗ (x.3 ⊗ y.3))),
+    x.0 ⊗ y.1 ⊕ x.1 ⊗ y.0 ⊕ b ⊗ (x.3 ⊗ y.2) ⊕ neg (b ⊗ (x.2 ⊗ y.3)),
+    x.0 ⊗ y.2 ⊕ x.2 ⊗ y.0 ⊕ p ⊗ (x.1 ⊗ y.3) ⊕ neg (p ⊗ (x.3 ⊗ y.1)),
+    x.0 ⊗ y.3 ⊕ x.3 ⊗ y.0 ⊕ x.1 ⊗ y.2 ⊕ neg (x.2 ⊗ y.1),
+  )
+
+  abbrev env : V → V → V → K → List K
+  env x y z c = x.0 ∷ x.1 ∷ x.2 ∷ x.3 ∷ y.0 ∷ y.1 ∷ y.2 ∷ y.3 ∷ z.0 ∷ z.1 ∷ z.2 ∷ z.3 ∷ p ∷ b ∷ c ∷ []
+
+  pub times_assoc : (x y z : V) → times (times x y) z ≡ times x (times y z)
+  times_assoc x y z =
+      let l = times_ex (times_ex x_ex y_ex) z_ex in
+      let r = times_ex x_ex (times_ex y_ex z_ex) in
+      let e = env x y z p in
+      ap₄ four (by_sorted F.cring e l.0 r.0 refl) (by_sorted F.cring e l.1 r.1 refl)
+      (by_sorted F.cring e l.2 r.2 refl) (by_sorted F.cring e l.3 r.3 refl)
+
+  abbrev plus : V → V → V
+  plus x y = (x.0 ⊕ y.0, x.1 ⊕ y.1, x.2 ⊕ y.2, x.3 ⊕ y.3)
+
+  abbrev scale : K → V → V
+  scale c x = (c ⊗ x.0, c ⊗ x.1, c ⊗ x.2, c ⊗ x.3)
+
+  abbrev one : V
+  one = (F.one, F.zero, F.zero, F.zero)
+
+  pub one_times : (x : V) → times one x ≡ x
+  one_times x =
+      let l = times_ex one_ex x_ex in
+      let e = env x x x p in
+      ap₄ four (by_sorted F.cring e l.0 v0 refl) (by_sorted F.cring e l.1 v1 refl)
+      (by_sorted F.cring e l.2 v2 refl) (by_sorted F.cring e l.3 v3 refl)
+
+  pub times_one : (x : V) → times x one ≡ x
+  times_one x =
+      let l = times_ex x_ex one_ex in
+      let e = env x x x p in
+      ap₄ four (by_sorted F.cring e l.0 v0 refl) (by_sorted F.cring e l.1 v1 refl)
+      (by_sorted F.cring e l.2 v2 refl) (by_sorted F.cring e l.3 v3 refl)
+
+  pub times_plus : (x y z : V) → times x (plus y z) ≡ plus (times x y) (times x z)
+  times_plus x y z =
+      let l = times_ex x_ex (add_ex y_ex z_ex) in
+      let r = add_ex (times_ex x_ex y_ex) (times_ex x_ex z_ex) in
+      let e = env x y z p in
+      ap₄ four (by_sorted F.cring e l.0 r.0 refl) (by_sorted F.cring e l.1 r.1 refl)
+      (by_sorted F.cring e l.2 r.2 refl) (by_sorted F.cring e l.3 r.3 refl)
+
+  pub plus_times : (x y z : V) → times (plus x y) z ≡ plus (times x z) (times y z)
+  plus_times x y z =
+      let l = times_ex (add_ex x_ex y_ex) z_ex in
+      let r = add_ex (times_ex x_ex z_ex) (times_ex y_ex z_ex) in
+      let e = env x y z p in
+      ap₄ four (by_sorted F.cring e l.0 r.0 refl) (by_sorted F.cring e l.1 r.1 refl)
+      (by_sorted F.cring e l.2 r.2 refl) (by_sorted F.cring e l.3 r.3 refl)
+
+  pub scale_left : (c : K) (x y : V) → times (scale c x) y ≡ scale c (times x y)
+  scale_left c x y =
+      let l = times_ex (by_ex (var 14) x_ex) y_ex in
+      let r = by_ex (var 14) (times_ex x_ex y_ex) in
+      let e = env x y x c in
+      ap₄ four (by_sorted F.cring e l.0 r.0 refl) (by_sorted F.cring e l.1 r.1 refl)
+      (by_sorted F.cring e l.2 r.2 refl) (by_sorted F.cring e l.3 r.3 refl)
+
+  pub scale_right : (c : K) (x y : V) → times x (scale c y) ≡ scale c (times x y)
+  scale_right c x y =
+      let l = times_ex x_ex (by_ex (var 14) y_ex) in
+      let r = by_ex (var 14) (times_ex x_ex y_ex) in
+      let e = env x y x c in
+      ap₄ four (by_sorted F.cring e l.0 r.0 refl) (by_sorted F.cring e l.1 r.1 refl)
+      (by_sorted F.cring e l.2 r.2 refl) (by_sorted F.cring e l.3 r.3 refl)
+
+  abbrev pub quaternions : AlgebraOn F.ring V
+  quaternions = record {
+    ring = record {
+      additive = record {
+        monoid = record {
+          zero = (F.zero, F.zero, F.zero, F.zero);
+          ◌⊕◌ = plus;
+          add_assoc = λ x y z. ap₄ four (F.add_assoc x.0 y.0 z.0) (F.add_assoc x.1 y.1 z.1) (F.add_assoc x.2 y.2 z.2)
+              (F.add_assoc x.3 y.3 z.3);
+          add_comm = λ x y. ap₄ four (F.add_comm x.0 y.0) (F.add_comm x.1 y.1) (F.add_comm x.2 y.2)
+              (F.add_comm x.3 y.3);
+          zero-add = λ x. ap₄ four (F.zero-add x.0) (F.zero-add x.1) (F.zero-add x.2) (F.zero-add x.3);
+        };
+        neg = λ x. (neg x.0, neg x.1, neg x.2, neg x.3);
+        neg-add = λ x. ap₄ four (F.neg-add x.0) (F.neg-add x.1) (F.neg-add x.2) (F.neg-add x.3);
+      };
+      one = one;
+      ◌⊗◌ = times;
+      mul_assoc = times_assoc;
+      one-mul = one_times;
+      mul-one = times_one;
+      mul-add = times_plus;
+      add-mul = plus_times;
+    };
+    ◌•◌ = scale;
+    scale-add = λ c x y. ap₄ four (F.mul-add c x.0 y.0) (F.mul-add c x.1 y.1) (F.mul-add c x.2 y.2)
+        (F.mul-add c x.3 y.3);
+    add-scale = λ c d x. ap₄ four (F.add-mul c d x.0) (F.add-mul c d x.1) (F.add-mul c d x.2) (F.add-mul c d x.3);
+    mul-scale = λ c d x. ap₄ four (F.mul_assoc c d x.0) (F.mul_assoc c d x.1) (F.mul_assoc c d x.2)
+        (F.mul_assoc c d x.3);
+    one-scale = λ x. ap₄ four (F.one-mul x.0) (F.one-mul x.1) (F.one-mul x.2) (F.one-mul x.3);
+    scale-left = scale_left;
+    scale-right = scale_right;
+  }
+
+  -- 1, i, j, k, and p, i, p·j, k
+  abbrev pub order_vectors : ℕ → V
+  order_vectors zero = (F.one, F.zero, F.zero, F.zero)
+  order_vectors (suc zero) = (F.zero, F.one, F.zero, F.zero)
+  order_vectors (suc (suc zero)) = (F.zero, F.zero, F.one, F.zero)
+  order_vectors (suc (suc (suc i))) = (F.zero, F.zero, F.zero, F.one)
+
+  abbrev pub radical_vectors : ℕ → V
+  radical_vectors zero = (p, F.zero, F.zero, F.zero)
+  radical_vectors (suc zero) = (F.zero, F.one, F.zero, F.zero)
+  radical_vectors (suc (suc zero)) = (F.zero, F.zero, p, F.zero)
+  radical_vectors (suc (suc (suc i))) = (F.zero, F.zero, F.zero, F.one)
+
+-- a family of four
+abbrev pub fourth : {X : Type 0} → X → X → X → X → ℕ → X
+fourth a b c d zero = a
+fourth a b c d (suc zero) = b
+fourth a b c d (suc (suc zero)) = c
+fourth a b c d (suc (suc (suc i))) = d
+
+-- x and y are multiples of p where x² − b·y² is
+abbrev pub NoSquareModulo : {K : Type 0} (F : FieldOn K) → ValuationOn F → K → K → Type 0
+NoSquareModulo {K} F Z q b = (x y : K) → IsTrue (Z.integral x) → IsTrue (Z.integral y)
+    → IsTrue (Z.integral (F.◌⊗◌ q (F.◌⊕◌ (F.◌⊗◌ x x) (F.neg (F.◌⊗◌ b (F.◌⊗◌ y y))))))
+    → IsTrue (Z.integral (F.◌⊗◌ q x)) × IsTrue (Z.integral (F.◌⊗◌ q y))
+
+module _ {K : Type 0} (F : FieldOn K) (Z : ValuationOn F) (p q : K) (U : UniformizerOn F Z p q)
+    (strict : IsTrue (Z.integral q) → ⊥)
+    (b : K) (b_in : IsTrue (Z.integral b)) (no_square : NoSquareModulo F Z q b) where
+  infixl 65 ◌⊕◌
+  infixl 70 ◌⊗◌
+  open F use {◌⊕◌, ◌⊗◌, neg}
+
+  abbrev W : Type 0
+  W = Quaternion F p b
+
+  abbrev A : AlgebraOn F.ring W
+  A = quaternions F p b
+
+  abbrev mul : W → W → W
+  mul = times F p b
+
+  abbrev os : ℕ → W
+  os = order_vectors F p b
+
+  abbrev js : ℕ → W
+  js = radical_vectors F p b
+
+  abbrev In : K → Type 0
+  In a = IsTrue (Z.integral a)
+
+  abbrev L : W → Type 0
+  L = Lattice F Z A 4 os
+
+  abbrev J : W → Type 0
+  J = Lattice F Z A 4 js
+
+  abbrev four' : K → K → K → K → W
+  four' a b c d = (a, b, c, d)
+
+  qp : (a : K) → q ⊗ (p ⊗ a) ≡ a
+  qp a = sym (F.mul_assoc q p a) ∙ ap (λ x. x ⊗ a) (F.mul_comm q p ∙ U.pq) ∙ F.one-mul a
+
+  pq : (a : K) → p ⊗ (q ⊗ a) ≡ a
+  pq a = sym (F.mul_assoc p q a) ∙ ap (λ x. x ⊗ a) U.pq ∙ F.one-mul a
+
+  q-zero : q ⊗ F.zero ≡ F.zero
+  q-zero = mul-zero F.ring q
+
+  zero_q : In (q ⊗ F.zero)
+  zero_q = subst In (sym q-zero) Z.zero_in
+
+  abbrev combination : (ℕ → W) → K → K → K → K → W
+  combination v c0 c1 c2 c3 =
+      A.◌⊕◌ (A.◌⊕◌ (A.◌⊕◌ (A.◌⊕◌ A.zero (A.◌•◌ c0 (v 0))) (A.◌•◌ c1 (v 1))) (A.◌•◌ c2 (v 2))) (A.◌•◌ c3 (v 3))
+
+  os-comb : (c0 c1 c2 c3 : K) → combination os c0 c1 c2 c3 ≡ four' c0 c1 c2 c3
+  os-comb c0 c1 c2 c3 =
+      let e = c0 ∷ c1 ∷ c2 ∷ c3 ∷ [] in
+      ap₄ four'
+      (by_sorted F.cring e (nil ⊞ v0 ⊠ unit ⊞ v1 ⊠ nil ⊞ v2 ⊠ nil ⊞ v3 ⊠ nil) v0 refl)
+      (by_sorted F.cring e (nil ⊞ v0 ⊠ nil ⊞ v1 ⊠ unit ⊞ v2 ⊠ nil ⊞ v3 ⊠ nil) v1 refl)
+      (by_sorted F.cring e (nil ⊞ v0 ⊠ nil ⊞ v1 ⊠ nil ⊞ v2 ⊠ unit ⊞ v3 ⊠ nil) v2 refl)
+      (by_sorted F.cring e (nil ⊞ v0 ⊠ nil ⊞ v1 ⊠ nil ⊞ v2 ⊠ nil ⊞ v3 ⊠ unit) v3 refl)
+
+  js-comb : (c0 c1 c2 c3 : K) → combination js c0 c1 c2 c3 ≡ four' (p ⊗ c0) c1 (p ⊗ c2) c3
+  js-comb c0 c1 c2 c3 =
+      let e = c0 ∷ c1 ∷ c2 ∷ c3 ∷ p ∷ [] in
+      ap₄ four'
+      (by_sorted F.cring e (nil ⊞ v0 ⊠ v4 ⊞ v1 ⊠ nil ⊞ v2 ⊠ nil ⊞ v3 ⊠ nil) (v4 ⊠ v0) refl)
+      (by_sorted F.cring e (nil ⊞ v0 ⊠ nil ⊞ v1 ⊠ unit ⊞ v2 ⊠ nil ⊞ v3 ⊠ nil) v1 refl)
+      (by_sorted F.cring e (nil ⊞ v0 ⊠ nil ⊞ v1 ⊠ nil ⊞ v2 ⊠ v4 ⊞ v3 ⊠ nil) (v4 ⊠ v2) refl)
+      (by_sorted F.cring e (nil ⊞ v0 ⊠ nil ⊞ v1 ⊠ nil ⊞ v2 ⊠ nil ⊞ v3 ⊠ unit) v3 refl)
+
+  abbrev Whole : W → Type 0
+  Whole x = In x.0 × In x.1 × In x.2 × In x.3
+
+  abbrev Low : W → Type 0
+  Low x = In (q ⊗ x.0) × In x.1 × In (q ⊗ x.2) × In x.3
+
+  L-in : (x : W) → Whole x → L x
+  L-in x h = record {
+    weights = fourth (x.0, h.0) (x.1, h.1) (x.2, h.2) (x.3, h.3);
+    combines = sym (os-comb x.0 x.1 x.2 x.3);
+  }
+
+  in-L : (x : W) → L x → Whole x
+  in-L x s =
+      let e = s.combines ∙ os-comb (s.weights 0).0 (s.weights 1).0 (s.weights 2).0 (s.weights 3).0 in (
+        subst In (sym (ap (λ (z : W). z.0) e)) (s.weights 0).1,
+        subst In (sym (ap (λ (z : W). z.1) e)) (s.weights 1).1,
+        subst In (sym (ap (λ (z : W). z.2) e)) (s.weights 2).1,
+        subst In (sym (ap (λ (z : W). z.3) e)) (s.weights 3).1,
+      )
+
+  J-in : (x : W) → Low x → J x
+  J-in x h = record {
+    weights = fourth (q ⊗ x.0, h.0) (x.1, h.1) (q ⊗ x.2, h.2) (x.3, h.3);
+    combines = sym (js-comb (q ⊗ x.0) x.1 (q ⊗ x.2) x.3 ∙ ap₄ four' (pq x.0) refl (pq x.2) refl);
+  }
+
+  in-J : (x : W) → J x → Low x
+  in-J x s =
+      let e = s.combines ∙ js-comb (s.weights 0).0 (s.weights 1).0 (s.weights 2).0 (s.weights 3).0 in (
+        subst In (sym (ap (λ (z : W). q ⊗ z.0) e ∙ qp (s.weights 0).0)) (s.weights 0).1,
+        subst In (sym (ap (λ (z : W). z.1) e)) (s.weights 1).1,
+        subst In (sym (ap (λ (z : W). q ⊗ z.2) e ∙ qp (s.weights 2).0)) (s.weights 2).1,
+        subst In (sym (ap (λ (z : W). z.3) e)) (s.weights 3).1,
+      )
+
+  up : (a : K) → In (q ⊗ a) → In a
+  up a h = subst In (pq a) (Z.mul_in p (q ⊗ a) U.p_in h)
+
+  whole : (x : W) → Low x → Whole x
+  whole x h = (up x.0 h.0, h.1, up x.2 h.2, h.3)
+
+  J-L : (x : W) → J x → L x
+  J-L x h = L-in x (whole x (in-J x h))
+
+  -- sums of four integral terms, the last with a sign
+  sum4 : (a b c d : K) → In a → In b → In c → In d → In (a ⊕ b ⊕ c ⊕ neg d)
+  sum4 a b c d ha hb hc hd = Z.add_in (a ⊕ b ⊕ c) (neg d) (Z.add_in (a ⊕ b) c (Z.add_in a b ha hb) hc) (Z.neg_in d hd)
+
+  m2 : (a b : K) → In a → In b → In (a ⊗ b)
+  m2 = Z.mul_in
+
+  times_whole : (x y : W) → Whole x → Whole y → Whole (mul x y)
+  times_whole x y h g = (
+    sum4 (x.0 ⊗ y.0) (p ⊗ (x.1 ⊗ y.1)) (b ⊗ (x.2 ⊗ y.2)) (p ⊗ (b ⊗ (x.3 ⊗ y.3)))
+        (m2 x.0 y.0 h.0 g.0) (m2 p (x.1 ⊗ y.1) U.p_in (m2 x.1 y.1 h.1 g.1)) (m2 b (x.2 ⊗ y.2) b_in (m2 x.2 y.2 h.2 g.2))
+        (m2 p (b ⊗ (x.3 ⊗ y.3)) U.p_in (m2 b (x.3 ⊗ y.3) b_in (m2 x.3 y.3 h.3 g.3))),
+    sum4 (x.0 ⊗ y.1) (x.1 ⊗ y.0) (b ⊗ (x.3 ⊗ y.2)) (b ⊗ (x.2 ⊗ y.3))
+        (m2 x.0 y.1 h.0 g.1) (m2 x.1 y.0 h.1 g.0) (m2 b (x.3 ⊗ y.2) b_in (m2 x.3 y.2 h.3 g.2))
+        (m2 b (x.2 ⊗ y.3) b_in (m2 x.2 y.3 h.2 g.3)),
+    sum4 (x.0 ⊗ y.2) (x.2 ⊗ y.0) (p ⊗ (x.1 ⊗ y.3)) (p ⊗ (x.3 ⊗ y.1))
+        (m2 x.0 y.2 h.0 g.2) (m2 x.2 y.0 h.2 g.0) (m2 p (x.1 ⊗ y.3) U.p_in (m2 x.1 y.3 h.1 g.3))
+        (m2 p (x.3 ⊗ y.1) U.p_in (m2 x.3 y.1 h.3 g.1)),
+    sum4 (x.0 ⊗ y.3) (x.3 ⊗ y.0) (x.1 ⊗ y.2) (x.2 ⊗ y.1)
+        (m2 x.0 y.3 h.0 g.3) (m2 x.3 y.0 h.3 g.0) (m2 x.1 y.2 h.1 g.2) (m2 x.2 y.1 h.2 g.1),
+  )
+
+  order : IsOrder A L
+  order = record {
+    one_in = L-in A.one (Z.one_in, Z.zero_in, Z.zero_in, Z.zero_in);
+    zero_in = L-in A.zero (Z.zero_in, Z.zero_in, Z.zero_in, Z.zero_in);
+    add_in = λ x y h g. let a = in-L x h in let c = in-L y g in L-in (A.◌⊕◌ x y) (
+      Z.add_in x.0 y.0 a.0 c.0,
+      Z.add_in x.1 y.1 a.1 c.1,
+      Z.add_in x.2 y.2 a.2 c.2,
+      Z.add_in x.3 y.3 a.3 c.3,
+    );
+    neg_in = λ x h. let a = in-L x h in
+        L-in (A.neg x) (Z.neg_in x.0 a.0, Z.neg_in x.1 a.1, Z.neg_in x.2 a.2, Z.neg_in x.3 a.3);
+    mul_in = λ x y h g. L-in (mul x y) (times_whole x y (in-L x h) (in-L y g));
+  }
+
+  -- q times a sum whose terms with the factor p lose it
+  lower_sum : (a b c d a' b' c' d' : K) → q ⊗ a ≡ a' → q ⊗ b ≡ b' → q ⊗ c ≡ c' → q ⊗ d ≡ d'
+      → In a' → In b' → In c' → In d' → In (q ⊗ (a ⊕ b ⊕ c ⊕ neg d))
+  lower_sum a b c d a' b' c' d' ea eb ec ed ha hb hc hd =
+      subst In (sym (by_sorted F.cring (q ∷ a ∷ b ∷ c ∷ d ∷ []) (v0 ⊠ (v1 ⊞ v2 ⊞ v3 ⊞ minus v4))
+      (v0 ⊠ v1 ⊞ v0 ⊠ v2 ⊞ v0 ⊠ v3 ⊞ minus (v0 ⊠ v4)) refl
+      ∙ ap₄ (λ a b c d. a ⊕ b ⊕ c ⊕ neg d) ea eb ec ed)) (sum4 a' b' c' d' ha hb hc hd)
+
+  -- q past a factor
+  past : (a c : K) → q ⊗ (a ⊗ c) ≡ a ⊗ (q ⊗ c)
+  past a c = ring3 F.cring (λ q a c. (q ⊠ (a ⊠ c), a ⊠ (q ⊠ c))) refl q a c
+
+  past2 : (a c : K) → q ⊗ (a ⊗ c) ≡ (q ⊗ a) ⊗ c
+  past2 a c = sym (F.mul_assoc q a c)
+
+  left : (a x : W) → Whole a → Low x → Low (mul a x)
+  left a x h g =
+      let k = whole x g in
+      let t = times_whole a x h k in (
+        lower_sum (a.0 ⊗ x.0) (p ⊗ (a.1 ⊗ x.1)) (b ⊗ (a.2 ⊗ x.2)) (p ⊗ (b ⊗ (a.3 ⊗ x.3)))
+            (a.0 ⊗ (q ⊗ x.0)) (a.1 ⊗ x.1) (b ⊗ (a.2 ⊗ (q ⊗ x.2))) (b ⊗ (a.3 ⊗ x.3))
+            (past a.0 x.0) (qp (a.1 ⊗ x.1)) (past b (a.2 ⊗ x.2) ∙ ap (λ t. b ⊗ t) (past a.2 x.2)) (qp (b ⊗ (a.3 ⊗ x.3)))
+            (m2 a.0 (q ⊗ x.0) h.0 g.0) (m2 a.1 x.1 h.1 g.1) (m2 b (a.2 ⊗ (q ⊗ x.2)) b_in (m2 a.2 (q ⊗ x.2) h.2 g.2))
+            (m2 b (a.3 ⊗ x.3) b_in (m2 a.3 x.3 h.3 g.3)),
+        t.1,
+        lower_sum (a.0 ⊗ x.2) (a.2 ⊗ x.0) (p ⊗ (a.1 ⊗ x.3)) (p ⊗ (a.3 ⊗ x.1))
+            (a.0 ⊗ (q ⊗ x.2)) (a.2 ⊗ (q ⊗ x.0)) (a.1 ⊗ x.3) (a.3 ⊗ x.1)
+            (past a.0 x.2) (past a.2 x.0) (qp (a.1 ⊗ x.3)) (qp (a.3 ⊗ x.1))
+            (m2 a.0 (q ⊗ x.2) h.0 g.2) (m2 a.2 (q ⊗ x.0) h.2 g.0) (m2 a.1 x.3 h.1 g.3) (m2 a.3 x.1 h.3 g.1),
+        t.3,
+      )
+
+  right : (x a : W) → Low x → Whole a → Low (mul x a)
+  right x a g h =
+      let k = whole x g in
+      let t = times_whole x a k h in (
+        lower_sum (x.0 ⊗ a.0) (p ⊗ (x.1 ⊗ a.1)) (b ⊗ (x.2 ⊗ a.2)) (p ⊗ (b ⊗ (x.3 ⊗ a.3)))
+            ((q ⊗ x.0) ⊗ a.0) (x.1 ⊗ a.1) (b ⊗ ((q ⊗ x.2) ⊗ a.2)) (b ⊗ (x.3 ⊗ a.3))
+            (past2 x.0 a.0) (qp (x.1 ⊗ a.1)) (past b (x.2 ⊗ a.2) ∙ ap (λ t. b ⊗ t) (past2 x.2 a.2))
+            (qp (b ⊗ (x.3 ⊗ a.3)))
+            (m2 (q ⊗ x.0) a.0 g.0 h.0) (m2 x.1 a.1 g.1 h.1) (m2 b ((q ⊗ x.2) ⊗ a.2) b_in (m2 (q ⊗ x.2) a.2 g.2 h.2))
+            (m2 b (x.3 ⊗ a.3) b_in (m2 x.3 a.3 g.3 h.3)),
+        t.1,
+        lower_sum (x.0 ⊗ a.2) (x.2 ⊗ a.0) (p ⊗ (x.1 ⊗ a.3)) (p ⊗ (x.3 ⊗ a.1))
+            ((q ⊗ x.0) ⊗ a.2) ((q ⊗ x.2) ⊗ a.0) (x.1 ⊗ a.3) (x.3 ⊗ a.1)
+            (past2 x.0 a.2) (past2 x.2 a.0) (qp (x.1 ⊗ a.3)) (qp (x.3 ⊗ a.1))
+            (m2 (q ⊗ x.0) a.2 g.0 h.2) (m2 (q ⊗ x.2) a.0 g.2 h.0) (m2 x.1 a.3 g.1 h.3) (m2 x.3 a.1 g.3 h.1),
+        t.3,
+      )
+
+  ideal : IsIdeal A L J
+  ideal = record {
+    inside = J-L;
+    zero_in = J-in A.zero (zero_q, Z.zero_in, zero_q, Z.zero_in);
+    add_in = λ x y h g. let a = in-J x h in let c = in-J y g in J-in (A.◌⊕◌ x y) (
+      subst In (sym (F.mul-add q x.0 y.0)) (Z.add_in (q ⊗ x.0) (q ⊗ y.0) a.0 c.0),
+      Z.add_in x.1 y.1 a.1 c.1,
+      subst In (sym (F.mul-add q x.2 y.2)) (Z.add_in (q ⊗ x.2) (q ⊗ y.2) a.2 c.2),
+      Z.add_in x.3 y.3 a.3 c.3,
+    );
+    left = λ a x h g. J-in (mul a x) (left a x (in-L a h) (in-J x g));
+    right = λ a x h g. J-in (mul x a) (right x a (in-J x g) (in-L a h));
+  }
+
+  over : Within (Multiple A p L) J
+  over x m =
+      let i = in-L m.0 m.1 in
+      subst J (sym m.2) (J-in (A.◌•◌ p m.0) (
+        subst In (sym (qp m.0.0)) i.0,
+        m2 p m.0.1 U.p_in i.1,
+        subst In (sym (qp m.0.2)) i.2,
+        m2 p m.0.3 U.p_in i.3,
+      ))
+
+  -- what q makes whole is a multiple of p
+  multiple_of : (x : W) → In (q ⊗ x.0) → In (q ⊗ x.1) → In (q ⊗ x.2) → In (q ⊗ x.3) → Multiple A p L x
+  multiple_of x h0 h1 h2 h3 = (
+    four' (q ⊗ x.0) (q ⊗ x.1) (q ⊗ x.2) (q ⊗ x.3),
+    L-in (four' (q ⊗ x.0) (q ⊗ x.1) (q ⊗ x.2) (q ⊗ x.3)) (h0, h1, h2, h3),
+    sym (ap₄ four' (pq x.0) (pq x.1) (pq x.2) (pq x.3)),
+  )
+
+  square : (x y : W) → Low x → Low y → Multiple A p L (mul x y)
+  square x y h g =
+      let k = whole y g in
+      let l = whole x h in
+      let r = right x y h k in
+      multiple_of (mul x y) r.0
+      (lower_sum (x.0 ⊗ y.1) (x.1 ⊗ y.0) (b ⊗ (x.3 ⊗ y.2)) (b ⊗ (x.2 ⊗ y.3))
+      ((q ⊗ x.0) ⊗ y.1) (x.1 ⊗ (q ⊗ y.0)) (b ⊗ (x.3 ⊗ (q ⊗ y.2))) (b ⊗ ((q ⊗ x.2) ⊗ y.3))
+      (past2 x.0 y.1) (past x.1 y.0) (past b (x.3 ⊗ y.2) ∙ ap (λ t. b ⊗ t) (past x.3 y.2))
+      (past b (x.2 ⊗ y.3) ∙ ap (λ t. b ⊗ t) (past2 x.2 y.3))
+      (m2 (q ⊗ x.0) y.1 h.0 g.1) (m2 x.1 (q ⊗ y.0) h.1 g.0) (m2 b (x.3 ⊗ (q ⊗ y.2)) b_in (m2 x.3 (q ⊗ y.2) h.3 g.2))
+      (m2 b ((q ⊗ x.2) ⊗ y.3) b_in (m2 (q ⊗ x.2) y.3 h.2 g.3)))
+      r.2
+      (lower_sum (x.0 ⊗ y.3) (x.3 ⊗ y.0) (x.1 ⊗ y.2) (x.2 ⊗ y.1)
+      ((q ⊗ x.0) ⊗ y.3) (x.3 ⊗ (q ⊗ y.0)) (x.1 ⊗ (q ⊗ y.2)) ((q ⊗ x.2) ⊗ y.1)
+      (past2 x.0 y.3) (past x.3 y.0) (past x.1 y.2) (past2 x.2 y.1)
+      (m2 (q ⊗ x.0) y.3 h.0 g.3) (m2 x.3 (q ⊗ y.0) h.3 g.0) (m2 x.1 (q ⊗ y.2) h.1 g.2) (m2 (q ⊗ x.2) y.1 h.2 g.1))
+
+  falls : Within (Power A J 1) (Multiple A p L)
+  falls = SumOf_in A (Product A J J) (Multiple A p L)
+      (multiple_of A.zero zero_q zero_q zero_q zero_q) (Multiple-add A p L order)
+      (λ x w. subst (Multiple A p L) (sym w.4) (square w.0 w.1 (in-J w.0 w.2) (in-J w.1 w.3)))
+
+  proper : J A.one → ⊥
+  proper h = strict (subst In (F.mul-one q) (in-J A.one h).0)
+
+  -- the norm of the part in 1 and j
+  abbrev norm : W → K
+  norm a = a.0 ⊗ a.0 ⊕ neg (b ⊗ (a.2 ⊗ a.2))
+
+  norm_in : (a : W) → Whole a → In (norm a)
+  norm_in a h = Z.add_in (a.0 ⊗ a.0) (neg (b ⊗ (a.2 ⊗ a.2))) (m2 a.0 a.0 h.0 h.0)
+      (Z.neg_in (b ⊗ (a.2 ⊗ a.2)) (m2 b (a.2 ⊗ a.2) b_in (m2 a.2 a.2 h.2 h.2)))
+
+  sum_one : (a : W) (u : K) → u ≡ F.inv (norm a) → norm a ≢ F.zero
+      → A.◌⊕◌ (mul (mul (four' (u ⊗ a.0) F.zero (neg (u ⊗ a.2)) F.zero) a) A.one)
+      (four' F.zero (neg (u ⊗ a.0 ⊗ a.1 ⊕ b ⊗ (u ⊗ a.2 ⊗ a.3))) F.zero (neg (u ⊗ a.0 ⊗ a.3 ⊕ u ⊗ a.2 ⊗ a.1))) ≡ A.one
+  sum_one a u s n =
+      let e = a.0 ∷ a.1 ∷ a.2 ∷ a.3 ∷ u ∷ F.zero ∷ F.zero ∷ F.zero ∷ F.zero ∷ F.zero ∷ F.zero ∷ F.zero ∷ p ∷ b ∷ [] in
+      let a_ex : E = (v0, v1, v2, v3) in
+      let l_ex : E = (v4 ⊠ v0, nil, minus (v4 ⊠ v2), nil) in
+      let y_ex : E = (nil, minus (v4 ⊠ v0 ⊠ v1 ⊞ var 13 ⊠ (v4 ⊠ v2 ⊠ v3)), nil, minus (v4 ⊠ v0 ⊠ v3 ⊞ v4 ⊠ v2 ⊠ v1)) in
+      let t = add_ex (times_ex (times_ex l_ex a_ex) one_ex) y_ex in
+      ap₄ four'
+      (by_sorted F.cring e t.0 (v4 ⊠ (v0 ⊠ v0 ⊞ minus (var 13 ⊠ (v2 ⊠ v2)))) refl
+      ∙ ap (λ t. t ⊗ norm a) s ∙ F.inv-mul (norm a) n)
+      (by_sorted F.cring e t.1 nil refl) (by_sorted F.cring e t.2 nil refl) (by_sorted F.cring e t.3 nil refl)
+
+  -- 1 is l·a and a member of J
+  generated : (a : W) → Whole a → norm a ≢ F.zero → In (F.inv (norm a)) → Generated A L J a A.one
+  generated a h n hu =
+      let u = F.inv (norm a) in
+      let S : W → Type 0 = λ x. Around A L a x ⊎ J x in
+      let l : W = (u ⊗ a.0, F.zero, neg (u ⊗ a.2), F.zero) in
+      let hl : L l = L-in l (m2 u a.0 hu h.0, Z.zero_in, Z.neg_in (u ⊗ a.2) (m2 u a.2 hu h.2), Z.zero_in) in
+      let x : W = mul (mul l a) A.one in
+      let x1 = u ⊗ a.0 ⊗ a.1 ⊕ b ⊗ (u ⊗ a.2 ⊗ a.3) in
+      let x3 = u ⊗ a.0 ⊗ a.3 ⊕ u ⊗ a.2 ⊗ a.1 in
+      let y : W = (F.zero, neg x1, F.zero, neg x3) in
+      let h1 : In x1 = Z.add_in (u ⊗ a.0 ⊗ a.1) (b ⊗ (u ⊗ a.2 ⊗ a.3)) (m2 (u ⊗ a.0) a.1 (m2 u a.0 hu h.0) h.1)
+      (m2 b (u ⊗ a.2 ⊗ a.3) b_in (m2 (u ⊗ a.2) a.3 (m2 u a.2 hu h.2) h.3)) in
+      let h3 : In x3 = Z.add_in (u ⊗ a.0 ⊗ a.3) (u ⊗ a.2 ⊗ a.1) (m2 (u ⊗ a.0) a.3 (m2 u a.0 hu h.0) h.3)
+      (m2 (u ⊗ a.2) a.1 (m2 u a.2 hu h.2) h.1) in
+      let hy : J y = J-in y (zero_q, Z.neg_in x1 h1, zero_q, Z.neg_in x3 h3) in
+      let e : A.◌⊕◌ x y ≡ A.one = sum_one a u refl n in
+      subst (SumOf A S) e (SumOf_add A S x y (SumOf_one A S x (inl (l, A.one, hl, order.one_in, refl)))
+      (SumOf_one A S y (inr hy)))
+
+  simple : (a : W) → L a → J a ⊎ Generated A L J a A.one
+  simple a l =
+      let h = in-L a l in
+      ⊎_elim
+      (λ (m : In (q ⊗ norm a)). let r = no_square a.0 a.2 h.0 h.2 m in inl (J-in a (r.0, h.1, r.1, h.3)))
+      (λ (w : (norm a ≡ F.zero → ⊥) × In (F.inv (norm a))). inr (generated a h w.0 w.1))
+      (U.multiple_or_unit (norm a) (norm_in a h))
+
+  -- the element i
+  root : W
+  root = (F.zero, F.one, F.zero, F.zero)
+
+  root-in : J root
+  unfolding root
+  root-in = J-in root (zero_q, Z.one_in, zero_q, Z.zero_in)
+
+  times_root : (a : W) → mul a root ≡ four' (p ⊗ a.1) a.0 (neg (p ⊗ a.3)) (neg a.2)
+  unfolding root
+  times_root a =
+      let e = a.0 ∷ a.1 ∷ a.2 ∷ a.3 ∷ p ∷ p ∷ p ∷ p ∷ p ∷ p ∷ p ∷ p ∷ p ∷ b ∷ [] in
+      let t = times_ex x_ex (nil, unit, nil, nil) in
+      ap₄ four' (by_sorted F.cring e t.0 (var 12 ⊠ v1) refl) (by_sorted F.cring e t.1 v0 refl)
+      (by_sorted F.cring e t.2 (minus (var 12 ⊠ v3)) refl) (by_sorted F.cring e t.3 (minus v2) refl)
+
+  neg_back : (a : K) → In (neg a) → In a
+  neg_back a h = subst In (ring2 F.cring (λ a b. (minus (minus a), a)) refl a a) (Z.neg_in (neg a) h)
+
+  left_order : (a : W) → ((x : W) → J x → J (mul a x)) → L a
+  left_order a h =
+      let i = in-J (four' (p ⊗ a.1) a.0 (neg (p ⊗ a.3)) (neg a.2)) (subst J (times_root a) (h root root-in)) in
+      L-in a (
+        i.1,
+        subst In (qp a.1) i.0,
+        neg_back a.2 i.3,
+        neg_back a.3 (subst In
+            (by_sorted F.cring (q ∷ p ∷ a.3 ∷ []) (v0 ⊠ minus (v1 ⊠ v2)) (minus (v0 ⊠ (v1 ⊠ v2))) refl
+            ∙ ap neg (qp a.3)) i.2),
+      )
+
+  not_multiple : Within J (Multiple A p L) → ⊥
+  unfolding root
+  not_multiple h =
+      let m = h root root-in in
+      let e : q ≡ m.0.1 = sym (F.mul-one q) ∙ ap (λ (z : W). q ⊗ z.1) m.2 ∙ qp m.0.1 in
+      strict (subst In (sym e) (in-L m.0 m.1).1)
+
+  by_elements : SimpleByElements A L J
+  by_elements = record { proper = proper; generates = simple }
+
+  all_zero : (c : ℕ → K) → c 0 ≡ F.zero → c 1 ≡ F.zero → c 2 ≡ F.zero → c 3 ≡ F.zero → (i : ℕ) → i < 4 → c i ≡ F.zero
+  all_zero c e0 e1 e2 e3 zero l = e0
+  all_zero c e0 e1 e2 e3 (suc zero) l = e1
+  all_zero c e0 e1 e2 e3 (suc (suc zero)) l = e2
+  all_zero c e0 e1 e2 e3 (suc (suc (suc zero))) l = e3
+  all_zero c e0 e1 e2 e3 (suc (suc (suc (suc i)))) l = absurd (omega arith)
+
+  lost : (a : K) → p ⊗ a ≡ F.zero → a ≡ F.zero
+  lost a e = sym (qp a) ∙ ap (λ t. q ⊗ t) e ∙ q-zero
+
+  pub ramified_quaternions : IsRamified F Z p A 4 os js
+  ramified_quaternions = record {
+    order = record {
+      order = order;
+      independent = record {
+        only_zero = λ c h. let e = sym (os-comb (c 0) (c 1) (c 2) (c 3)) ∙ h in
+            all_zero c (ap (λ (z : W). z.0) e) (ap (λ (z : W). z.1) e) (ap (λ (z : W). z.2) e) (ap (λ (z : W). z.3) e);
+      };
+    };
+    independent = record {
+      only_zero = λ c h. let e = sym (js-comb (c 0) (c 1) (c 2) (c 3)) ∙ h in
+          all_zero c (lost (c 0) (ap (λ (z : W). z.0) e)) (ap (λ (z : W). z.1) e) (lost (c 2) (ap (λ (z : W). z.2) e))
+          (ap (λ (z : W). z.3) e);
+    };
+    radical = radical_of_simple A L J order by_elements p ideal over 1 falls;
+    simple = simple_by_tests A L J order by_elements;
+    left_order = (left_order, λ a l x h. J-in (mul a x) (left a x (in-L a l) (in-J x h)));
+    not_multiple = not_multiple;
+  }
