@@ -23,8 +23,8 @@ use Rattle.theory_rings.proofs.FiniteFields.ElementsByDigits.{prime_by_digits, c
 use Rattle.spl_field.specs.SmallField.{characteristic, small_ops}
 use Rattle.spl_field.specs.TableField.{is_field_by_digits}
 use Rattle.spl_field.specs.declared.small.SmallField.{SmallField}
-use Rattle.spl_fraction.specs.FractionOps.{RationalFunction, rational_function, fraction_ops}
-use Rattle.spl_fraction.specs.FractionField.{rational_function-pair_of, rational_function_injective, eq_zero_of_numerator}
+use Rattle.theory_fractions.specs.FractionOps.{RationalFunction, rational_function, fraction_ops}
+use Rattle.theory_fractions.proofs.FractionField.{rational_function-pair_of, rational_function_injective, eq_zero_of_numerator}
 use Rattle.spl_fraction.specs.FractionsOver.{fractions_over, fractions_laws, small_laws}
 
 -- where a prime p is 0, a number that p does not divide isn't

@@ -1,7 +1,7 @@
 -- What is found of an algebra, as evidence; and the algebra where nothing is found.
 use Rattle.std.specs.Prelude.{ℕ, List}
 use Rattle.theory_rings.specs.Ops.{Ops, FieldLaws}
-use Rattle.spl_fraction.specs.Fraction.{Pair}
+use Rattle.theory_fractions.specs.Fraction.{Pair}
 use Rattle.spl_fraction.specs.FractionsOver.{fractions_laws}
 use Rattle.theory_tables.specs.Structure.{Structure, IsOver, IsAssociative}
 use Rattle.theory_tables.specs.Algebras.{HasIdentity, HasSmallCentre, IsCentralSimple}

@@ -5,7 +5,7 @@ use Rattle.theory_rings.specs.Ops.{Ops}
 use Rattle.theory_spaces.specs.Tuples.{IsTuple}
 use Rattle.theory_tables.specs.Subspace.{InSpan}
 use Rattle.theory_tables.specs.Structure.{Structure, IsAssociative}
-use Rattle.spl_fraction.specs.Fraction.{Pair}
+use Rattle.theory_fractions.specs.Fraction.{Pair}
 use Rattle.theory_tables.specs.Algebras.{HasIdentity, HasSmallCentre, IsCentralSimple}
 use Rattle.theory_tables.specs.Traces.{InTraceRadical, IsNondegenerate}
 use Rattle.theory_tables.specs.Split.{IsSplit}

@@ -1,7 +1,7 @@
 -- Evidence whose claim holds fits.
 use Rattle.std.specs.Prelude.{ℕ}
 use Rattle.theory_rings.specs.Ops.{Ops}
-use Rattle.spl_fraction.specs.Fraction.{Pair}
+use Rattle.theory_fractions.specs.Fraction.{Pair}
 use Rattle.theory_tables.specs.Structure.{Structure}
 use Rattle.spl_evidence.specs.declared.evidence.Evidence.{Evidence}
 use Rattle.spl_evidence.specs.declared.evidence.Evidence.TheVariants.{Triple, NoIdentity, Central, Ideal}

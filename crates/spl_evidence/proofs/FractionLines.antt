@@ -10,12 +10,12 @@ use Rattle.spl_field.specs.declared.small.SmallField.{SmallField}
 use Rattle.spl_text.specs.Text.{Lacks, IsNumber}
 use Rattle.spl_text.proofs.Words.{Lacks-from_test, Lacks-cons, Lacks-append, Lacks-decimal, not_within, split_unique, number_and_rest}
 use Rattle.spl_text.proofs.Fractions.{Lacks-fraction_text}
-use Rattle.spl_fraction.specs.Fraction.{Pair, IsLowestTerms}
+use Rattle.theory_fractions.specs.Fraction.{Pair, IsLowestTerms}
 use Rattle.spl_fraction.specs.FractionsOver.{fractions_over, small_laws}
 use Rattle.spl_fraction.specs.CanonicalText.{canonical_text}
 use Rattle.spl_fraction.specs.CanonicalWords.{words_of}
 use Rattle.spl_fraction.proofs.CanonicalTexts.{text_words, is_fraction_text, canonical_unique}
-use Rattle.spl_fraction.proofs.ElementClauses.{lowest_of_elem}
+use Rattle.theory_fractions.proofs.ElementClauses.{lowest_of_elem}
 use Rattle.spl_evidence.specs.Evidence.{fractions_text}
 
 -- a multiplier's line without its newline

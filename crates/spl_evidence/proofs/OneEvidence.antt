@@ -10,7 +10,7 @@ use Rattle.theory_spaces.specs.Tuples.{IsTuple}
 use Rattle.spl_field.specs.declared.small.SmallField.{SmallField}
 use Rattle.spl_text.specs.Text.{Lacks, IsNumber, line}
 use Rattle.spl_text.proofs.Words.{Lacks-from_test, Lacks-append, Lacks-decimal, number_unique, number_and_rest}
-use Rattle.spl_fraction.specs.Fraction.{Pair}
+use Rattle.theory_fractions.specs.Fraction.{Pair}
 use Rattle.spl_fraction.specs.FractionsOver.{fractions_over}
 use Rattle.theory_tables.specs.Claims.{AreMultipliers}
 use Rattle.spl_evidence.specs.declared.evidence.Evidence.{Evidence}

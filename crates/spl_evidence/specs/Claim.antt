@@ -1,7 +1,7 @@
 -- What each evidence claims of an algebra over the fractions.
 use Rattle.std.specs.Prelude.{ℕ}
 use Rattle.theory_rings.specs.Ops.{Ops}
-use Rattle.spl_fraction.specs.Fraction.{Pair}
+use Rattle.theory_fractions.specs.Fraction.{Pair}
 use Rattle.theory_tables.specs.Structure.{Structure}
 use Rattle.theory_tables.specs.Claims.{TripleClaim, NoIdentityClaim, CentralClaim, IdealClaim}
 use Rattle.spl_evidence.specs.declared.evidence.Evidence.{Evidence}

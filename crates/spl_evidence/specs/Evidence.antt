@@ -4,7 +4,7 @@ use Rattle.std.specs.List.{flat_map, All}
 use Rattle.theory_rings.specs.Ops.{Ops}
 use Rattle.theory_spaces.specs.Tuples.{IsTuple}
 use Rattle.spl_text.specs.Text.{line}
-use Rattle.spl_fraction.specs.Fraction.{Pair}
+use Rattle.theory_fractions.specs.Fraction.{Pair}
 use Rattle.spl_fraction.specs.CanonicalText.{canonical_text}
 use Rattle.theory_tables.specs.Claims.{AreMultipliers}
 use Rattle.spl_evidence.specs.declared.evidence.Evidence.{Evidence}

@@ -3,7 +3,7 @@ ghost use Rattle.std.specs.Prelude.{◌≡◌, ℕ, ◌++◌, codes, decimal, On
 ghost use Rattle.std.specs.List.{All, flat_map};
 ghost use Rattle.theory_rings.specs.Ops.{IsElem};
 ghost use Rattle.spl_text.specs.Text.{line};
-ghost use Rattle.spl_fraction.specs.Fraction.{Pair};
+ghost use Rattle.theory_fractions.specs.Fraction.{Pair};
 ghost use Rattle.spl_fraction.specs.Fractions.{field_of};
 ghost use Rattle.spl_fraction.specs.FractionsOver.{fractions_over};
 ghost use Rattle.spl_fraction.specs.CanonicalText.{canonical_text};

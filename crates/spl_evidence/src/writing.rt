@@ -2,7 +2,7 @@
 ghost use Rattle.std.specs.Prelude.{◌≡◌, ℕ, List, ◌*◌, ◌≤◌, ◌++◌, IfOk, OnOk};
 ghost use Rattle.std.specs.List.{All};
 ghost use Rattle.theory_rings.specs.Ops.{IsElem};
-ghost use Rattle.spl_fraction.specs.Fraction.{Pair};
+ghost use Rattle.theory_fractions.specs.Fraction.{Pair};
 ghost use Rattle.spl_fraction.specs.Fractions.{field_of};
 ghost use Rattle.spl_fraction.specs.FractionsOver.{fractions_over};
 ghost use Rattle.spl_evidence.specs.Evidence.{Fits, IsEvidenceText, body};

@@ -13,7 +13,7 @@ use Rattle.spl_poly.proofs.Trimming.{without_zeros_unique}
 use Rattle.spl_text.specs.Text.{IsNumber, IsNumberList, FractionText, IsFractionText, fraction_text, numbers_text, coefficients_text, denominator_text}
 use Rattle.spl_text.proofs.NumberLists.{of_none}
 use Rattle.spl_text.proofs.Fractions.{fraction_unique}
-use Rattle.spl_fraction.specs.Fraction.{Pair, IsLowestTerms}
+use Rattle.theory_fractions.specs.Fraction.{Pair, IsLowestTerms}
 use Rattle.spl_fraction.specs.FractionsOver.{small_laws}
 use Rattle.spl_fraction.specs.CanonicalText.{denominator_text as canonical_denominator, canonical_text, IsCanonicalText}
 use Rattle.spl_fraction.specs.CanonicalWords.{numbers_of, denominator_of, words_of}

@@ -5,7 +5,7 @@ use Rattle.std.proofs.lemmas.List.{get_or_default}
 use Rattle.theory_rings.specs.Ops.{Ops, IsElem, FieldLaws}
 use Rattle.theory_rings.specs.Polynomial.{IsTrimmed}
 use Rattle.spl_poly.proofs.Trimming.{last-ne-zero_of_pos}
-use Rattle.spl_poly.proofs.Coefficients.{zero-mul_elem}
+use Rattle.theory_fractions.proofs.Coefficients.{zero-mul_elem}
 
 -- the last item that was read
 pub lead_nonzero : (xs : List ℕ) (n r : ℕ) → IsTrimmed 0 xs → suc n ≡ length xs → r ≡ get_or xs n r → r ≢ 0

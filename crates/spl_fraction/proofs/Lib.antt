@@ -1,12 +1,4 @@
-pub mod ListPolynomials
-pub mod LowestTerms
-pub mod FractionValues
-pub mod Coprime
-pub mod Reducing
 pub mod Leads
-pub mod PairEquations
-pub mod SumsOfFractions
-pub mod ProductsOfFractions
-pub mod ElementClauses
 pub mod PlaceOrders
 pub mod CanonicalTexts
+pub mod Generators

@@ -3,7 +3,7 @@
 use Rattle.std.specs.Prelude.{◌≡◌, ℕ, List, [], ◌∷◌, ◌++◌, codes}
 use Rattle.theory_rings.specs.Ops.{Ops}
 use Rattle.spl_text.specs.Text.{coefficients_text}
-use Rattle.spl_fraction.specs.Fraction.{Pair, IsLowestTerms}
+use Rattle.theory_fractions.specs.Fraction.{Pair, IsLowestTerms}
 
 -- what stands after the numerator; a monic denominator with one coefficient is 1
 abbrev pub denominator_text : List ℕ → List ℕ

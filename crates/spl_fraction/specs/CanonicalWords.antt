@@ -2,7 +2,7 @@
 use Rattle.std.specs.Prelude.{ℕ, ◌<◌, List, [], ◌∷◌, length, Option, Some, None}
 use Rattle.theory_rings.specs.Ops.{Ops}
 use Rattle.spl_text.specs.Text.{FractionText}
-use Rattle.spl_fraction.specs.Fraction.{Pair, IsLowestTerms}
+use Rattle.theory_fractions.specs.Fraction.{Pair, IsLowestTerms}
 
 -- the coefficients of a polynomial as a text has them; 0 is the number 0
 abbrev pub numbers_of : List ℕ → List ℕ

@@ -4,9 +4,9 @@ use Rattle.theory_rings.specs.Ops.{Ops, FieldLaws}
 use Rattle.spl_field.specs.SmallField.{small_ops}
 use Rattle.spl_field.specs.TableField.{field_laws}
 use Rattle.spl_field.specs.declared.small.SmallField.{SmallField}
-use Rattle.spl_fraction.specs.Fraction.{Pair}
-use Rattle.spl_fraction.specs.FractionOps.{fraction_ops}
-use Rattle.spl_fraction.specs.FractionField.{fraction_laws}
+use Rattle.theory_fractions.specs.Fraction.{Pair}
+use Rattle.theory_fractions.specs.FractionOps.{fraction_ops}
+use Rattle.theory_fractions.proofs.FractionField.{fraction_laws}
 
 -- the laws of a small field
 pub small_laws : (f : SmallField) → FieldLaws (small_ops f)

@@ -2,8 +2,8 @@
 ghost use Rattle.std.specs.Prelude.{◌≡◌, ◌≢◌, ◌↔◌, [], length, IfOk, IsTrue};
 ghost use Rattle.theory_rings.specs.Ops.{IsElem};
 ghost use Rattle.spl_field.specs.SmallField.{small_ops};
-ghost use Rattle.spl_fraction.specs.Fraction.{IsLowestTerms, IsFractionSum, IsFractionProduct, IsFractionNegative};
-ghost use Rattle.spl_fraction.specs.Fraction.{IsFractionInverse};
+ghost use Rattle.theory_fractions.specs.Fraction.{IsLowestTerms, IsFractionSum, IsFractionProduct, IsFractionNegative};
+ghost use Rattle.theory_fractions.specs.Fraction.{IsFractionInverse};
 
 use crate::fraction::Fraction;
 use crate::reduction::{is_constant, one_poly, reduced, scaled, with_monic_denominator};

@@ -4,8 +4,8 @@ ghost use Rattle.std.specs.Prelude.{OnOk, OnErr};
 ghost use Rattle.theory_rings.specs.Ops.{IsElem};
 ghost use Rattle.spl_field.specs.SmallField.{small_ops, characteristic, modulus_of};
 ghost use Rattle.spl_poly.specs.Operations.{IsOver};
-ghost use Rattle.spl_fraction.specs.Fraction.{Pair, IsLowestTerms, IsFraction, IsFractionSum, IsFractionProduct};
-ghost use Rattle.spl_fraction.specs.Fraction.{IsFractionNegative, IsFractionInverse};
+ghost use Rattle.theory_fractions.specs.Fraction.{Pair, IsLowestTerms, IsFraction, IsFractionSum, IsFractionProduct};
+ghost use Rattle.theory_fractions.specs.Fraction.{IsFractionNegative, IsFractionInverse};
 ghost use Rattle.spl_fraction.specs.FractionsOver.{fractions_over, fractions_laws};
 
 use crate::arithmetic::{are_same, copy_of, inverse_of, negative_of, product_of, sum_of};

@@ -33,7 +33,7 @@ impl Fraction {
     ghost use Rattle.std.specs.Prelude.{ℕ};
     ghost use Rattle.theory_rings.specs.Ops.{Ops};
     ghost use Rattle.spl_poly.specs.Operations.{IsOver};
-    ghost use Rattle.spl_fraction.specs.Fraction.{IsLowestTerms};
+    ghost use Rattle.theory_fractions.specs.Fraction.{IsLowestTerms};
 
     /// The pair.
     pub(crate) fn of(numerator: Poly, denominator: Poly) -> Fraction

@@ -2,7 +2,7 @@
 ghost use Rattle.std.specs.Prelude.{◌≡◌, ◌↔◌, ℕ, List};
 ghost use Rattle.theory_rings.specs.Ops.{IsElem};
 ghost use Rattle.spl_field.specs.SmallField.{small_ops};
-ghost use Rattle.spl_fraction.specs.Fraction.{Pair, IsLowestTerms, AreFractionOps};
+ghost use Rattle.theory_fractions.specs.Fraction.{Pair, IsLowestTerms, AreFractionOps};
 ghost use Rattle.spl_fraction.specs.CanonicalText.{IsCanonicalText};
 ghost use Rattle.spl_fraction.specs.FractionsOver.{fractions_over};
 

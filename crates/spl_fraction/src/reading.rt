@@ -5,7 +5,7 @@ ghost use Rattle.spl_field.specs.SmallField.{small_ops};
 ghost use Rattle.spl_poly.specs.Operations.{IsOver, without_zeros};
 ghost use Rattle.spl_text.specs.Text.{IsNumberList, IsFractionText};
 ghost use Rattle.spl_text.specs.FractionWords.{text_of};
-ghost use Rattle.spl_fraction.specs.Fraction.{Pair, IsLowestTerms};
+ghost use Rattle.theory_fractions.specs.Fraction.{Pair, IsLowestTerms};
 ghost use Rattle.spl_fraction.specs.CanonicalText.{IsCanonicalText};
 ghost use Rattle.spl_fraction.specs.CanonicalWords.{denominator_of, words_of, IsProper};
 

@@ -4,8 +4,8 @@ ghost use Rattle.theory_rings.specs.Ops.{Ops, IsElem};
 ghost use Rattle.theory_rings.specs.Polynomial.{IsTrimmed, degree};
 ghost use Rattle.spl_field.specs.SmallField.{small_ops};
 ghost use Rattle.spl_poly.specs.Operations.{IsOver, IsProduct};
-ghost use Rattle.spl_fraction.specs.Fraction.{IsFraction, IsCoprime, IsLowestTerms};
-ghost use Rattle.spl_fraction.specs.CommonDivisor.{IsCommonDivisor};
+ghost use Rattle.theory_fractions.specs.Fraction.{IsFraction, IsCoprime, IsLowestTerms};
+ghost use Rattle.theory_fractions.specs.CommonDivisor.{IsCommonDivisor};
 
 use crate::fraction::Fraction;
 use spl_field::field::NoMemory;

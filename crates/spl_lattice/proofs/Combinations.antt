@@ -20,7 +20,7 @@ use Rattle.theory_rings.proofs.Polynomials.Bezout.{constant_inverse}
 use Rattle.spl_poly.specs.Operations.{IsOver, IsProduct, Divides, IsMonicOf, IsZeroOrMonic}
 use Rattle.spl_lattice.specs.Ideal.{IsCombination, IsGenerator}
 use Rattle.spl_lattice.specs.Steps.{IsConstant, IsGreatestDivisor, AreMultiples, IsExtension, IsMultiple}
-use Rattle.spl_lattice.proofs.Lifting.{P, Has, lift, has-lift, eq_of_coefficients, coefficients_of_eq, has-mul, has-sum, has-one, lift_nil, lift-mul, product_of_lift, lower, lower-over, has-lower, lift-divides, divides_of_lift}
+use Rattle.theory_fractions.proofs.Lifting.{P, Has, lift, has-lift, eq_of_coefficients, coefficients_of_eq, has-mul, has-sum, has-one, lift_nil, lift-mul, product_of_lift, lower, lower-over, has-lower, lift-divides, divides_of_lift}
 use Rattle.spl_lattice.proofs.GreatestDivisors.{lift_one, lift-constant, lift-combination, combination_of_lift, divides_refl, divides_nil}
 
 module _ {E : Type 0} (o : Ops E) where

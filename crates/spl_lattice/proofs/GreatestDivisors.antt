@@ -16,9 +16,9 @@ use Rattle.theory_rings.proofs.Polynomials.PolynomialRing.{last-ne-zero, constan
 use Rattle.theory_rings.proofs.Polynomials.Constants.{constant_hom, constant-one, constant-zero}
 use Rattle.spl_poly.specs.Operations.{IsOver, IsProduct, IsDivision, Divides}
 use Rattle.spl_lattice.specs.Steps.{IsConstant, IsCombinationOfTwo, IsSumWithMultiple, IsReduction, IsGreatestDivisor}
-use Rattle.spl_poly.proofs.Coefficients.{add-zero_elem, convolution_of-elem}
+use Rattle.theory_fractions.proofs.Coefficients.{add-zero_elem, convolution_of-elem}
 use Rattle.theory_rings.proofs.Polynomials.Bezout.{constant_inverse}
-use Rattle.spl_lattice.proofs.Lifting.{P, Has, lift, has-lift, eq_of_coefficients, coefficients_of_eq, has-add, has-mul, lift_nil, lift-mul, product_of_lift, lift-divides, divides_of_lift}
+use Rattle.theory_fractions.proofs.Lifting.{P, Has, lift, has-lift, eq_of_coefficients, coefficients_of_eq, has-add, has-mul, lift_nil, lift-mul, product_of_lift, lift-divides, divides_of_lift}
 
 module _ {E : Type 0} (o : Ops E) (a b : List E) where
   -- what the algorithm keeps of (x, s, t) and (y, s', t'): both values are combinations, and what divides both divides

@@ -1,5 +1,4 @@
 pub mod Trimming
-pub mod Coefficients
 pub mod LongSteps
 pub mod Writes
 pub mod PowerRemainders

@@ -12,7 +12,7 @@ use Rattle.theory_rings.specs.Polynomial.{convolution_of}
 use Rattle.theory_rings.proofs.Rings.Elements.{at-elem}
 use Rattle.theory_rings.proofs.Polynomials.ElementLists.{convolution_of-elements}
 use Rattle.theory_rings.proofs.Polynomials.LongDivision.{division_step, division_clears}
-use Rattle.spl_poly.proofs.Coefficients.{mul-past, add-zero_elem}
+use Rattle.theory_fractions.proofs.Coefficients.{mul-past, add-zero_elem}
 
 module _ {E : Type 0} (o : Ops E) (L : FieldLaws o) where
   abbrev F : FieldOn (Elem o)

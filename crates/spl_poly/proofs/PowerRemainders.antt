@@ -16,7 +16,8 @@ use Rattle.theory_rings.proofs.Polynomials.Bezout.{field_polynomials}
 use Rattle.theory_rings.proofs.Polynomials.ElementLists.{values, at-values, elements_of, values-elements_of, poly_of, coefficient-poly_of, convolution_of-elements}
 use Rattle.spl_poly.specs.Operations.{IsOver, IsDivisionOf, IsProductRemainder, IsPowerRemainder, power_coefficients}
 use Rattle.theory_rings.proofs.Rings.Elements.{at-elem}
-use Rattle.spl_poly.proofs.Coefficients.{convolution_of_congr, convolution_of-zeros}
+use Rattle.theory_fractions.proofs.Coefficients.{convolution_of_congr, convolution_of-zeros}
+use Rattle.theory_fractions.proofs.Lifting.{values-over, HasCoefficients, coefficients_mul}
 
 module _ {E : Type 0} (o : Ops E) (L : FieldLaws o) where
   abbrev F : FieldOn (Elem o)
@@ -25,29 +26,15 @@ module _ {E : Type 0} (o : Ops E) (L : FieldLaws o) where
   abbrev P : CommRingOn (Poly F.cring)
   P = field_polynomials F
 
-  pub values-over : (xs : List (Elem o)) → IsOver o (values o L xs)
-  values-over [] = All-nil (IsElem o)
-  values-over (x ∷ xs) = All-cons (IsElem o) x.0 (values o L xs) x.1 (values-over xs)
-
-  -- the coefficients of p are f
-  abbrev pub HasCoefficients : Poly F.cring → (ℕ → E) → Type 0
-  HasCoefficients p f = (k : ℕ) → f k ≡ (coefficient F.cring p k).0
-
-  pub coefficients_mul : (p q : Poly F.cring) (f g : ℕ → E) → HasCoefficients p f → HasCoefficients q g → HasCoefficients (P.◌⊗◌ p q) (convolution_of o f g)
-  coefficients_mul p q f g hf hg k =
-      convolution_of_congr o L f g (λ i. (coefficient F.cring p i).0) (λ i. (coefficient F.cring q i).0) hf hg k
-      ∙ convolution_of-elements o L (coefficient F.cring p) (coefficient F.cring q) k
-      ∙ ap (λ x. x.0) (sym (coefficient-mul F.cring F.zero_test p q k))
-
   coefficients_power : (a : List E) (ha : IsOver o a) (ta : IsTrimmed o.zero a) (n : ℕ)
-      → HasCoefficients (power P.ring (poly_of o L a ha ta) n) (power_coefficients o a n)
+      → HasCoefficients o L (power P.ring (poly_of o L a ha ta) n) (power_coefficients o a n)
   coefficients_power a ha ta zero = λ k. go k ∙ ap (λ x. x.0) (sym (coefficient-one F.cring F.zero_test k))
     where
       go : (k : ℕ) → constant_coefficients o.zero o.one k ≡ (constant_coefficients F.zero F.one k).0
       go zero = refl
       go (suc k) = refl
   coefficients_power a ha ta (suc n) =
-      coefficients_mul (poly_of o L a ha ta) (power P.ring (poly_of o L a ha ta) n) (at o a) (power_coefficients o a n)
+      coefficients_mul o L (poly_of o L a ha ta) (power P.ring (poly_of o L a ha ta) n) (at o a) (power_coefficients o a n)
       (λ k. sym (coefficient-poly_of o L a ha ta k)) (coefficients_power a ha ta n)
 
   module _ (m : List E) (hm : IsOver o m) (tm : IsTrimmed o.zero m) where
@@ -55,7 +42,7 @@ module _ {E : Type 0} (o : Ops E) (L : FieldLaws o) where
     M = poly_of o L m hm tm
 
     -- a division on lists is a congruence of polynomials
-    pub congruent_of_division : (p : Poly F.cring) (f : ℕ → E) → HasCoefficients p f → (r : List E) (hr : IsOver o r) (tr : IsTrimmed o.zero r)
+    pub congruent_of_division : (p : Poly F.cring) (f : ℕ → E) → HasCoefficients o L p f → (r : List E) (hr : IsOver o r) (tr : IsTrimmed o.zero r)
         → ((q : List E) × IsOver o q × IsDivisionOf o f m q r) → Congruent P M p (poly_of o L r hr tr)
     congruent_of_division p f hf r hr tr s = (c, Poly-path F.cring p (P.◌⊕◌ (poly_of o L r hr tr) (P.◌⊗◌ c M)) each)
       where
@@ -65,23 +52,23 @@ module _ {E : Type 0} (o : Ops E) (L : FieldLaws o) where
         c : Poly F.cring
         c = (trim F.is_zero xs, IsTrimmed-trim F.zero_test xs)
 
-        hc : HasCoefficients c (at o s.0)
+        hc : HasCoefficients o L c (at o s.0)
         hc k = sym (ap (λ x. x.0) (get_or-trim F.zero_test xs k) ∙ sym (at-values o L xs k) ∙ ap (λ ys. at o ys k) (values-elements_of o L s.0 s.1))
 
         each : (k : ℕ) → coefficient F.cring p k ≡ coefficient F.cring (P.◌⊕◌ (poly_of o L r hr tr) (P.◌⊗◌ c M)) k
         each k =
             Elem-path o (coefficient F.cring p k) (F.◌⊕◌ (coefficient F.cring (P.◌⊗◌ c M) k) (coefficient F.cring (poly_of o L r hr tr) k))
-            (sym (hf k) ∙ s.2.whole k ∙ ap₂ o.add (coefficients_mul c M (at o s.0) (at o m) hc (λ i. sym (coefficient-poly_of o L m hm tm i)) k)
+            (sym (hf k) ∙ s.2.whole k ∙ ap₂ o.add (coefficients_mul o L c M (at o s.0) (at o m) hc (λ i. sym (coefficient-poly_of o L m hm tm i)) k)
             (sym (coefficient-poly_of o L r hr tr k)))
             ∙ F.add_comm (coefficient F.cring (P.◌⊗◌ c M) k) (coefficient F.cring (poly_of o L r hr tr) k)
             ∙ sym (coefficient-add F.cring F.zero_test (poly_of o L r hr tr) (P.◌⊗◌ c M) k)
 
     -- and back
-    pub division_of_congruent : (p : Poly F.cring) (f : ℕ → E) → HasCoefficients p f → (r : List E) (hr : IsOver o r) (tr : IsTrimmed o.zero r)
+    pub division_of_congruent : (p : Poly F.cring) (f : ℕ → E) → HasCoefficients o L p f → (r : List E) (hr : IsOver o r) (tr : IsTrimmed o.zero r)
         → length r < length m → Congruent P M p (poly_of o L r hr tr) → (q : List E) × IsOver o q × IsDivisionOf o f m q r
     division_of_congruent p f hf r hr tr l s = (
       values o L s.0.0,
-      values-over s.0.0,
+      values-over o L s.0.0,
       record { whole = each; smaller = l },
     )
       where
@@ -90,7 +77,7 @@ module _ {E : Type 0} (o : Ops E) (L : FieldLaws o) where
             hf k ∙ ap (λ x. (coefficient F.cring x k).0) s.1
             ∙ ap (λ x. x.0) (coefficient-add F.cring F.zero_test (poly_of o L r hr tr) (P.◌⊗◌ s.0 M) k
             ∙ F.add_comm (coefficient F.cring (poly_of o L r hr tr) k) (coefficient F.cring (P.◌⊗◌ s.0 M) k))
-            ∙ ap₂ o.add (sym (coefficients_mul s.0 M (at o (values o L s.0.0)) (at o m) (at-values o L s.0.0) (λ i. sym (coefficient-poly_of o L m hm tm i)) k))
+            ∙ ap₂ o.add (sym (coefficients_mul o L s.0 M (at o (values o L s.0.0)) (at o m) (at-values o L s.0.0) (λ i. sym (coefficient-poly_of o L m hm tm i)) k))
             (coefficient-poly_of o L r hr tr k)
 
     module _ (a : List E) (ha : IsOver o a) (ta : IsTrimmed o.zero a) where
@@ -105,7 +92,7 @@ module _ {E : Type 0} (o : Ops E) (L : FieldLaws o) where
           → Congruent P M (P.◌⊗◌ (poly_of o L b hb tb) A) (poly_of o L r hr tr)
       product_congruent b r hb tb hr tr =
           congruent_of_division (P.◌⊗◌ (poly_of o L b hb tb) A) (convolution_of o (at o b) (at o a))
-          (coefficients_mul (poly_of o L b hb tb) A (at o b) (at o a) (λ k. sym (coefficient-poly_of o L b hb tb k)) (λ k. sym (coefficient-poly_of o L a ha ta k)))
+          (coefficients_mul o L (poly_of o L b hb tb) A (at o b) (at o a) (λ k. sym (coefficient-poly_of o L b hb tb k)) (λ k. sym (coefficient-poly_of o L a ha ta k)))
           r hr tr
 
       -- from the power with exponent n to that with n + 1
@@ -159,5 +146,5 @@ module _ {E : Type 0} (o : Ops E) (L : FieldLaws o) where
           (congruent_trans P M (P.◌⊗◌ (power P.ring A n) (power P.ring A n)) (P.◌⊗◌ H H) (poly_of o L s hs ts)
           (congruent-mul P M (power P.ring A n) H (power P.ring A n) H (power_congruent n h hh th dh) (power_congruent n h hh th dh))
           (congruent_of_division (P.◌⊗◌ H H) (convolution_of o (at o h) (at o h))
-          (coefficients_mul H H (at o h) (at o h) (λ k. sym (coefficient-poly_of o L h hh th k)) (λ k. sym (coefficient-poly_of o L h hh th k)))
+          (coefficients_mul o L H H (at o h) (at o h) (λ k. sym (coefficient-poly_of o L h hh th k)) (λ k. sym (coefficient-poly_of o L h hh th k)))
           s hs ts ds)))

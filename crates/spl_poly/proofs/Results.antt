@@ -9,7 +9,7 @@ use Rattle.theory_rings.specs.Polynomial.{IsTrimmed, convolution_of, degree}
 use Rattle.theory_rings.proofs.Rings.Elements.{at-elem}
 use Rattle.theory_rings.proofs.Polynomials.PolynomialRing.{IsTrimmed-injective}
 use Rattle.spl_poly.specs.Operations.{IsOver, IsProduct, IsDivision, IsMonicOf}
-use Rattle.spl_poly.proofs.Coefficients.{mul-past, convolution_of-past, convolution_of_congr}
+use Rattle.theory_fractions.proofs.Coefficients.{mul-past, convolution_of-past, convolution_of_congr}
 use Rattle.spl_poly.proofs.Trimming.{IsTrimmed_of_last, last-ne-zero_of_pos, length_le_of_zeros}
 
 degree-length : {X : Type 0} (xs : List X) → degree xs ≡ length xs - 1

@@ -2,7 +2,7 @@
 use Rattle.std.proofs.Common.{◌≡◌, ◌↔◌, ℕ, List, get_or, sym, subst}
 use Rattle.std.specs.List.{All}
 use Rattle.theory_rings.specs.Ops.{Ops, IsElem}
-use Rattle.spl_fraction.specs.Fraction.{Pair, IsLowestTerms}
+use Rattle.theory_fractions.specs.Fraction.{Pair, IsLowestTerms}
 
 pub elements_over : (o o' : Ops ℕ) (K K' : Ops (Pair ℕ)) → o' ≡ o → ((u v : List ℕ) → IsElem K (u, v) ↔ IsLowestTerms o u v) → ((u v : List ℕ) → IsElem K' (u, v) ↔ IsLowestTerms o' u v)
     → (constants : List (Pair ℕ)) → All (IsElem K) constants → All (IsElem K') constants

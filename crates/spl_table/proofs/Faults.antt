@@ -10,7 +10,7 @@ use Rattle.spl_text.proofs.Words.{not_within, split_unique}
 use Rattle.spl_field.specs.SmallField.{characteristic, modulus_of, small_ops}
 use Rattle.spl_field.specs.declared.small.SmallField.{SmallField}
 use Rattle.theory_tables.specs.Structure.{Structure}
-use Rattle.spl_fraction.specs.Fraction.{Pair}
+use Rattle.theory_fractions.specs.Fraction.{Pair}
 use Rattle.spl_fraction.specs.Fractions.{field_of as base_of}
 use Rattle.spl_fraction.specs.declared.field.Fractions.{Fractions}
 use Rattle.spl_table.specs.TableText.{Entry, Head, first_line, field_line, degree_line, head_lines, entry_line, end_line, lines_before_end, spelling, IsRightHead, IsWellFormed}

@@ -8,7 +8,7 @@ use Rattle.std.proofs.lemmas.List.{length-append, get_or_append_left, get_or-app
 use Rattle.std.proofs.lemmas.List.Concat.{flat_map-append}
 use Rattle.theory_rings.specs.Ops.{Ops}
 use Rattle.spl_text.specs.Text.{line}
-use Rattle.spl_fraction.specs.Fraction.{Pair}
+use Rattle.theory_fractions.specs.Fraction.{Pair}
 use Rattle.spl_table.specs.TableText.{Entry, Head, entry_line, dimension_of, constant_at, IsInRange, IsRightEntry, AreRightEntries}
 use Rattle.spl_table.specs.Refusal.{last_of, LineFault}
 use Rattle.spl_table.specs.Table.{IsConstant}

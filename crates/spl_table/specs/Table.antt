@@ -4,7 +4,7 @@ use Rattle.theory_rings.specs.Ops.{Ops}
 use Rattle.spl_field.specs.SmallField.{characteristic, modulus_of, small_ops}
 use Rattle.spl_field.specs.declared.small.SmallField.{SmallField}
 use Rattle.spl_text.specs.Text.{FractionText}
-use Rattle.spl_fraction.specs.Fraction.{Pair, IsLowestTerms, IsFraction}
+use Rattle.theory_fractions.specs.Fraction.{Pair, IsLowestTerms, IsFraction}
 use Rattle.spl_fraction.specs.Fractions.{field_of as base_of}
 use Rattle.spl_fraction.specs.FractionsOver.{fractions_over}
 use Rattle.spl_fraction.specs.declared.field.Fractions.{Fractions}

@@ -6,7 +6,7 @@ ghost use Rattle.spl_field.specs.SmallField.{small_ops, size_of};
 ghost use Rattle.spl_text.specs.Text.{IsNumberList, IsFractionText};
 ghost use Rattle.spl_text.specs.FractionWords.{text_of};
 ghost use Rattle.spl_poly.specs.Operations.{IsOver, without_zeros};
-ghost use Rattle.spl_fraction.specs.Fraction.{IsLowestTerms, IsFraction};
+ghost use Rattle.theory_fractions.specs.Fraction.{IsLowestTerms, IsFraction};
 ghost use Rattle.spl_fraction.specs.Fractions.{field_of};
 ghost use Rattle.spl_fraction.specs.FractionsOver.{fractions_over};
 ghost use Rattle.spl_table.specs.TableText.{IsOverZero, lists_of};

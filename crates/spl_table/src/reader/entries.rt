@@ -4,7 +4,7 @@ ghost use Rattle.theory_rings.specs.Ops.{IsElem};
 ghost use Rattle.spl_field.specs.SmallField.{small_ops};
 ghost use Rattle.spl_text.specs.Text.{IsFractionText};
 ghost use Rattle.spl_text.specs.FractionWords.{text_of};
-ghost use Rattle.spl_fraction.specs.Fraction.{Pair};
+ghost use Rattle.theory_fractions.specs.Fraction.{Pair};
 ghost use Rattle.spl_fraction.specs.Fractions.{field_of};
 ghost use Rattle.spl_fraction.specs.FractionsOver.{fractions_over};
 ghost use Rattle.spl_table.specs.TableText.{IsInRange, IsOverZero};

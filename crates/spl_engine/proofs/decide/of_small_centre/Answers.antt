@@ -1,6 +1,6 @@
 use Rattle.std.proofs.Common.{◌≡◌, ℕ, ◌%◌, sym, subst₂}
 use Rattle.spl_field.specs.SmallField.{characteristic}
-use Rattle.spl_fraction.specs.Fraction.{Pair}
+use Rattle.theory_fractions.specs.Fraction.{Pair}
 use Rattle.spl_fraction.specs.Fractions.{field_of}
 use Rattle.spl_fraction.specs.FractionsOver.{fractions_over}
 use Rattle.spl_fraction.specs.declared.field.Fractions.{Fractions}

@@ -1,6 +1,6 @@
 use Rattle.std.proofs.Common.{sym, ◌∙◌}
 use Rattle.spl_field.specs.SmallField.{small_ops}
-use Rattle.spl_fraction.proofs.ProductsOfFractions.{coprime_lists_swap, fraction_same}
+use Rattle.theory_fractions.proofs.ProductsOfFractions.{coprime_lists_swap, fraction_same}
 use Rattle.spl_fraction.proofs.arithmetic.inverse_of.Goals as goal
 
 pub with_monic_denominator-requires-clause-den_nonzero : goal.with_monic_denominator-requires-clause-den_nonzero

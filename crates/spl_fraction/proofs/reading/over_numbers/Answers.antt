@@ -1,6 +1,6 @@
 use Rattle.std.proofs.Common.{sym, ◌∙◌, ap, subst}
 use Rattle.spl_field.specs.SmallField.{small_ops}
-use Rattle.spl_fraction.specs.Fraction.{IsLowestTerms}
+use Rattle.theory_fractions.specs.Fraction.{IsLowestTerms}
 use Rattle.spl_fraction.specs.CanonicalWords.{denominator_of, IsProper}
 use Rattle.spl_fraction.proofs.CanonicalTexts.{denominator_back, denominator_forth}
 use Rattle.spl_fraction.proofs.reading.over_numbers.Goals as goal

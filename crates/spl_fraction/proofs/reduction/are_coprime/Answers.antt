@@ -1,7 +1,7 @@
 use Rattle.spl_field.specs.SmallField.{small_ops}
 use Rattle.spl_fraction.specs.FractionsOver.{small_laws}
 use Rattle.std.proofs.Common.{refl}
-use Rattle.spl_fraction.proofs.Reducing.{coprime_of_constant_left, coprime_of_constant_divisor, constant_of_coprime}
+use Rattle.theory_fractions.proofs.Reducing.{coprime_of_constant_left, coprime_of_constant_divisor, constant_of_coprime}
 use Rattle.spl_fraction.proofs.reduction.are_coprime.Goals as goal
 
 pub returns-then-is_constant : goal.returns-then-is_constant

@@ -1,6 +1,6 @@
 use Rattle.spl_field.specs.SmallField.{small_ops}
 use Rattle.spl_fraction.specs.FractionsOver.{small_laws}
-use Rattle.spl_fraction.proofs.Reducing.{quotients_coprime, quotient_nonzero, quotients_value}
+use Rattle.theory_fractions.proofs.Reducing.{quotients_coprime, quotient_nonzero, quotients_value}
 use Rattle.spl_fraction.proofs.reduction.divided.Goals as goal
 
 pub with_monic_denominator-requires-clause-den_nonzero : goal.with_monic_denominator-requires-clause-den_nonzero

@@ -4,7 +4,7 @@ use Rattle.std.proofs.lemmas.List.Elements.{All-set}
 use Rattle.theory_rings.specs.Ops.{IsElem}
 use Rattle.theory_rings.proofs.Rings.Elements.{at-elem}
 use Rattle.spl_field.specs.SmallField.{small_ops}
-use Rattle.spl_poly.proofs.Coefficients.{add-past}
+use Rattle.theory_fractions.proofs.Coefficients.{add-past}
 use Rattle.spl_poly.proofs.Writes.{set-done, set-left}
 use Rattle.spl_poly.proofs.rows.add_row.Goals as goal
 

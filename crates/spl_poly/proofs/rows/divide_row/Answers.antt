@@ -5,7 +5,7 @@ use Rattle.theory_rings.specs.Ops.{IsElem}
 use Rattle.theory_rings.proofs.Rings.Elements.{at-elem}
 use Rattle.spl_field.specs.SmallField.{small_ops}
 use Rattle.spl_poly.specs.Operations.{IsOver}
-use Rattle.spl_poly.proofs.Coefficients.{convolution_of-zeros}
+use Rattle.theory_fractions.proofs.Coefficients.{convolution_of-zeros}
 use Rattle.spl_poly.proofs.LongSteps.{step_whole, step_small}
 use Rattle.spl_poly.proofs.rows.divide_row.Goals as goal
 

@@ -1,7 +1,7 @@
 use Rattle.std.proofs.Common.{ℕ, suc, ◌≡◌, ◌+◌, arith, sym, ◌∙◌, ap, ap₂}
 use Rattle.theory_rings.specs.Sum.{sum_of}
 use Rattle.spl_field.specs.SmallField.{small_ops}
-use Rattle.spl_poly.proofs.Coefficients.{sum_of-zeros, product_term, product_term-low, convolution_of_sum}
+use Rattle.theory_fractions.proofs.Coefficients.{sum_of-zeros, product_term, product_term-low, convolution_of_sum}
 use Rattle.spl_poly.proofs.rows.product_coefficient.Goals as goal
 use Rattle.spl_poly.proofs.rows.product_coefficient.Goals.{then-k-y, else-k-y, then-k-x, else-k-x}
 

@@ -1,6 +1,6 @@
 use Rattle.spl_field.specs.SmallField.{small_ops}
 use Rattle.spl_fraction.specs.FractionsOver.{small_laws}
-use Rattle.spl_fraction.proofs.ElementClauses.{lowest_of_elem}
+use Rattle.theory_fractions.proofs.ElementClauses.{lowest_of_elem}
 use Rattle.spl_fraction.proofs.field.FractionsField.copy.Goals as goal
 
 pub copy_of-requires : goal.copy_of-requires

@@ -1,6 +1,6 @@
 use Rattle.spl_field.specs.SmallField.{small_ops}
 use Rattle.spl_fraction.specs.FractionsOver.{small_laws}
-use Rattle.spl_fraction.proofs.ElementClauses.{lowest_of_elem, elem_of_lowest, mul_is}
+use Rattle.theory_fractions.proofs.ElementClauses.{lowest_of_elem, elem_of_lowest, mul_is}
 use Rattle.spl_fraction.proofs.field.FractionsField.mul.Goals as goal
 
 pub product_of-requires-clause-left : goal.product_of-requires-clause-left

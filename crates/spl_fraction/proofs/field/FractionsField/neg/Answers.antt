@@ -1,6 +1,6 @@
 use Rattle.spl_field.specs.SmallField.{small_ops}
 use Rattle.spl_fraction.specs.FractionsOver.{small_laws}
-use Rattle.spl_fraction.proofs.ElementClauses.{lowest_of_elem, elem_of_lowest, neg_is}
+use Rattle.theory_fractions.proofs.ElementClauses.{lowest_of_elem, elem_of_lowest, neg_is}
 use Rattle.spl_fraction.proofs.field.FractionsField.neg.Goals as goal
 
 pub negative_of-requires : goal.negative_of-requires

@@ -2,7 +2,7 @@ use Rattle.std.proofs.Common.{ℕ, List, ◌↔◌, subst}
 use Rattle.theory_rings.specs.Ops.{IsElem}
 use Rattle.spl_field.specs.SmallField.{small_ops}
 use Rattle.spl_field.specs.declared.small.SmallField.{SmallField}
-use Rattle.spl_fraction.specs.Fraction.{IsLowestTerms}
+use Rattle.theory_fractions.specs.Fraction.{IsLowestTerms}
 use Rattle.spl_fraction.specs.Fractions.{field_of as base_of}
 use Rattle.spl_fraction.specs.FractionsOver.{fractions_over}
 use Rattle.spl_table.proofs.Elements.{elements_over}
