@@ -67,7 +67,7 @@ fn is_over_zero(value: &FractionWords) -> bool
     ensures { IsTrue result ↔ IsOverZero (text_of value.now) }
 {
     match &value.denominator {
-        Some(denominator) => denominator.len() == 1 && denominator.at(0) == 0,
+        Some(denominator) => denominator.len() == 1 && denominator.as_slice()[0] == 0,
         None => false,
     }
 }
