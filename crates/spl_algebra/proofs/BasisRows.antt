@@ -8,8 +8,8 @@ use Rattle.theory_rings.specs.Sum.{at, sum_of, table}
 use Rattle.theory_spaces.specs.Tuples.{product, basis, constant}
 use Rattle.theory_rings.proofs.Sums.Lists.{table_congr}
 use Rattle.theory_rings.proofs.Rings.Elements.{at-elem, sum_of-elem, sum_of_congr}
-use Rattle.theory_spaces.proofs.Tuples.{at-table}
-use Rattle.theory_spaces.proofs.TupleProducts.{product_basis, IsTuple-basis}
+use Rattle.theory_spaces.proofs.Tuples.Tuples.{at-table}
+use Rattle.theory_spaces.proofs.Tuples.TupleProducts.{product_basis, IsTuple-basis}
 use Rattle.spl_algebra.specs.Products.{sum_of_rows}
 use Rattle.spl_algebra.proofs.Terms.{mul-one, mul-zero, zero-mul, sum_of_eq_single, sum_of_eq_zero}
 use Rattle.spl_algebra.proofs.Steps.{table-at, at-part}
@@ -23,10 +23,12 @@ row_within i j start m n e h k long =
 
 module _ {E : Type 0} (o : Ops E) where
   pub at-basis_same : (m i : ℕ) → i < m → at o (basis o m i) i ≡ o.one
-  at-basis_same m i l = at-table o m (λ k. cond (eqb k i) o.one o.zero) i l ∙ ap (λ b. cond b o.one o.zero) (eq-eqb i i refl)
+  at-basis_same m i l = at-table o m (λ k. cond (eqb k i) o.one o.zero) i l
+      ∙ ap (λ b. cond b o.one o.zero) (eq-eqb i i refl)
 
   pub at-basis_other : (m i k : ℕ) → k < m → (k ≡ i → ⊥) → at o (basis o m i) k ≡ o.zero
-  at-basis_other m i k l d = at-table o m (λ k. cond (eqb k i) o.one o.zero) k l ∙ ap (λ b. cond b o.one o.zero) (ne_eqb k i d)
+  at-basis_other m i k l d = at-table o m (λ k. cond (eqb k i) o.one o.zero) k l
+      ∙ ap (λ b. cond b o.one o.zero) (ne_eqb k i d)
 
 module _ {E : Type 0} (o : Ops E) (L : FieldLaws o) (m : ℕ) (cs : List E) (constants : All (IsElem o) cs) where
   abbrev term : List E → List E → ℕ → ℕ → ℕ → E
@@ -35,7 +37,8 @@ module _ {E : Type 0} (o : Ops E) (L : FieldLaws o) (m : ℕ) (cs : List E) (con
   term-elem : (a b : List E) (t i j : ℕ) → All (IsElem o) a → All (IsElem o) b → IsElem o (term a b t i j)
   term-elem a b t i j ha hb =
       L.mul-elem (o.mul (at o a i) (at o b j)) (constant o m cs i j t)
-      (L.mul-elem (at o a i) (at o b j) (at-elem o L a ha i) (at-elem o L b hb j)) (at-elem o L cs constants ((i * m + j) * m + t))
+      (L.mul-elem (at o a i) (at o b j) (at-elem o L a ha i) (at-elem o L b hb j))
+      (at-elem o L cs constants ((i * m + j) * m + t))
 
   term-right_zero : (a b : List E) (t i j : ℕ) → All (IsElem o) a → at o b j ≡ o.zero → term a b t i j ≡ o.zero
   term-right_zero a b t i j ha z =
@@ -44,16 +47,20 @@ module _ {E : Type 0} (o : Ops E) (L : FieldLaws o) (m : ℕ) (cs : List E) (con
 
   term-left_zero : (a b : List E) (t i j : ℕ) → All (IsElem o) b → at o a i ≡ o.zero → term a b t i j ≡ o.zero
   term-left_zero a b t i j hb z =
-      ap (λ x. o.mul x (constant o m cs i j t)) (ap (λ x. o.mul x (at o b j)) z ∙ zero-mul o L (at o b j) (at-elem o L b hb j))
+      ap (λ x. o.mul x (constant o m cs i j t))
+      (ap (λ x. o.mul x (at o b j)) z ∙ zero-mul o L (at o b j) (at-elem o L b hb j))
       ∙ zero-mul o L (constant o m cs i j t) (at-elem o L cs constants ((i * m + j) * m + t))
 
-  term-right_one : (a b : List E) (t i j : ℕ) → All (IsElem o) a → at o b j ≡ o.one → term a b t i j ≡ o.mul (at o a i) (constant o m cs i j t)
+  term-right_one : (a b : List E) (t i j : ℕ) → All (IsElem o) a → at o b j ≡ o.one
+      → term a b t i j ≡ o.mul (at o a i) (constant o m cs i j t)
   term-right_one a b t i j ha e =
       ap (λ x. o.mul x (constant o m cs i j t)) (ap (o.mul (at o a i)) e ∙ mul-one o L (at o a i) (at-elem o L a ha i))
 
-  term-left_one : (a b : List E) (t i j : ℕ) → All (IsElem o) b → at o a i ≡ o.one → term a b t i j ≡ o.mul (at o b j) (constant o m cs i j t)
+  term-left_one : (a b : List E) (t i j : ℕ) → All (IsElem o) b → at o a i ≡ o.one
+      → term a b t i j ≡ o.mul (at o b j) (constant o m cs i j t)
   term-left_one a b t i j hb e =
-      ap (λ x. o.mul x (constant o m cs i j t)) (ap (λ x. o.mul x (at o b j)) e ∙ L.one-mul (at o b j) (at-elem o L b hb j))
+      ap (λ x. o.mul x (constant o m cs i j t))
+      (ap (λ x. o.mul x (at o b j)) e ∙ L.one-mul (at o b j) (at-elem o L b hb j))
 
   -- a product with a basis element on the right: the rows that begin each m·m items
   pub product-basis : (a : List E) (k : ℕ) → All (IsElem o) a → k < m
@@ -79,12 +86,15 @@ module _ {E : Type 0} (o : Ops E) (L : FieldLaws o) (m : ℕ) (cs : List E) (con
       (sum_of_rows o m b (drop (i * m * m) cs) m)
       (λ t _.
       sum_of_eq_single o L m i (λ l. sum_of o m (λ j. term (basis o m i) b t l j)) h
-      (sum_of-elem o L m (λ j. term (basis o m i) b t i j) (λ j _. term-elem (basis o m i) b t i j (IsTuple-basis o L m cs constants i).of_elements hb))
-      (λ l g d. sum_of_eq_zero o L m (λ j. term (basis o m i) b t l j) (λ j _. term-left_zero (basis o m i) b t l j hb (at-basis_other o m i l g d)))
+      (sum_of-elem o L m (λ j. term (basis o m i) b t i j)
+      (λ j _. term-elem (basis o m i) b t i j (IsTuple-basis o L m cs constants i).of_elements hb))
+      (λ l g d. sum_of_eq_zero o L m (λ j. term (basis o m i) b t l j)
+      (λ j _. term-left_zero (basis o m i) b t l j hb (at-basis_other o m i l g d)))
       ∙ sum_of_congr o m
       (λ j. term (basis o m i) b t i j)
       (λ j. o.mul (at o b j) (at o (drop (i * m * m) cs) (j * m + t)))
-      (λ j _. term-left_one (basis o m i) b t i j hb (at-basis_same o m i h) ∙ ap (o.mul (at o b j)) (constant-row o m cs i j t)))
+      (λ j _. term-left_one (basis o m i) b t i j hb (at-basis_same o m i h)
+      ∙ ap (o.mul (at o b j)) (constant-row o m cs i j t)))
 
   -- the product of two basis elements is the row of their constants
   pub row-product : (i j : ℕ) (start : ℕ) → start ≡ (i * m + j) * m → i < m → j < m → length cs ≡ m * m * m

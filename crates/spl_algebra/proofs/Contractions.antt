@@ -7,9 +7,9 @@ use Rattle.theory_rings.specs.Sum.{at, sum_of, table}
 use Rattle.theory_rings.proofs.Sums.Lists.{table_congr, All-table}
 use Rattle.theory_rings.proofs.Rings.Elements.{at-elem, sum_of-elem, sum_of_congr}
 use Rattle.theory_spaces.specs.Tuples.{product, basis, constant}
-use Rattle.theory_spaces.proofs.Tuples.{at-table}
-use Rattle.theory_spaces.proofs.TupleProducts.{product_basis}
-use Rattle.theory_tables.proofs.Sums.{sum_of_comm, mul-sum_of}
+use Rattle.theory_spaces.proofs.Tuples.Tuples.{at-table}
+use Rattle.theory_spaces.proofs.Tuples.TupleProducts.{product_basis}
+use Rattle.theory_tables.proofs.Rows.Sums.{sum_of_comm, mul-sum_of}
 use Rattle.theory_tables.specs.Traces.{left_matrix, trace, trace_form}
 use Rattle.spl_algebra.specs.Products.{sum_of_rows}
 use Rattle.spl_algebra.specs.Contractions.{contracted, contraction, basis_trace}
@@ -28,14 +28,18 @@ pub first_place : (r j l m : ℕ) → r * (m * m) + j * m + l * 1 ≡ (r * m + j
 first_place r j l m = omega (arith, nat.add-mul (r * m) j m, nat.mul_assoc r m m)
 
 -- so all places of the two matrices are within the constants; n, d and m are the same number
-pub last_within : (n d m k : ℕ) → n ≡ m → d ≡ m → k ≡ m * m * m → (r j l : ℕ) → r < n → j < n → l < n → r * 1 + j * d + l * (d * d) < k
+pub last_within : (n d m k : ℕ) → n ≡ m → d ≡ m → k ≡ m * m * m → (r j l : ℕ) → r < n → j < n → l < n
+    → r * 1 + j * d + l * (d * d) < k
 last_within n d m k en ed long r j l r_in j_in l_in =
-    let e : r * 1 + j * d + l * (d * d) ≡ (l * m + j) * m + r = ap (λ x. r * 1 + j * x + l * (x * x)) ed ∙ last_place r j l m in
+    let e : r * 1 + j * d + l * (d * d) ≡ (l * m + j) * m + r = ap (λ x. r * 1 + j * x + l * (x * x)) ed
+    ∙ last_place r j l m in
     subst (λ p. p < k) (sym e) (constant_within l j r m k (omega arith) (omega arith) (omega arith) long)
 
-pub first_within : (n d m k : ℕ) → n ≡ m → d ≡ m → k ≡ m * m * m → (r j l : ℕ) → r < n → j < n → l < n → r * (d * d) + j * d + l * 1 < k
+pub first_within : (n d m k : ℕ) → n ≡ m → d ≡ m → k ≡ m * m * m → (r j l : ℕ) → r < n → j < n → l < n
+    → r * (d * d) + j * d + l * 1 < k
 first_within n d m k en ed long r j l r_in j_in l_in =
-    let e : r * (d * d) + j * d + l * 1 ≡ (r * m + j) * m + l = ap (λ x. r * (x * x) + j * x + l * 1) ed ∙ first_place r j l m in
+    let e : r * (d * d) + j * d + l * 1 ≡ (r * m + j) * m + l = ap (λ x. r * (x * x) + j * x + l * 1) ed
+    ∙ first_place r j l m in
     subst (λ p. p < k) (sym e) (constant_within r j l m k (omega arith) (omega arith) (omega arith) long)
 
 module _ {E : Type 0} (o : Ops E) (L : FieldLaws o) (m : ℕ) (cs : List E) (constants : All (IsElem o) cs) where
@@ -48,7 +52,8 @@ module _ {E : Type 0} (o : Ops E) (L : FieldLaws o) (m : ℕ) (cs : List E) (con
   at-product_basis a j k ha j_in k_in =
       ap (λ xs. at o xs k) (product-basis o L m cs constants a j ha j_in)
       ∙ at-table o m (sum_of_rows o m a (drop (j * m) cs) (m * m)) k k_in
-      ∙ sum_of_congr o m (λ l. o.mul (at o a l) (at o (drop (j * m) cs) (l * (m * m) + k))) (λ l. o.mul (at o a l) (constant o m cs l j k))
+      ∙ sum_of_congr o m (λ l. o.mul (at o a l) (at o (drop (j * m) cs) (l * (m * m) + k)))
+      (λ l. o.mul (at o a l) (constant o m cs l j k))
       (λ l _. ap (o.mul (at o a l)) (sym (constant-column o m cs l j k)))
 
   -- and b_i·a has the sum over l of a_l·γ_ilk
@@ -57,7 +62,8 @@ module _ {E : Type 0} (o : Ops E) (L : FieldLaws o) (m : ℕ) (cs : List E) (con
   at-basis_product a i k ha i_in k_in =
       ap (λ xs. at o xs k) (basis-product o L m cs constants a i ha i_in)
       ∙ at-table o m (sum_of_rows o m a (drop (i * m * m) cs) m) k k_in
-      ∙ sum_of_congr o m (λ l. o.mul (at o a l) (at o (drop (i * m * m) cs) (l * m + k))) (λ l. o.mul (at o a l) (constant o m cs i l k))
+      ∙ sum_of_congr o m (λ l. o.mul (at o a l) (at o (drop (i * m * m) cs) (l * m + k)))
+      (λ l. o.mul (at o a l) (constant o m cs i l k))
       (λ l _. ap (o.mul (at o a l)) (sym (constant-row o m cs i l k)))
 
   pub contraction-left : (a : List E) → All (IsElem o) a → contraction o m a cs 1 m (m * m) ≡ left_matrix o m cs a
@@ -68,29 +74,37 @@ module _ {E : Type 0} (o : Ops E) (L : FieldLaws o) (m : ℕ) (cs : List E) (con
       (λ j. contracted o m a cs (r * 1 + j * m) (m * m))
       (λ j. at o (product o m cs a (basis o m j)) r)
       (λ j j_in.
-      sum_of_congr o m (λ l. o.mul (at o a l) (at o cs (r * 1 + j * m + l * (m * m)))) (λ l. o.mul (at o a l) (constant o m cs l j r))
+      sum_of_congr o m (λ l. o.mul (at o a l) (at o cs (r * 1 + j * m + l * (m * m))))
+      (λ l. o.mul (at o a l) (constant o m cs l j r))
       (λ l _. ap (λ p. o.mul (at o a l) (at o cs p)) (last_place r j l m))
       ∙ sym (at-product_basis a j r ha j_in r_in)))
 
   -- the same of what a program has read
-  pub contraction-left_of : (n d : ℕ) (s a k : List E) → n ≡ m → d ≡ m → s ≡ a → k ≡ cs → All (IsElem o) a → contraction o n s k 1 d (d * d) ≡ left_matrix o m cs a
+  pub contraction-left_of : (n d : ℕ) (s a k : List E) → n ≡ m → d ≡ m → s ≡ a → k ≡ cs → All (IsElem o) a
+      → contraction o n s k 1 d (d * d) ≡ left_matrix o m cs a
   contraction-left_of n d s a k en ed es ek ha =
-      ap₂ (λ x y. contraction o x s k 1 y (y * y)) en ed ∙ ap₂ (λ x y. contraction o m x y 1 m (m * m)) es ek ∙ contraction-left a ha
+      ap₂ (λ x y. contraction o x s k 1 y (y * y)) en ed ∙ ap₂ (λ x y. contraction o m x y 1 m (m * m)) es ek
+      ∙ contraction-left a ha
 
   -- the trace is linear: that of a is the sum over l of a_l times that of b_l
-  pub trace-by_basis : (a : List E) → All (IsElem o) a → trace o m cs a ≡ sum_of o m (λ l. o.mul (at o a l) (basis_trace o m cs l))
+  pub trace-by_basis : (a : List E) → All (IsElem o) a
+      → trace o m cs a ≡ sum_of o m (λ l. o.mul (at o a l) (basis_trace o m cs l))
   trace-by_basis a ha =
       let a_in = at-elem o L a ha in
-      sum_of_congr o m (λ j. at o (product o m cs a (basis o m j)) j) (λ j. sum_of o m (λ l. o.mul (at o a l) (constant o m cs l j j)))
+      sum_of_congr o m (λ j. at o (product o m cs a (basis o m j)) j)
+      (λ j. sum_of o m (λ l. o.mul (at o a l) (constant o m cs l j j)))
       (λ j j_in. at-product_basis a j j ha j_in j_in)
-      ∙ sum_of_comm o L m m (λ j l. o.mul (at o a l) (constant o m cs l j j)) (λ j l. L.mul-elem (at o a l) (constant o m cs l j j) (a_in l) (constant-elem l j j))
-      ∙ sum_of_congr o m (λ l. sum_of o m (λ j. o.mul (at o a l) (constant o m cs l j j))) (λ l. o.mul (at o a l) (basis_trace o m cs l))
+      ∙ sum_of_comm o L m m (λ j l. o.mul (at o a l) (constant o m cs l j j))
+      (λ j l. L.mul-elem (at o a l) (constant o m cs l j j) (a_in l) (constant-elem l j j))
+      ∙ sum_of_congr o m (λ l. sum_of o m (λ j. o.mul (at o a l) (constant o m cs l j j)))
+      (λ l. o.mul (at o a l) (basis_trace o m cs l))
       (λ l _. sym (mul-sum_of o L m (at o a l) (λ j. constant o m cs l j j) (a_in l) (λ j. constant-elem l j j)))
 
   basis_trace-elem : (i : ℕ) → IsElem o (basis_trace o m cs i)
   basis_trace-elem i = sum_of-elem o L m (λ j. constant o m cs i j j) (λ j _. constant-elem i j j)
 
-  pub contraction-form : (traces : List E) → traces ≡ table m (basis_trace o m cs) → contraction o m traces cs (m * m) m 1 ≡ trace_form o m cs
+  pub contraction-form : (traces : List E) → traces ≡ table m (basis_trace o m cs)
+      → contraction o m traces cs (m * m) m 1 ≡ trace_form o m cs
   contraction-form traces e = table_congr m
       (λ r. table m (λ j. contracted o m traces cs (r * (m * m) + j * m) 1))
       (λ i. table m (λ j. trace o m cs (product o m cs (basis o m i) (basis o m j))))
@@ -99,7 +113,8 @@ module _ {E : Type 0} (o : Ops E) (L : FieldLaws o) (m : ℕ) (cs : List E) (con
       (λ j. trace o m cs (product o m cs (basis o m r) (basis o m j)))
       (λ j j_in.
       let row = table m (λ l. constant o m cs r j l) in
-      sum_of_congr o m (λ l. o.mul (at o traces l) (at o cs (r * (m * m) + j * m + l * 1))) (λ l. o.mul (at o row l) (basis_trace o m cs l))
+      sum_of_congr o m (λ l. o.mul (at o traces l) (at o cs (r * (m * m) + j * m + l * 1)))
+      (λ l. o.mul (at o row l) (basis_trace o m cs l))
       (λ l l_in.
       ap₂ o.mul (ap (λ xs. at o xs l) e ∙ at-table o m (basis_trace o m cs) l l_in) (ap (at o cs) (first_place r j l m))
       ∙ L.mul_comm (basis_trace o m cs l) (constant o m cs r j l) (basis_trace-elem l) (constant-elem r j l)
@@ -110,6 +125,8 @@ module _ {E : Type 0} (o : Ops E) (L : FieldLaws o) (m : ℕ) (cs : List E) (con
       row-elems : (r j : ℕ) → All (IsElem o) (table m (λ l. constant o m cs r j l))
       row-elems r j = All-table (IsElem o) m (λ l. constant o m cs r j l) (λ l _. constant-elem r j l)
 
-  pub contraction-form_of : (n d : ℕ) (s k : List E) → n ≡ m → d ≡ m → s ≡ table m (basis_trace o m cs) → k ≡ cs → contraction o n s k (d * d) d 1 ≡ trace_form o m cs
+  pub contraction-form_of : (n d : ℕ) (s k : List E) → n ≡ m → d ≡ m → s ≡ table m (basis_trace o m cs) → k ≡ cs
+      → contraction o n s k (d * d) d 1 ≡ trace_form o m cs
   contraction-form_of n d s k en ed es ek =
-      ap₂ (λ x y. contraction o x s k (y * y) y 1) en ed ∙ ap (λ y. contraction o m s y (m * m) m 1) ek ∙ contraction-form s es
+      ap₂ (λ x y. contraction o x s k (y * y) y 1) en ed ∙ ap (λ y. contraction o m s y (m * m) m 1) ek
+      ∙ contraction-form s es

@@ -1,5 +1,6 @@
 -- The linear system for an identity: its places, and what its two kinds of solutions show.
-use Rattle.std.specs.Prelude.{◌≡◌, ◌+◌, ◌-◌, ◌*◌, ◌/◌, ◌%◌, ◌<◌, ◌≤◌, ℕ, zero, suc, List, [], ◌∷◌, ◌++◌, length, get_or, take, drop, cond, nat_eq, nat_lt, All}
+use Rattle.std.specs.Prelude.{◌≡◌, ◌+◌, ◌-◌, ◌*◌, ◌/◌, ◌%◌, ◌<◌, ◌≤◌, ℕ, zero, suc, List, [], ◌∷◌, ◌++◌, length, get_or}
+use Rattle.std.specs.Prelude.{take, drop, cond, nat_eq, nat_lt, All}
 use Rattle.std.proofs.Common.{refl, sym, ◌∙◌, ap, ap₂, subst, arith, ⊎_elim}
 use Rattle.std.proofs.Math.Nat as nat
 use Rattle.std.proofs.Math.Seq.{get_or-append_seam}
@@ -12,21 +13,23 @@ use Rattle.theory_rings.specs.Sum.{at, sum_of, table}
 use Rattle.theory_rings.proofs.Rings.Elements.{at-elem, sum_of-elem, sum_of_congr}
 use Rattle.theory_rings.proofs.Sums.Lists.{length-table, get_or-table, table_congr}
 use Rattle.theory_spaces.specs.Tuples.{IsTuple, tuple_neg, basis, product, constant, IsTableOne}
-use Rattle.theory_spaces.proofs.Tuples.{at-table, IsTuple-table}
-use Rattle.theory_spaces.proofs.PairIndex.{pair-lt, row-lt, column-lt}
+use Rattle.theory_spaces.proofs.Tuples.Tuples.{at-table, IsTuple-table}
+use Rattle.theory_spaces.proofs.Matrices.PairIndex.{pair-lt, row-lt, column-lt}
 use Rattle.theory_tables.specs.Matrix.{entry, width_of, IsMatrix}
 use Rattle.theory_tables.specs.Solve.{IsSolved, IsRefuted}
-use Rattle.theory_tables.proofs.Sums.{sum_of-add, sum_of-next, entry-elem}
-use Rattle.theory_tables.proofs.Spans.{sum_of-split}
-use Rattle.theory_tables.proofs.Terms.{add-zero, zero-mul, mul-zero, mul-one, add-mul, cond_yes, cond_no}
+use Rattle.theory_tables.proofs.Rows.Sums.{sum_of-add, sum_of-next, entry-elem}
+use Rattle.theory_tables.proofs.Rows.Spans.{sum_of-split}
+use Rattle.theory_tables.proofs.Rows.Terms.{add-zero, zero-mul, mul-zero, mul-one, add-mul, cond_yes, cond_no}
 use Rattle.theory_tables.specs.Claims.{multiplier_at, NoIdentityClaim}
-use Rattle.spl_algebra.specs.IdentitySystem.{constant_place, unit_item, constant_row, unit_row, IsIdentitySystem, ListsMultipliers}
+use Rattle.spl_algebra.specs.IdentitySystem.{constant_place, unit_item, constant_row, unit_row, IsIdentitySystem}
+use Rattle.spl_algebra.specs.IdentitySystem.{ListsMultipliers}
 use Rattle.spl_algebra.specs.Products.{sum_of_rows}
 use Rattle.spl_algebra.proofs.Terms.{sum_of_eq_single, sum_of_eq_zero}
 use Rattle.spl_algebra.proofs.Rows.{constant-row, constant-column}
 use Rattle.spl_algebra.proofs.BasisRows.{at-basis_same, at-basis_other, product-basis, basis-product}
 
-pub right_place-within : (m i c : ℕ) → i < m → c < m * m + m * m → ((c - m * m) / m * m + i) * m + (c - m * m) % m < m * m * m
+pub right_place-within : (m i c : ℕ) → i < m → c < m * m + m * m
+    → ((c - m * m) / m * m + i) * m + (c - m * m) % m < m * m * m
 right_place-within m i c h l =
     let pair : c - m * m < m * m = omega arith in
     let row : (c - m * m) / m * m + i < m * m = pair-lt m m ((c - m * m) / m) i (row-lt m m (c - m * m) pair) h in
@@ -35,24 +38,31 @@ right_place-within m i c h l =
 pub constant_place-within : (m i c : ℕ) → i < m → c < m * m + m * m → constant_place m i c < m * m * m
 constant_place-within m i c h l = ⊎_elim
     (λ (k : c < m * m).
-    subst (λ x. x < m * m * m) (sym (cond-true (nat_lt c (m * m)) (i * (m * m) + c) (((c - m * m) / m * m + i) * m + (c - m * m) % m) (lt-ltb c (m * m) k)))
+    subst (λ x. x < m * m * m)
+    (sym (cond-true (nat_lt c (m * m)) (i * (m * m) + c) (((c - m * m) / m * m + i) * m + (c - m * m) % m)
+    (lt-ltb c (m * m) k)))
     (omega (arith, pair-lt m (m * m) i c h k)))
     (λ (k : m * m ≤ c).
-    subst (λ x. x < m * m * m) (sym (cond-false (nat_lt c (m * m)) (i * (m * m) + c) (((c - m * m) / m * m + i) * m + (c - m * m) % m) (le-ltb c (m * m) k)))
+    subst (λ x. x < m * m * m)
+    (sym (cond-false (nat_lt c (m * m)) (i * (m * m) + c) (((c - m * m) / m * m + i) * m + (c - m * m) % m)
+    (le-ltb c (m * m) k)))
     (right_place-within m i c h l))
     (cases_lt c (m * m))
 
 pub constant_place-left : (m i j k : ℕ) → j < m → k < m → constant_place m i (j * m + k) ≡ (i * m + j) * m + k
 constant_place-left m i j k hj hk =
     let c : ℕ = j * m + k in
-    cond-true (nat_lt c (m * m)) (i * (m * m) + c) (((c - m * m) / m * m + i) * m + (c - m * m) % m) (lt-ltb c (m * m) (pair-lt m m j k hj hk))
+    cond-true (nat_lt c (m * m)) (i * (m * m) + c) (((c - m * m) / m * m + i) * m + (c - m * m) % m)
+    (lt-ltb c (m * m) (pair-lt m m j k hj hk))
     ∙ (let e : i * (m * m) + (j * m + k) ≡ (i * m + j) * m + k = omega arith in e)
 
-pub constant_place-right : (m i j k : ℕ) → j < m → k < m → constant_place m i (m * m + (j * m + k)) ≡ (j * m + i) * m + k
+pub constant_place-right : (m i j k : ℕ) → j < m → k < m
+    → constant_place m i (m * m + (j * m + k)) ≡ (j * m + i) * m + k
 constant_place-right m i j k hj hk =
     let c : ℕ = m * m + (j * m + k) in
     let back : c - m * m ≡ j * m + k = omega arith in
-    cond-false (nat_lt c (m * m)) (i * (m * m) + c) (((c - m * m) / m * m + i) * m + (c - m * m) % m) (le-ltb c (m * m) (omega arith))
+    cond-false (nat_lt c (m * m)) (i * (m * m) + c) (((c - m * m) / m * m + i) * m + (c - m * m) % m)
+    (le-ltb c (m * m) (omega arith))
     ∙ ap (λ p. (p / m * m + i) * m + p % m) back
     ∙ ap₂ (λ x y. (x * m + i) * m + y) (div-mul-add j m k hk) (mod-mul-add j m k hk)
 
@@ -64,15 +74,18 @@ module _ {E : Type 0} (o : Ops E) (m : ℕ) where
 
   pub unit_item-right : (j k : ℕ) → j < m → k < m → unit_item o m (m * m + (j * m + k)) ≡ cond (nat_eq k j) o.one o.zero
   unit_item-right j k hj hk =
-      ap (λ p. cond (nat_eq (p % m) (p / m)) o.one o.zero) (nat.add-mod_left (m * m) (j * m + k)) ∙ unit_item-left j k hj hk
+      ap (λ p. cond (nat_eq (p % m) (p / m)) o.one o.zero) (nat.add-mod_left (m * m) (j * m + k))
+      ∙ unit_item-left j k hj hk
 
 module _ {E : Type 0} (o : Ops E) (L : FieldLaws o) where
   -- a sum over n·m numbers, row by row
-  pub sum_of_pairs : (n m : ℕ) (f : ℕ → E) → ((k : ℕ) → IsElem o (f k)) → sum_of o (n * m) f ≡ sum_of o n (λ i. sum_of o m (λ j. f (i * m + j)))
+  pub sum_of_pairs : (n m : ℕ) (f : ℕ → E) → ((k : ℕ) → IsElem o (f k))
+      → sum_of o (n * m) f ≡ sum_of o n (λ i. sum_of o m (λ j. f (i * m + j)))
   sum_of_pairs zero m f h = let e : 0 * m ≡ 0 = omega arith in ap (λ c. sum_of o c f) e
   sum_of_pairs (suc n) m f h =
       let e : suc n * m ≡ n * m + m = omega arith in
-      ap (λ c. sum_of o c f) e ∙ sum_of-split o L (n * m) m f h ∙ ap (λ x. o.add x (sum_of o m (λ j. f (n * m + j)))) (sum_of_pairs n m f h)
+      ap (λ c. sum_of o c f) e ∙ sum_of-split o L (n * m) m f h
+      ∙ ap (λ x. o.add x (sum_of o m (λ j. f (n * m + j)))) (sum_of_pairs n m f h)
 
   -- a sum over two halves of m·m numbers
   pub sum_of_halves : (m : ℕ) (f : ℕ → E) → ((k : ℕ) → IsElem o (f k))
@@ -80,24 +93,29 @@ module _ {E : Type 0} (o : Ops E) (L : FieldLaws o) where
   sum_of_halves m f h =
       sum_of-split o L (m * m) (m * m) f h
       ∙ sym (sum_of-add o L (m * m) f (λ c. f (m * m + c)) h (λ c. h (m * m + c)))
-      ∙ sum_of_pairs m m (λ c. o.add (f c) (f (m * m + c))) (λ c. L.add-elem (f c) (f (m * m + c)) (h c) (h (m * m + c)))
+      ∙ sum_of_pairs m m (λ c. o.add (f c) (f (m * m + c)))
+      (λ c. L.add-elem (f c) (f (m * m + c)) (h c) (h (m * m + c)))
 
   -- where a sum and y are 0 together, y is the sum with opposite signs
-  pub opposite_sum : (n : ℕ) (u x : ℕ → E) (y : E) → ((i : ℕ) → IsElem o (u i)) → ((i : ℕ) → IsElem o (x i)) → IsElem o y
+  pub opposite_sum : (n : ℕ) (u x : ℕ → E) (y : E) → ((i : ℕ) → IsElem o (u i)) → ((i : ℕ) → IsElem o (x i))
+      → IsElem o y
       → o.add (sum_of o n (λ i. o.mul (u i) (x i))) y ≡ o.zero → sum_of o n (λ i. o.mul (o.neg (u i)) (x i)) ≡ y
   opposite_sum n u x y hu hx hy e =
       let s : E = sum_of o n (λ i. o.mul (u i) (x i)) in
       let t : E = sum_of o n (λ i. o.mul (o.neg (u i)) (x i)) in
       let hs : IsElem o s = sum_of-elem o L n (λ i. o.mul (u i) (x i)) (λ i _. L.mul-elem (u i) (x i) (hu i) (hx i)) in
       let negative : (i : ℕ) → IsElem o (o.neg (u i)) = λ i. L.neg-elem (u i) (hu i) in
-      let ht : IsElem o t = sum_of-elem o L n (λ i. o.mul (o.neg (u i)) (x i)) (λ i _. L.mul-elem (o.neg (u i)) (x i) (negative i) (hx i)) in
+      let ht : IsElem o t =
+      sum_of-elem o L n (λ i. o.mul (o.neg (u i)) (x i))
+      (λ i _. L.mul-elem (o.neg (u i)) (x i) (negative i) (hx i)) in
       let cancel : o.add t s ≡ o.zero =
       sym (sum_of-add o L n (λ i. o.mul (o.neg (u i)) (x i)) (λ i. o.mul (u i) (x i))
       (λ i. L.mul-elem (o.neg (u i)) (x i) (negative i) (hx i)) (λ i. L.mul-elem (u i) (x i) (hu i) (hx i)))
       ∙ sum_of_eq_zero o L n (λ i. o.add (o.mul (o.neg (u i)) (x i)) (o.mul (u i) (x i))) (λ i _.
       sym (add-mul o L (o.neg (u i)) (u i) (x i) (negative i) (hu i) (hx i))
       ∙ ap (λ z. o.mul z (x i)) (L.neg-add (u i) (hu i)) ∙ zero-mul o L (x i) (hx i)) in
-      sym (add-zero o L t ht) ∙ ap (o.add t) (sym e) ∙ sym (L.add_assoc t s y ht hs hy) ∙ ap (λ z. o.add z y) cancel ∙ L.zero-add y hy
+      sym (add-zero o L t ht) ∙ ap (o.add t) (sym e) ∙ sym (L.add_assoc t s y ht hs hy) ∙ ap (λ z. o.add z y) cancel
+      ∙ L.zero-add y hy
 
   pub identity_system : (m : ℕ) (cs : List E) (before after : List (List E)) (last : List E)
       → before ≡ table m (constant_row o m cs) → last ≡ unit_row o m → after ≡ before ++ last ∷ []
@@ -110,15 +128,19 @@ module _ {E : Type 0} (o : Ops E) (L : FieldLaws o) where
         constants_at = λ i c hi hc.
             let below : i < length before = omega arith in
             ap (λ rows. entry o rows i c) a
-            ∙ ap (λ row. at o row c) (get_or_append_left before (last ∷ []) [] i below ∙ ap (λ rows. get_or rows i []) b ∙ get_or-table m (constant_row o m cs) i [] hi)
+            ∙ ap (λ row. at o row c)
+            (get_or_append_left before (last ∷ []) [] i below ∙ ap (λ rows. get_or rows i []) b
+            ∙ get_or-table m (constant_row o m cs) i [] hi)
             ∙ get_or-table (m * m + m * m) (λ c. at o cs (constant_place m i c)) c o.zero hc;
         units_at = λ c hc.
             ap (λ rows. entry o rows m c) a
-            ∙ ap (λ row. at o row c) (ap (λ i. get_or (before ++ last ∷ []) i []) (sym long) ∙ get_or-append_seam before last [] [] ∙ l)
+            ∙ ap (λ row. at o row c)
+            (ap (λ i. get_or (before ++ last ∷ []) i []) (sym long) ∙ get_or-append_seam before last [] [] ∙ l)
             ∙ get_or-table (m * m + m * m) (unit_item o m) c o.zero hc;
       }
 
-  module _ (m : ℕ) (cs : List E) (elems : All (IsElem o) cs) (rows : List (List E)) (S : IsIdentitySystem o m cs rows) where
+  module _ (m : ℕ) (cs : List E) (elems : All (IsElem o) cs) (rows : List (List E))
+      (S : IsIdentitySystem o m cs rows) where
     pub system_width : width_of rows ≡ m * m + m * m
     system_width =
         let some : 0 < length rows = omega (arith, S.height) in
@@ -132,10 +154,12 @@ module _ {E : Type 0} (o : Ops E) (L : FieldLaws o) where
 
     -- the two halves of a row
     left_entry : (i j k : ℕ) → i < m → j < m → k < m → entry o rows i (j * m + k) ≡ constant o m cs i j k
-    left_entry i j k hi hj hk = S.constants_at i (j * m + k) hi (left-lt j k hj hk) ∙ ap (at o cs) (constant_place-left m i j k hj hk)
+    left_entry i j k hi hj hk = S.constants_at i (j * m + k) hi (left-lt j k hj hk)
+        ∙ ap (at o cs) (constant_place-left m i j k hj hk)
 
     right_entry : (i j k : ℕ) → i < m → j < m → k < m → entry o rows i (m * m + (j * m + k)) ≡ constant o m cs j i k
-    right_entry i j k hi hj hk = S.constants_at i (m * m + (j * m + k)) hi (right-lt j k hj hk) ∙ ap (at o cs) (constant_place-right m i j k hj hk)
+    right_entry i j k hi hj hk = S.constants_at i (m * m + (j * m + k)) hi (right-lt j k hj hk)
+        ∙ ap (at o cs) (constant_place-right m i j k hj hk)
 
     left_unit : (j k : ℕ) → j < m → k < m → entry o rows m (j * m + k) ≡ cond (nat_eq k j) o.one o.zero
     left_unit j k hj hk = S.units_at (j * m + k) (left-lt j k hj hk) ∙ unit_item-left o m j k hj hk
@@ -144,8 +168,10 @@ module _ {E : Type 0} (o : Ops E) (L : FieldLaws o) where
     right_unit j k hj hk = S.units_at (m * m + (j * m + k)) (right-lt j k hj hk) ∙ unit_item-right o m j k hj hk
 
     -- a solution refutes that there is an identity
-    pub refutes_identity : (v : List E) (left right : List (ℕ × ℕ × E)) → IsSolved o (length rows) (width_of rows) rows (basis o (m + 1) m) v
-        → ListsMultipliers o m (take (m * m) v) left → ListsMultipliers o m (drop (m * m) v) right → NoIdentityClaim o m cs left right
+    pub refutes_identity : (v : List E) (left right : List (ℕ × ℕ × E))
+        → IsSolved o (length rows) (width_of rows) rows (basis o (m + 1) m) v
+        → ListsMultipliers o m (take (m * m) v) left → ListsMultipliers o m (drop (m * m) v) right
+        → NoIdentityClaim o m cs left right
     refutes_identity v left right s l r = record {
       left_multipliers = l.multipliers;
       right_multipliers = r.multipliers;
@@ -160,7 +186,8 @@ module _ {E : Type 0} (o : Ops E) (L : FieldLaws o) where
         term i c = o.mul (entry o rows i c) (at o v c)
 
         of_term : (i c : ℕ) → IsElem o (o.mul (entry o rows i c) (at o v c))
-        of_term i c = L.mul-elem (entry o rows i c) (at o v c) (entry-elem o L (m * m + m * m) rows S.shape i c) (of_v c)
+        of_term i c = L.mul-elem (entry o rows i c) (at o v c) (entry-elem o L (m * m + m * m) rows S.shape i c)
+            (of_v c)
 
         left_is : (j k : ℕ) → j < m → k < m → multiplier_at o left (j + 1) (k + 1) ≡ at o v (j * m + k)
         left_is j k hj hk = l.multiplier j k hj hk ∙ get_or-take (m * m) v (j * m + k) o.zero (pair-lt m m j k hj hk)
@@ -168,7 +195,8 @@ module _ {E : Type 0} (o : Ops E) (L : FieldLaws o) where
         right_is : (j k : ℕ) → j < m → k < m → multiplier_at o right (j + 1) (k + 1) ≡ at o v (m * m + (j * m + k))
         right_is j k hj hk = r.multiplier j k hj hk ∙ get_or-drop (m * m) v (j * m + k) o.zero
 
-        solves : (i : ℕ) → i < m + 1 → sum_of o m (λ j. sum_of o m (λ k. o.add (o.mul (entry o rows i (j * m + k)) (at o v (j * m + k)))
+        solves : (i : ℕ) → i < m + 1
+            → sum_of o m (λ j. sum_of o m (λ k. o.add (o.mul (entry o rows i (j * m + k)) (at o v (j * m + k)))
             (o.mul (entry o rows i (m * m + (j * m + k))) (at o v (m * m + (j * m + k)))))) ≡ at o (basis o (m + 1) m) i
         solves i h =
             let below : i < length rows = omega (arith, S.height) in
@@ -184,16 +212,26 @@ module _ {E : Type 0} (o : Ops E) (L : FieldLaws o) where
         kills i h =
             let next : i < m + 1 = omega arith in
             sum_of_congr o m
-            (λ j. sum_of o m (λ k. o.add (o.mul (multiplier_at o left (j + 1) (k + 1)) (constant o m cs i j k)) (o.mul (multiplier_at o right (j + 1) (k + 1)) (constant o m cs j i k))))
-            (λ j. sum_of o m (λ k. o.add (o.mul (entry o rows i (j * m + k)) (at o v (j * m + k))) (o.mul (entry o rows i (m * m + (j * m + k))) (at o v (m * m + (j * m + k))))))
+            (λ j. sum_of o m (λ k.
+            o.add (o.mul (multiplier_at o left (j + 1) (k + 1)) (constant o m cs i j k))
+            (o.mul (multiplier_at o right (j + 1) (k + 1)) (constant o m cs j i k))))
+            (λ j. sum_of o m (λ k.
+            o.add (o.mul (entry o rows i (j * m + k)) (at o v (j * m + k)))
+            (o.mul (entry o rows i (m * m + (j * m + k))) (at o v (m * m + (j * m + k))))))
             (λ j hj. sum_of_congr o m
-            (λ k. o.add (o.mul (multiplier_at o left (j + 1) (k + 1)) (constant o m cs i j k)) (o.mul (multiplier_at o right (j + 1) (k + 1)) (constant o m cs j i k)))
-            (λ k. o.add (o.mul (entry o rows i (j * m + k)) (at o v (j * m + k))) (o.mul (entry o rows i (m * m + (j * m + k))) (at o v (m * m + (j * m + k)))))
+            (λ k. o.add (o.mul (multiplier_at o left (j + 1) (k + 1)) (constant o m cs i j k))
+            (o.mul (multiplier_at o right (j + 1) (k + 1)) (constant o m cs j i k)))
+            (λ k. o.add (o.mul (entry o rows i (j * m + k)) (at o v (j * m + k)))
+            (o.mul (entry o rows i (m * m + (j * m + k))) (at o v (m * m + (j * m + k)))))
             (λ k hk. ap₂ o.add
-            (turned (at o v (j * m + k)) (entry o rows i (j * m + k)) (multiplier_at o left (j + 1) (k + 1)) (constant o m cs i j k)
-            (of_v (j * m + k)) (at-elem o L cs elems ((i * m + j) * m + k)) (left_is j k hj hk) (left_entry i j k h hj hk))
-            (turned (at o v (m * m + (j * m + k))) (entry o rows i (m * m + (j * m + k))) (multiplier_at o right (j + 1) (k + 1)) (constant o m cs j i k)
-            (of_v (m * m + (j * m + k))) (at-elem o L cs elems ((j * m + i) * m + k)) (right_is j k hj hk) (right_entry i j k h hj hk))))
+            (turned (at o v (j * m + k)) (entry o rows i (j * m + k)) (multiplier_at o left (j + 1) (k + 1))
+            (constant o m cs i j k)
+            (of_v (j * m + k)) (at-elem o L cs elems ((i * m + j) * m + k)) (left_is j k hj hk)
+            (left_entry i j k h hj hk))
+            (turned (at o v (m * m + (j * m + k))) (entry o rows i (m * m + (j * m + k)))
+            (multiplier_at o right (j + 1) (k + 1)) (constant o m cs j i k)
+            (of_v (m * m + (j * m + k))) (at-elem o L cs elems ((j * m + i) * m + k)) (right_is j k hj hk)
+            (right_entry i j k h hj hk))))
             ∙ solves i next
             ∙ at-basis_other o (m + 1) m i next (λ e. omega arith)
 
@@ -204,30 +242,42 @@ module _ {E : Type 0} (o : Ops E) (L : FieldLaws o) where
         zero_term x u h e = ap (λ z. o.mul z x) e ∙ zero-mul o L x h
 
         diagonal : (j : ℕ) → j < m → sum_of o m (λ k. o.add (o.mul (entry o rows m (j * m + k)) (at o v (j * m + k)))
-            (o.mul (entry o rows m (m * m + (j * m + k))) (at o v (m * m + (j * m + k))))) ≡ o.add (at o v (j * m + j)) (at o v (m * m + (j * m + j)))
+            (o.mul (entry o rows m (m * m + (j * m + k))) (at o v (m * m + (j * m + k))))) ≡ o.add
+            (at o v (j * m + j)) (at o v (m * m + (j * m + j)))
         diagonal j hj =
-            sum_of_eq_single o L m j (λ k. o.add (o.mul (entry o rows m (j * m + k)) (at o v (j * m + k))) (o.mul (entry o rows m (m * m + (j * m + k))) (at o v (m * m + (j * m + k))))) hj
-            (L.add-elem (o.mul (entry o rows m (j * m + j)) (at o v (j * m + j))) (o.mul (entry o rows m (m * m + (j * m + j))) (at o v (m * m + (j * m + j))))
+            sum_of_eq_single o L m j
+            (λ k. o.add (o.mul (entry o rows m (j * m + k)) (at o v (j * m + k)))
+            (o.mul (entry o rows m (m * m + (j * m + k))) (at o v (m * m + (j * m + k))))) hj
+            (L.add-elem (o.mul (entry o rows m (j * m + j)) (at o v (j * m + j)))
+            (o.mul (entry o rows m (m * m + (j * m + j))) (at o v (m * m + (j * m + j))))
             (of_term m (j * m + j)) (of_term m (m * m + (j * m + j))))
             (λ k hk d. ap₂ o.add
-            (zero_term (at o v (j * m + k)) (entry o rows m (j * m + k)) (of_v (j * m + k)) (left_unit j k hj hk ∙ cond_no k j o.one o.zero d))
-            (zero_term (at o v (m * m + (j * m + k))) (entry o rows m (m * m + (j * m + k))) (of_v (m * m + (j * m + k))) (right_unit j k hj hk ∙ cond_no k j o.one o.zero d))
+            (zero_term (at o v (j * m + k)) (entry o rows m (j * m + k)) (of_v (j * m + k))
+            (left_unit j k hj hk ∙ cond_no k j o.one o.zero d))
+            (zero_term (at o v (m * m + (j * m + k))) (entry o rows m (m * m + (j * m + k)))
+            (of_v (m * m + (j * m + k))) (right_unit j k hj hk ∙ cond_no k j o.one o.zero d))
             ∙ L.zero-add o.zero L.zero-elem)
             ∙ ap₂ o.add
-            (unit_term (at o v (j * m + j)) (entry o rows m (j * m + j)) (of_v (j * m + j)) (left_unit j j hj hj ∙ cond_yes j j o.one o.zero refl))
-            (unit_term (at o v (m * m + (j * m + j))) (entry o rows m (m * m + (j * m + j))) (of_v (m * m + (j * m + j))) (right_unit j j hj hj ∙ cond_yes j j o.one o.zero refl))
+            (unit_term (at o v (j * m + j)) (entry o rows m (j * m + j)) (of_v (j * m + j))
+            (left_unit j j hj hj ∙ cond_yes j j o.one o.zero refl))
+            (unit_term (at o v (m * m + (j * m + j))) (entry o rows m (m * m + (j * m + j)))
+            (of_v (m * m + (j * m + j))) (right_unit j j hj hj ∙ cond_yes j j o.one o.zero refl))
 
-        refutes : sum_of o m (λ j. o.add (multiplier_at o left (j + 1) (j + 1)) (multiplier_at o right (j + 1) (j + 1))) ≡ o.one
+        refutes : sum_of o m (λ j.
+            o.add (multiplier_at o left (j + 1) (j + 1)) (multiplier_at o right (j + 1) (j + 1))) ≡ o.one
         refutes =
             let next : m < m + 1 = omega arith in
             sum_of_congr o m (λ j. o.add (multiplier_at o left (j + 1) (j + 1)) (multiplier_at o right (j + 1) (j + 1)))
-            (λ j. sum_of o m (λ k. o.add (o.mul (entry o rows m (j * m + k)) (at o v (j * m + k))) (o.mul (entry o rows m (m * m + (j * m + k))) (at o v (m * m + (j * m + k))))))
+            (λ j. sum_of o m (λ k.
+            o.add (o.mul (entry o rows m (j * m + k)) (at o v (j * m + k)))
+            (o.mul (entry o rows m (m * m + (j * m + k))) (at o v (m * m + (j * m + k))))))
             (λ j hj. ap₂ o.add (left_is j j hj hj) (right_is j j hj hj) ∙ sym (diagonal j hj))
             ∙ solves m next
             ∙ at-basis_same o (m + 1) m next
 
     -- what refutes that there is a solution is the opposite of an identity
-    pub opposite_is_one : (u : List E) → IsRefuted o (length rows) (width_of rows) rows (basis o (m + 1) m) u → IsTableOne o m cs (tuple_neg o m u)
+    pub opposite_is_one : (u : List E) → IsRefuted o (length rows) (width_of rows) rows (basis o (m + 1) m) u
+        → IsTableOne o m cs (tuple_neg o m u)
     opposite_is_one u r = record {
       tuple = IsTuple-table o m (λ i. o.neg (at o u i)) (λ i _. L.neg-elem (at o u i) (of_u i));
       one-mul = one-mul;
@@ -243,7 +293,8 @@ module _ {E : Type 0} (o : Ops E) (L : FieldLaws o) where
         last_is : at o u m ≡ o.one
         last_is =
             let next : m < m + 1 = omega arith in
-            let unit_at : o.mul (at o u m) (at o (basis o (m + 1) m) m) ≡ at o u m = ap (o.mul (at o u m)) (at-basis_same o (m + 1) m next) ∙ mul-one o L (at o u m) (of_u m) in
+            let unit_at : o.mul (at o u m) (at o (basis o (m + 1) m) m) ≡ at o u m =
+            ap (o.mul (at o u m)) (at-basis_same o (m + 1) m next) ∙ mul-one o L (at o u m) (of_u m) in
             sym unit_at
             ∙ sym (sum_of_eq_single o L (m + 1) m (λ i. o.mul (at o u i) (at o (basis o (m + 1) m) i)) next
             (subst (IsElem o) (sym unit_at) (of_u m))
@@ -251,12 +302,15 @@ module _ {E : Type 0} (o : Ops E) (L : FieldLaws o) where
             ∙ ap (λ h. sum_of o h (λ i. o.mul (at o u i) (at o (basis o (m + 1) m) i))) (sym S.height)
             ∙ r.refutes
 
-        solved : (c : ℕ) → c < m * m + m * m → sum_of o m (λ i. o.mul (o.neg (at o u i)) (at o cs (constant_place m i c))) ≡ entry o rows m c
+        solved : (c : ℕ) → c < m * m + m * m
+            → sum_of o m (λ i. o.mul (o.neg (at o u i)) (at o cs (constant_place m i c))) ≡ entry o rows m c
         solved c h =
             let of_entry = entry-elem o L (m * m + m * m) rows S.shape m c in
-            opposite_sum m (at o u) (λ i. at o cs (constant_place m i c)) (entry o rows m c) of_u (λ i. at-elem o L cs elems (constant_place m i c)) of_entry
+            opposite_sum m (at o u) (λ i. at o cs (constant_place m i c)) (entry o rows m c) of_u
+            (λ i. at-elem o L cs elems (constant_place m i c)) of_entry
             (ap₂ o.add
-            (sum_of_congr o m (λ i. o.mul (at o u i) (at o cs (constant_place m i c))) (λ i. o.mul (at o u i) (entry o rows i c))
+            (sum_of_congr o m (λ i. o.mul (at o u i) (at o cs (constant_place m i c)))
+            (λ i. o.mul (at o u i) (entry o rows i c))
             (λ i hi. ap (o.mul (at o u i)) (sym (S.constants_at i c hi h))))
             (sym (ap (λ z. o.mul z (entry o rows m c)) last_is ∙ L.one-mul (entry o rows m c) of_entry))
             ∙ sym (sum_of-next o m (λ i. o.mul (at o u i) (entry o rows i c)))
@@ -269,7 +323,8 @@ module _ {E : Type 0} (o : Ops E) (L : FieldLaws o) where
         one-mul : (j : ℕ) → j < m → product o m cs (tuple_neg o m u) (basis o m j) ≡ basis o m j
         one-mul j hj =
             product-basis o L m cs elems (tuple_neg o m u) j opposite_elems hj
-            ∙ table_congr m (sum_of_rows o m (tuple_neg o m u) (drop (j * m) cs) (m * m)) (λ k. cond (nat_eq k j) o.one o.zero)
+            ∙ table_congr m (sum_of_rows o m (tuple_neg o m u) (drop (j * m) cs) (m * m))
+            (λ k. cond (nat_eq k j) o.one o.zero)
             (λ k hk.
             sum_of_congr o m (λ l. o.mul (at o (tuple_neg o m u) l) (at o (drop (j * m) cs) (l * (m * m) + k)))
             (λ l. o.mul (o.neg (at o u l)) (at o cs (constant_place m l (j * m + k))))
@@ -281,7 +336,8 @@ module _ {E : Type 0} (o : Ops E) (L : FieldLaws o) where
         mul-one : (j : ℕ) → j < m → product o m cs (basis o m j) (tuple_neg o m u) ≡ basis o m j
         mul-one j hj =
             basis-product o L m cs elems (tuple_neg o m u) j opposite_elems hj
-            ∙ table_congr m (sum_of_rows o m (tuple_neg o m u) (drop (j * m * m) cs) m) (λ k. cond (nat_eq k j) o.one o.zero)
+            ∙ table_congr m (sum_of_rows o m (tuple_neg o m u) (drop (j * m * m) cs) m)
+            (λ k. cond (nat_eq k j) o.one o.zero)
             (λ k hk.
             sum_of_congr o m (λ l. o.mul (at o (tuple_neg o m u) l) (at o (drop (j * m * m) cs) (l * m + k)))
             (λ l. o.mul (o.neg (at o u l)) (at o cs (constant_place m l (m * m + (j * m + k)))))

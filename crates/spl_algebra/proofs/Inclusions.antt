@@ -3,12 +3,12 @@ use Rattle.std.specs.Prelude.{◌≡◌, ℕ, zero, suc, ◌+◌, ◌-◌, ◌<�
 use Rattle.std.proofs.Common.{refl, sym, ◌∙◌, ap, arith, inl, inr, ext_get_or}
 use Rattle.std.proofs.lemmas.Bool.{cases_eq, cases_lt}
 use Rattle.theory_rings.specs.Ops.{Ops, FieldLaws}
-use Rattle.theory_spaces.proofs.Tuples.{IsTuple-ext}
+use Rattle.theory_spaces.proofs.Tuples.Tuples.{IsTuple-ext}
 use Rattle.theory_tables.specs.Matrix.{entry}
 use Rattle.theory_tables.specs.Subspace.{IsReducedBasis}
-use Rattle.theory_tables.proofs.Terms.{cond_yes}
-use Rattle.theory_tables.proofs.Sums.{sum_of-delta_mul, entry-elem}
-use Rattle.theory_tables.proofs.Spans.{combined_congr}
+use Rattle.theory_tables.proofs.Rows.Terms.{cond_yes}
+use Rattle.theory_tables.proofs.Rows.Sums.{sum_of-delta_mul, entry-elem}
+use Rattle.theory_tables.proofs.Rows.Spans.{combined_congr}
 use Rattle.spl_matrix.proofs.ReducedBases.{cond_flip, begins, expand}
 use Rattle.spl_algebra.specs.Multiples.{RowsIn}
 
@@ -31,7 +31,8 @@ comes_before q up s t s_in l = elim (cases_lt s t) [
 ]
 
 -- the item of p at s stands in q no earlier
-no_earlier : (p q : List ℕ) → GoesUp p → GoesUp q → AreAmong p q → (s t : ℕ) → s < length p → get_or q t 0 ≡ get_or p s 0 → s ≤ t
+no_earlier : (p q : List ℕ) → GoesUp p → GoesUp q → AreAmong p q → (s t : ℕ) → s < length p
+    → get_or q t 0 ≡ get_or p s 0 → s ≤ t
 no_earlier p q up uq among zero t s_in e = omega arith
 no_earlier p q up uq among (suc s) t s_in e =
     let s_in' : s < length p = omega arith in
@@ -45,7 +46,8 @@ no_earlier p q up uq among (suc s) t s_in e =
     omega arith
 
 -- and where p is as long as q, no later; d items of p come after it
-no_later : (p q : List ℕ) → GoesUp p → GoesUp q → AreAmong p q → length p ≡ length q → (d s t : ℕ) → s + d + 1 ≡ length p → t < length q → get_or q t 0 ≡ get_or p s 0 → t ≤ s
+no_later : (p q : List ℕ) → GoesUp p → GoesUp q → AreAmong p q → length p ≡ length q → (d s t : ℕ)
+    → s + d + 1 ≡ length p → t < length q → get_or q t 0 ≡ get_or p s 0 → t ≤ s
 no_later p q up uq among long zero s t last t_in e = omega arith
 no_later p q up uq among long (suc d) s t last t_in e =
     let next_in : suc s < length p = omega arith in
@@ -67,7 +69,8 @@ no_longer p q up uq among (suc s) e =
     let low = no_earlier p q up uq among s x.0 s_in x.2 in
     omega arith
 
-same_items : (p q : List ℕ) → GoesUp p → GoesUp q → AreAmong p q → length p ≡ length q → (s d : ℕ) → s + d + 1 ≡ length p → get_or q s 0 ≡ get_or p s 0
+same_items : (p q : List ℕ) → GoesUp p → GoesUp q → AreAmong p q → length p ≡ length q → (s d : ℕ)
+    → s + d + 1 ≡ length p → get_or q s 0 ≡ get_or p s 0
 same_items p q up uq among long s d last =
     let s_in : s < length p = omega arith in
     let x = among s s_in in
@@ -104,7 +107,8 @@ module _ {E : Type 0} (o : Ops E) (L : FieldLaws o) (w : ℕ) where
     among s s_piv =
         let each = x.each in
         let s_in : s < length a = omega arith in
-        begins o L w b y.shape y.pivots y.each y.reduced (get_or a s []) (x.shape s [] s_in) (inside s s_in) (get_or x.pivots s 0) (x.reduced.below s s_piv)
+        begins o L w b y.shape y.pivots y.each y.reduced (get_or a s []) (x.shape s [] s_in) (inside s s_in)
+        (get_or x.pivots s 0) (x.reduced.below s s_piv)
         (λ l l_low. x.reduced.left s l s_piv l_low)
         (λ e. L.one-nonzero (sym (x.reduced.unit s s s_piv s_in ∙ cond_yes s s o.one o.zero refl) ∙ e))
 
@@ -129,6 +133,8 @@ module _ {E : Type 0} (o : Ops E) (L : FieldLaws o) (w : ℕ) where
         expand o L w b y.shape y.pivots y.each y.reduced (get_or a s []) (inside s s_in) j j_in
         ∙ combined_congr o L b (λ t. entry o a s (get_or y.pivots t 0)) (λ t. d t s) j (λ t t_in.
         let t_piv : t < length x.pivots = omega arith in
-        ap (λ (k : ℕ). entry o a s k) (same_items x.pivots y.pivots x.reduced.order y.reduced.order among piv t (length x.pivots - t - 1) (omega arith))
+        ap (λ (k : ℕ). entry o a s k)
+        (same_items x.pivots y.pivots x.reduced.order y.reduced.order among piv t (length x.pivots - t - 1)
+        (omega arith))
         ∙ x.reduced.unit t s t_piv s_in ∙ cond_flip s t o.one o.zero)
         ∙ sum_of-delta_mul o L (length b) s (λ t. entry o b t j) (λ t. entry-elem o L w b y.shape t j) s_in'))

@@ -36,13 +36,16 @@ module _ {E : Type 0} (o : Ops E) (L : FieldLaws o) where
       ap₂ o.add (sum_of_eq_zero n f (λ i l. h i (omega arith))) (h n (omega arith)) ∙ L.zero-add o.zero L.zero-elem
 
   -- all terms but one are zero
-  pub sum_of_eq_single : (n k : ℕ) (f : ℕ → E) → k < n → IsElem o (f k) → ((i : ℕ) → i < n → (i ≡ k → ⊥) → f i ≡ o.zero) → sum_of o n f ≡ f k
+  pub sum_of_eq_single : (n k : ℕ) (f : ℕ → E) → k < n → IsElem o (f k)
+      → ((i : ℕ) → i < n → (i ≡ k → ⊥) → f i ≡ o.zero) → sum_of o n f ≡ f k
   sum_of_eq_single zero k f l h z = absurd (omega arith)
   sum_of_eq_single (suc n) k f l h z = ⊎_elim
-      (λ g. ap₂ o.add (sum_of_eq_single n k f g h (λ i m. z i (omega arith))) (z n (omega arith) (λ e. omega arith)) ∙ add-zero (f k) h)
+      (λ g. ap₂ o.add (sum_of_eq_single n k f g h (λ i m. z i (omega arith))) (z n (omega arith) (λ e. omega arith))
+      ∙ add-zero (f k) h)
       (λ g.
       let e : n ≡ k = omega arith in
-      ap₂ (λ x i. o.add x (f i)) (sum_of_eq_zero n f (λ i m. z i (omega arith) (λ e. omega arith))) e ∙ L.zero-add (f k) h)
+      ap₂ (λ x i. o.add x (f i)) (sum_of_eq_zero n f (λ i m. z i (omega arith) (λ e. omega arith))) e
+      ∙ L.zero-add (f k) h)
       (cases_lt k n)
 
 -- an item that was read, whatever stands past the end

@@ -1,5 +1,5 @@
--- The linear system that tells whether there is an identity: its solutions refute that there is one, and what refutes it is
--- an identity with the opposite sign.
+-- The linear system that tells whether there is an identity: its solutions refute that there is one, and what refutes
+-- it is an identity with the opposite sign.
 use Rattle.std.specs.Prelude.{◌≡◌, ◌+◌, ◌-◌, ◌*◌, ◌/◌, ◌%◌, ◌<◌, ℕ, List, length, cond, nat_eq, nat_lt}
 use Rattle.theory_rings.specs.Ops.{Ops}
 use Rattle.theory_rings.specs.Sum.{table, at}
@@ -30,7 +30,8 @@ module _ {E : Type 0} (o : Ops E) (m : ℕ) where
     pub constants_at : (i c : ℕ) → i < m → c < m * m + m * m → entry o rows i c ≡ at o cs (constant_place m i c)
     pub units_at : (c : ℕ) → c < m * m + m * m → entry o rows m c ≡ unit_item c
 
-  -- the multipliers other than 0 among m² items, each with the row and the column that it has in m rows of m, counted from 1
+  -- the multipliers other than 0 among m² items, each with the row and the column that it has in m rows of m, counted
+  -- from 1
   pub record ListsMultipliers (items : List E) (list : List (ℕ × ℕ × E)) : Type 0 where
     pub multipliers : AreMultipliers o m list
     pub multiplier : (j k : ℕ) → j < m → k < m → multiplier_at o list (j + 1) (k + 1) ≡ at o items (j * m + k)

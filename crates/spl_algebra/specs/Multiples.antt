@@ -12,14 +12,15 @@ module _ {E : Type 0} (o : Ops E) (m : ℕ) where
   RowsIn a b = (r : ℕ) → r < length a → InSpan o m b (get_or a r [])
 
   module _ (cs : List E) where
-    -- new has all combinations of old and the products of the row with the basis elements below n, and lies in each ideal
-    -- that holds old and the row
+    -- new has all combinations of old and the products of the row with the basis elements below n, and lies in each
+    -- ideal that holds old and the row
     pub record AddsMultiples (n : ℕ) (row : List E) (old new : List (List E)) : Type 0 where
       pub shape : IsMatrix o m new
       pub keeps : RowsIn old new
       pub left : (i : ℕ) → i < n → InSpan o m new (product o m cs (basis o m i) row)
       pub right : (i : ℕ) → i < n → InSpan o m new (product o m cs row (basis o m i))
-      pub only : (other : List (List E)) → SpansIdeal o m cs other → RowsIn old other → InSpan o m other row → RowsIn new other
+      pub only : (other : List (List E)) → SpansIdeal o m cs other → RowsIn old other → InSpan o m other row
+          → RowsIn new other
 
     -- new has all combinations of the rows and the products of the first n of them with all basis elements, and lies in
     -- each ideal that holds the rows

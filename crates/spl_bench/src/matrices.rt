@@ -7,8 +7,8 @@ ghost use Rattle.spl_field.specs.SmallField.{small_ops};
 use crate::entries::{mixed, next, nonzero};
 use anyhow::Result;
 use spl_field::field::NoMemory;
+use spl_field::list::{List, Vector};
 use spl_field::small::SmallField;
-use spl_field::list::Vector;
 use spl_matrix::matrix::Matrix;
 use spl_matrix::solve::Solution;
 use spl_matrix::subspace::Subspace;
@@ -32,7 +32,7 @@ fn vector(
 ) -> Result<Vector<SmallField>, NoMemory>
     ensures { IfOk result (IsTuple (small_ops f.now) n) }
 {
-    let mut items = Vector::new(alloc);
+    let mut items = List::new(alloc);
     let size = f.size();
     let mut state = seed;
     for _ in 0..n {

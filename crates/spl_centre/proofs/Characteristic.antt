@@ -24,14 +24,17 @@ use Rattle.spl_field.specs.SmallField.{characteristic, small_ops}
 use Rattle.spl_field.specs.TableField.{is_field_by_digits}
 use Rattle.spl_field.specs.declared.small.SmallField.{SmallField}
 use Rattle.theory_fractions.specs.FractionOps.{RationalFunction, rational_function, fraction_ops}
-use Rattle.theory_fractions.proofs.FractionField.{rational_function-pair_of, rational_function_injective, eq_zero_of_numerator}
+use Rattle.theory_fractions.proofs.FractionField.{rational_function-pair_of, rational_function_injective}
+use Rattle.theory_fractions.proofs.FractionField.{eq_zero_of_numerator}
 use Rattle.spl_fraction.specs.FractionsOver.{fractions_over, fractions_laws, small_laws}
 
 -- where a prime p is 0, a number that p does not divide isn't
 pub times_one-nonzero : {K : Type 0} (F : FieldOn K) (p : ℕ) → IsPrime p → times F.monoid p F.one ≡ F.zero
     → (n : ℕ) → n % p ≢ 0 → times F.monoid n F.one ≢ F.zero
 times_one-nonzero F p prime char n d z =
-    F.one-nonzero (sym (one-times F.monoid F.one) ∙ IsPrime-one_mem p prime (λ k. times F.monoid k F.one ≡ F.zero) closed char n z (λ h. d (mod-eq-zero_of_dvd p h)))
+    F.one-nonzero (sym (one-times F.monoid F.one)
+    ∙ IsPrime-one_mem p prime (λ k. times F.monoid k F.one ≡ F.zero) closed char n z
+    (λ h. d (mod-eq-zero_of_dvd p h)))
   where
     closed : IsClosed (λ k. times F.monoid k F.one ≡ F.zero)
     closed = record {
@@ -78,7 +81,8 @@ module _ {E : Type 0} (o : Ops E) (L : FieldLaws o) where
       (sym (P.mul-one x.0.0) ∙ times-value p ∙ ap (λ u. P.◌⊗◌ u x.0.1) vanishes ∙ zero-mul P.ring x.0.1)
 
   pub fraction_characteristic : (Q : FieldLaws (fraction_ops o L)) (p : ℕ) → times F.monoid p F.one ≡ F.zero
-      → times (elements (fraction_ops o L) Q).monoid p (elements (fraction_ops o L) Q).one ≡ (elements (fraction_ops o L) Q).zero
+      → times (elements (fraction_ops o L) Q).monoid p (elements (fraction_ops o L) Q).one ≡
+      (elements (fraction_ops o L) Q).zero
   unfolding fraction_ops
   fraction_characteristic laws p h =
       let Q = elements (fraction_ops o L) laws in
@@ -93,14 +97,16 @@ module _ {E : Type 0} (o : Ops E) (L : FieldLaws o) where
 
 -- a small field is the field of numbers by their digits
 by_digits : (f : SmallField) → IsFieldByDigits f.p f.modulus.items (small_ops f)
-by_digits f = is_field_by_digits f.p f.least f.modulus.items f.some_number f.size f.power f.sums.items f.negatives.items f.products.items f.inverses.items
+by_digits f = is_field_by_digits f.p f.least f.modulus.items f.some_number f.size f.power f.sums.items f.negatives.items
+    f.products.items f.inverses.items
     f.sums_are f.negatives_below f.negatives_are f.products_are f.inverses_below f.inverses_are
 
 -- the characteristic of a small field is prime
 pub IsPrime-characteristic : (f : SmallField) → IsPrime (characteristic f)
 IsPrime-characteristic f = prime_by_digits f.p f.least f.modulus.items f.some_number (small_ops f) (by_digits f)
 
-pub times_one-nonzero_over : (f : SmallField) (n : ℕ) → n % characteristic f ≢ 0 → times_of (fractions_over f) n (fractions_over f).one ≢ (fractions_over f).zero
+pub times_one-nonzero_over : (f : SmallField) (n : ℕ) → n % characteristic f ≢ 0
+    → times_of (fractions_over f) n (fractions_over f).one ≢ (fractions_over f).zero
 times_one-nonzero_over f n d z =
     let p = f.p in
     let o = small_ops f in
@@ -108,5 +114,7 @@ times_one-nonzero_over f n d z =
     let Q = elements (fractions_over f) (fractions_laws f) in
     let char = characteristic_by_digits p f.least f.modulus.items f.some_number o (by_digits f) in
     times_one-nonzero Q p (IsPrime-characteristic f)
-    (fraction_characteristic o (small_laws f) (fractions_laws f) p (Elem-path o (times F.monoid p F.one) F.zero (sym (times_of-elements o (small_laws f) p F.one) ∙ char)))
-    n d (Elem-path (fractions_over f) (times Q.monoid n Q.one) Q.zero (sym (times_of-elements (fractions_over f) (fractions_laws f) n Q.one) ∙ z))
+    (fraction_characteristic o (small_laws f) (fractions_laws f) p
+    (Elem-path o (times F.monoid p F.one) F.zero (sym (times_of-elements o (small_laws f) p F.one) ∙ char)))
+    n d (Elem-path (fractions_over f) (times Q.monoid n Q.one) Q.zero
+    (sym (times_of-elements (fractions_over f) (fractions_laws f) n Q.one) ∙ z))

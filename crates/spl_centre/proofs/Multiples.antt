@@ -9,22 +9,25 @@ use Rattle.theory_rings.specs.Sum.{at, sum_of}
 use Rattle.theory_rings.proofs.Rings.Elements.{at-elem, sum_of_congr}
 use Rattle.theory_spaces.specs.Module.{AlgebraOn, module_of}
 use Rattle.theory_spaces.specs.Linear.{Basis}
-use Rattle.theory_spaces.specs.Tuples.{IsTuple, Tuple, tuple_scale, basis, constant, product, AssociativeTable, IsTableOne, IsTableAlgebra}
-use Rattle.theory_spaces.proofs.Modules.{linear_ext, left_linear}
-use Rattle.theory_spaces.proofs.Tuples.{at-table, IsTuple-table, IsTuple-ext, Tuple-path}
-use Rattle.theory_spaces.proofs.TupleProducts.{product-one, scale-product, IsTuple-basis}
+use Rattle.theory_spaces.specs.Tuples.{IsTuple, Tuple, tuple_scale, basis, constant, product, AssociativeTable}
+use Rattle.theory_spaces.specs.Tuples.{IsTableOne, IsTableAlgebra}
+use Rattle.theory_spaces.proofs.Linear.Modules.{linear_ext, left_linear}
+use Rattle.theory_spaces.proofs.Tuples.Tuples.{at-table, IsTuple-table, IsTuple-ext, Tuple-path}
+use Rattle.theory_spaces.proofs.Tuples.TupleProducts.{product-one, scale-product, IsTuple-basis}
 use Rattle.theory_tables.specs.Matrix.{entry, IsMatrix}
 use Rattle.theory_tables.specs.Subspace.{InSpan, IsReducedBasis}
-use Rattle.theory_tables.proofs.Spans.{InSpan-by, InSpan-member}
-use Rattle.theory_tables.proofs.Sums.{sum_of_zeros, entry-elem, All_step}
-use Rattle.theory_tables.proofs.Terms.{zero-mul, mul-zero, mul-one}
+use Rattle.theory_tables.proofs.Rows.Spans.{InSpan-by, InSpan-member}
+use Rattle.theory_tables.proofs.Rows.Sums.{sum_of_zeros, entry-elem, All_step}
+use Rattle.theory_tables.proofs.Rows.Terms.{zero-mul, mul-zero, mul-one}
 use Rattle.theory_tables.specs.Algebras.{IsCentral, IsMultiple, HasSmallCentre}
 use Rattle.theory_tables.specs.Claims.{CentralClaim}
-use Rattle.theory_tables.proofs.Bridge.{as_tuple, algebra, algebra_is, one-is, table_basis, vec-is, product_basis-at}
+use Rattle.theory_tables.proofs.Algebras.Bridge.{as_tuple, algebra, algebra_is, one-is, table_basis, vec-is}
+use Rattle.theory_tables.proofs.Algebras.Bridge.{product_basis-at}
 
 module _ {E : Type 0} (o : Ops E) (L : FieldLaws o) (m : ℕ) where
   pub IsTuple-scale : (c : E) (a : List E) → IsElem o c → IsTuple o m a → IsTuple o m (tuple_scale o m c a)
-  IsTuple-scale c a hc ha = IsTuple-table o m (λ k. o.mul c (at o a k)) (λ k _. L.mul-elem c (at o a k) hc (at-elem o L a ha.of_elements k))
+  IsTuple-scale c a hc ha =
+      IsTuple-table o m (λ k. o.mul c (at o a k)) (λ k _. L.mul-elem c (at o a k) hc (at-elem o L a ha.of_elements k))
 
   -- the items of a combination of one row
   one_row : (rows : List (List E)) (v : List E) (s : InSpan o m rows v) → IsMatrix o m rows → length rows ≡ 1
@@ -39,7 +42,8 @@ module _ {E : Type 0} (o : Ops E) (L : FieldLaws o) (m : ℕ) (cs : List E) wher
   multiple-at a v q j j_in = ap (λ xs. at o xs j) q.is_multiple ∙ at-table o m (λ k. o.mul q.factor (at o a k)) j j_in
 
   -- the span of one row is its multiples
-  pub span_of_one : (a : List E) → IsTuple o m a → (v : List E) → IsTuple o m v → (InSpan o m (a ∷ []) v ↔ IsMultiple o m cs a v)
+  pub span_of_one : (a : List E) → IsTuple o m a → (v : List E) → IsTuple o m v
+      → (InSpan o m (a ∷ []) v ↔ IsMultiple o m cs a v)
   span_of_one a ha v hv = (to, from)
     where
       shape : IsMatrix o m (a ∷ [])
@@ -49,17 +53,21 @@ module _ {E : Type 0} (o : Ops E) (L : FieldLaws o) (m : ℕ) (cs : List E) wher
       to s = record {
         factor = at o s.0 0;
         of_field = at-elem o L s.0 s.1.of_elements 0;
-        is_multiple = IsTuple-ext o m v (tuple_scale o m (at o s.0 0) a) hv (IsTuple-scale o L m (at o s.0 0) a (at-elem o L s.0 s.1.of_elements 0) ha) (λ j j_in.
-            one_row o L m (a ∷ []) v s shape refl j j_in ∙ sym (at-table o m (λ k. o.mul (at o s.0 0) (at o a k)) j j_in));
+        is_multiple = IsTuple-ext o m v (tuple_scale o m (at o s.0 0) a) hv
+            (IsTuple-scale o L m (at o s.0 0) a (at-elem o L s.0 s.1.of_elements 0) ha) (λ j j_in.
+            one_row o L m (a ∷ []) v s shape refl j j_in
+            ∙ sym (at-table o m (λ k. o.mul (at o s.0 0) (at o a k)) j j_in));
       }
 
       from : IsMultiple o m cs a v → InSpan o m (a ∷ []) v
       from q = InSpan-by o L m (a ∷ []) v (λ _. q.factor) (λ _. q.of_field) (λ j j_in.
           multiple-at a v q j j_in
-          ∙ sym (L.zero-add (o.mul q.factor (at o a j)) (L.mul-elem q.factor (at o a j) q.of_field (at-elem o L a ha.of_elements j))))
+          ∙ sym (L.zero-add (o.mul q.factor (at o a j))
+          (L.mul-elem q.factor (at o a j) q.of_field (at-elem o L a ha.of_elements j))))
 
   -- of two rows of a reduced basis one is no multiple of a
-  pub not_both_multiples : (a : List E) (rows : List (List E)) → IsTuple o m a → IsReducedBasis o m rows → 2 ≤ length rows
+  pub not_both_multiples : (a : List E) (rows : List (List E)) → IsTuple o m a → IsReducedBasis o m rows
+      → 2 ≤ length rows
       → IsMultiple o m cs a (get_or rows 0 []) → IsMultiple o m cs a (get_or rows 1 []) → ⊥
   not_both_multiples a rows ha x two p q =
       let r = x.reduced in
@@ -75,16 +83,20 @@ module _ {E : Type 0} (o : Ops E) (L : FieldLaws o) (m : ℕ) (cs : List E) wher
       let z = at o a j in
       let y_in = at-elem o L a ha.of_elements i in
       let z_in = at-elem o L a ha.of_elements j in
-      let unit : o.one ≡ o.mul c y = sym (r.unit 0 0 first low) ∙ multiple-at a (get_or rows 0 []) p i (r.below 0 first) in
-      let none : o.zero ≡ o.mul d y = sym (r.unit 0 1 first two) ∙ multiple-at a (get_or rows 1 []) q i (r.below 0 first) in
-      let other : o.one ≡ o.mul d z = sym (r.unit 1 1 second two) ∙ multiple-at a (get_or rows 1 []) q j (r.below 1 second) in
+      let unit : o.one ≡ o.mul c y = sym (r.unit 0 0 first low)
+      ∙ multiple-at a (get_or rows 0 []) p i (r.below 0 first) in
+      let none : o.zero ≡ o.mul d y = sym (r.unit 0 1 first two)
+      ∙ multiple-at a (get_or rows 1 []) q i (r.below 0 first) in
+      let other : o.one ≡ o.mul d z = sym (r.unit 1 1 second two)
+      ∙ multiple-at a (get_or rows 1 []) q j (r.below 1 second) in
       let vanishes : d ≡ o.zero =
       sym (mul-one o L d q.of_field) ∙ ap (o.mul d) unit ∙ sym (L.mul_assoc d c y q.of_field p.of_field y_in)
       ∙ ap (λ t. o.mul t y) (L.mul_comm d c q.of_field p.of_field) ∙ L.mul_assoc c d y p.of_field q.of_field y_in
       ∙ ap (o.mul c) (sym none) ∙ mul-zero o L c p.of_field in
       L.one-nonzero (other ∙ ap (λ t. o.mul t z) vanishes ∙ zero-mul o L z z_in)
 
-module _ {E : Type 0} (o : Ops E) (L : FieldLaws o) (m : ℕ) (cs : List E) (constants : All (IsElem o) cs) (assoc : AssociativeTable o m cs)
+module _ {E : Type 0} (o : Ops E) (L : FieldLaws o) (m : ℕ) (cs : List E) (constants : All (IsElem o) cs)
+    (assoc : AssociativeTable o m cs)
     (one : List E) (is_one : IsTableOne o m cs one) where
   abbrev A : AlgebraOn (elements o L).ring (Tuple o m)
   A = algebra o L m cs constants assoc one is_one
@@ -96,7 +108,8 @@ module _ {E : Type 0} (o : Ops E) (L : FieldLaws o) (m : ℕ) (cs : List E) (con
   B = table_basis o L m cs constants assoc one is_one
 
   -- what has the same products with the basis elements is the same
-  eq_of_products : (a b : List E) → IsTuple o m a → IsTuple o m b → ((i : ℕ) → i < m → product o m cs a (basis o m i) ≡ product o m cs b (basis o m i)) → a ≡ b
+  eq_of_products : (a b : List E) → IsTuple o m a → IsTuple o m b
+      → ((i : ℕ) → i < m → product o m cs a (basis o m i) ≡ product o m cs b (basis o m i)) → a ≡ b
   eq_of_products a b ha hb h =
       let x = as_tuple o L m a ha in
       let y = as_tuple o L m b hb in
@@ -105,9 +118,11 @@ module _ {E : Type 0} (o : Ops E) (L : FieldLaws o) (m : ℕ) (cs : List E) (con
       let vec = vec-is o L m cs constants assoc one is_one in
       sym (product-one o L m cs constants one is_one a ha)
       ∙ sym (T.product-is x A.one ∙ ap (product o m cs a) is)
-      ∙ ap (λ (z : Tuple o m). z.0) (linear_ext M M (λ z. A.◌⊗◌ x z) (λ z. A.◌⊗◌ y z) (left_linear A x) (left_linear A y) m B.vec (λ i i_in.
+      ∙ ap (λ (z : Tuple o m). z.0)
+      (linear_ext M M (λ z. A.◌⊗◌ x z) (λ z. A.◌⊗◌ y z) (left_linear A x) (left_linear A y) m B.vec (λ i i_in.
       Tuple-path o L m (A.◌⊗◌ x (B.vec i)) (A.◌⊗◌ y (B.vec i))
-      (T.product-is x (B.vec i) ∙ ap (product o m cs a) (vec i) ∙ h i i_in ∙ sym (T.product-is y (B.vec i) ∙ ap (product o m cs b) (vec i))))
+      (T.product-is x (B.vec i) ∙ ap (product o m cs a) (vec i) ∙ h i i_in
+      ∙ sym (T.product-is y (B.vec i) ∙ ap (product o m cs b) (vec i))))
       A.one (record { weights = B.coord A.one; combines = B.expand A.one }))
       ∙ (T.product-is y A.one ∙ ap (product o m cs b) is)
       ∙ product-one o L m cs constants one is_one b hb
@@ -119,32 +134,43 @@ module _ {E : Type 0} (o : Ops E) (L : FieldLaws o) (m : ℕ) (cs : List E) (con
     no_multiple = λ c hc e. d (record {
       factor = c;
       of_field = hc;
-      is_multiple = eq_of_products a (tuple_scale o m c one) h.tuple (IsTuple-scale o L m c one hc is_one.tuple) (λ i i_in.
+      is_multiple = eq_of_products a (tuple_scale o m c one) h.tuple (IsTuple-scale o L m c one hc is_one.tuple)
+          (λ i i_in.
           e i i_in
-          ∙ sym (scale-product o L m cs constants c one (basis o m i) hc is_one.tuple (IsTuple-basis o L m cs constants i)
+          ∙ sym (scale-product o L m cs constants c one (basis o m i) hc is_one.tuple
+          (IsTuple-basis o L m cs constants i)
           ∙ ap (tuple_scale o m c) (is_one.one-mul i i_in)));
     });
   }
 
   pub one_central : IsCentral o m cs one
-  one_central = record { tuple = is_one.tuple; commutes = λ i i_in. is_one.one-mul i i_in ∙ sym (is_one.mul-one i i_in) }
+  one_central = record {
+    tuple = is_one.tuple;
+    commutes = λ i i_in. is_one.one-mul i i_in
+        ∙ sym (is_one.mul-one i i_in);
+  }
 
   -- the identity isn't 0
   one_nonzero : 1 ≤ m → ((j : ℕ) → j < m → at o one j ≡ o.zero) → ⊥
   one_nonzero some z = L.one-nonzero
-      (sym (at-table o m (λ k. cond (nat_eq k 0) o.one o.zero) 0 some) ∙ ap (λ xs. at o xs 0) (sym (is_one.one-mul 0 some))
+      (sym (at-table o m (λ k. cond (nat_eq k 0) o.one o.zero) 0 some)
+      ∙ ap (λ xs. at o xs 0) (sym (is_one.one-mul 0 some))
       ∙ product_basis-at o L m cs constants one is_one.tuple 0 0 some some
       ∙ sum_of_congr o m (λ i. o.mul (at o one i) (constant o m cs i 0 0)) (λ _. o.zero)
-      (λ i i_in. ap (λ x. o.mul x (constant o m cs i 0 0)) (z i i_in) ∙ zero-mul o L (constant o m cs i 0 0) (at-elem o L cs constants ((i * m + 0) * m + 0)))
+      (λ i i_in. ap (λ x. o.mul x (constant o m cs i 0 0)) (z i i_in)
+      ∙ zero-mul o L (constant o m cs i 0 0) (at-elem o L cs constants ((i * m + 0) * m + 0)))
       ∙ sum_of_zeros o L m)
 
   -- a centre with a basis of fewer than two rows
-  pub small_centre : (rows : List (List E)) → 1 ≤ m → IsReducedBasis o m rows → ((v : List E) → IsTuple o m v → (InSpan o m rows v ↔ IsCentral o m cs v))
+  pub small_centre : (rows : List (List E)) → 1 ≤ m → IsReducedBasis o m rows
+      → ((v : List E) → IsTuple o m v → (InSpan o m rows v ↔ IsCentral o m cs v))
       → length rows < 2 → HasSmallCentre o m cs
   small_centre rows some x spans small = ⊎_elim
       (λ (few : length rows < 1).
       let none : length rows ≡ 0 = omega arith in
-      absurd (one_nonzero some (λ j j_in. expansion.2 j j_in ∙ ap (λ n. sum_of o n (λ i. o.mul (at o expansion.0 i) (entry o rows i j))) none)))
+      absurd (one_nonzero some
+      (λ j j_in. expansion.2 j j_in
+      ∙ ap (λ n. sum_of o n (λ i. o.mul (at o expansion.0 i) (entry o rows i j))) none)))
       (λ (many : 1 ≤ length rows). let single : length rows ≡ 1 = omega arith in of_one_row single)
       (cases_lt (length rows) 1)
     where
@@ -159,13 +185,17 @@ module _ {E : Type 0} (o : Ops E) (L : FieldLaws o) (m : ℕ) (cs : List E) (con
 
       nonzero : length rows ≡ 1 → (at o expansion.0 0) ≢ o.zero
       nonzero single z = one_nonzero some (λ j j_in.
-          one_row o L m rows one expansion x.shape single j j_in ∙ ap (λ t. o.mul t (entry o rows 0 j)) z ∙ zero-mul o L (entry o rows 0 j) (r_in j))
+          one_row o L m rows one expansion x.shape single j j_in ∙ ap (λ t. o.mul t (entry o rows 0 j)) z
+          ∙ zero-mul o L (entry o rows 0 j) (r_in j))
 
-      cancel : (c r : E) → IsElem o c → IsElem o r → (at o expansion.0 0) ≢ o.zero → o.mul (o.mul c (o.inv (at o expansion.0 0))) (o.mul (at o expansion.0 0) r) ≡ o.mul c r
+      cancel : (c r : E) → IsElem o c → IsElem o r → (at o expansion.0 0) ≢ o.zero
+          → o.mul (o.mul c (o.inv (at o expansion.0 0))) (o.mul (at o expansion.0 0) r) ≡ o.mul c r
       cancel c r c_in r_in n =
           let i_in = L.inv-elem (at o expansion.0 0) d_in in
-          L.mul_assoc c (o.inv (at o expansion.0 0)) (o.mul (at o expansion.0 0) r) c_in i_in (L.mul-elem (at o expansion.0 0) r d_in r_in)
-          ∙ ap (o.mul c) (sym (L.mul_assoc (o.inv (at o expansion.0 0)) (at o expansion.0 0) r i_in d_in r_in) ∙ ap (λ t. o.mul t r) (L.inv-mul (at o expansion.0 0) d_in n) ∙ L.one-mul r r_in)
+          L.mul_assoc c (o.inv (at o expansion.0 0)) (o.mul (at o expansion.0 0) r) c_in i_in
+          (L.mul-elem (at o expansion.0 0) r d_in r_in)
+          ∙ ap (o.mul c) (sym (L.mul_assoc (o.inv (at o expansion.0 0)) (at o expansion.0 0) r i_in d_in r_in)
+          ∙ ap (λ t. o.mul t r) (L.inv-mul (at o expansion.0 0) d_in n) ∙ L.one-mul r r_in)
 
       of_one_row : length rows ≡ 1 → HasSmallCentre o m cs
       of_one_row single = record {
@@ -179,10 +209,12 @@ module _ {E : Type 0} (o : Ops E) (L : FieldLaws o) (m : ℕ) (cs : List E) (con
             record {
               factor = o.mul c (o.inv (at o expansion.0 0));
               of_field = f_in;
-              is_multiple = IsTuple-ext o m a (tuple_scale o m (o.mul c (o.inv (at o expansion.0 0))) one) h.tuple (IsTuple-scale o L m (o.mul c (o.inv (at o expansion.0 0))) one f_in is_one.tuple) (λ j j_in.
+              is_multiple = IsTuple-ext o m a (tuple_scale o m (o.mul c (o.inv (at o expansion.0 0))) one) h.tuple
+                  (IsTuple-scale o L m (o.mul c (o.inv (at o expansion.0 0))) one f_in is_one.tuple) (λ j j_in.
                   one_row o L m rows a s x.shape single j j_in
                   ∙ sym (at-table o m (λ k. o.mul (o.mul c (o.inv (at o expansion.0 0))) (at o one k)) j j_in
-                  ∙ ap (o.mul (o.mul c (o.inv (at o expansion.0 0)))) (one_row o L m rows one expansion x.shape single j j_in)
+                  ∙ ap (o.mul (o.mul c (o.inv (at o expansion.0 0))))
+                  (one_row o L m rows one expansion x.shape single j j_in)
                   ∙ cancel c (entry o rows 0 j) c_in (r_in j) (nonzero single)));
             };
       }
@@ -197,10 +229,12 @@ module _ {E : Type 0} (o : Ops E) (L : FieldLaws o) (m : ℕ) (cs : List E) (con
     pub first_row_claim : (InSpan o m multiples (get_or centre 0 []) → ⊥) → CentralClaim o m cs (get_or centre 0 [])
     first_row_claim d =
         let low : 0 < length centre = omega arith in
-        central_claim (get_or centre 0 []) (row_central 0 low) (λ q. d ((are_multiples (get_or centre 0 []) (x.shape 0 [] low)).1 q))
+        central_claim (get_or centre 0 []) (row_central 0 low)
+        (λ q. d ((are_multiples (get_or centre 0 []) (x.shape 0 [] low)).1 q))
 
     pub second_row_claim : InSpan o m multiples (get_or centre 0 []) → CentralClaim o m cs (get_or centre 1 [])
     second_row_claim s =
         let low : 0 < length centre = omega arith in
         central_claim (get_or centre 1 []) (row_central 1 large) (λ q.
-        not_both_multiples o L m cs one centre is_one.tuple x large ((are_multiples (get_or centre 0 []) (x.shape 0 [] low)).0 s) q)
+        not_both_multiples o L m cs one centre is_one.tuple x large
+        ((are_multiples (get_or centre 0 []) (x.shape 0 [] low)).0 s) q)

@@ -7,17 +7,17 @@ use Rattle.theory_rings.specs.Sum.{at, sum_of, table}
 use Rattle.theory_rings.specs.Power.{times_of}
 use Rattle.theory_rings.proofs.Sums.Lists.{length-table, get_or-table}
 use Rattle.theory_spaces.specs.Tuples.{IsTuple, tuple_zero, basis, product, AssociativeTable}
-use Rattle.theory_spaces.proofs.Tuples.{at-table, IsTuple-table, IsTuple-ext}
-use Rattle.theory_spaces.proofs.TupleProducts.{IsTuple-basis, IsTuple-product}
+use Rattle.theory_spaces.proofs.Tuples.Tuples.{at-table, IsTuple-table, IsTuple-ext}
+use Rattle.theory_spaces.proofs.Tuples.TupleProducts.{IsTuple-basis, IsTuple-product}
 use Rattle.theory_tables.specs.Matrix.{entry, width_of}
 use Rattle.theory_tables.specs.Subspace.{InSpan, IsReducedBasis, SpansKernel}
-use Rattle.theory_tables.proofs.Spans.{InSpan-member}
+use Rattle.theory_tables.proofs.Rows.Spans.{InSpan-member}
 use Rattle.spl_matrix.proofs.ReducedBases.{reduced_basis_is_independent}
 use Rattle.spl_matrix.proofs.Regular.{full_basis_spans}
 use Rattle.theory_tables.specs.Algebras.{HasIdentity}
 use Rattle.theory_tables.specs.Traces.{trace, trace_form, InTraceRadical, IsNondegenerate}
 use Rattle.theory_tables.specs.Claims.{IdealClaim}
-use Rattle.theory_tables.proofs.TraceRadical.{trace_radical}
+use Rattle.theory_tables.proofs.Algebras.TraceRadical.{trace_radical}
 
 module _ {E : Type 0} (o : Ops E) (m : ℕ) (cs : List E) where
   abbrev form_row : ℕ → List E
@@ -28,19 +28,23 @@ module _ {E : Type 0} (o : Ops E) (m : ℕ) (cs : List E) where
 
   pub form_width : (form : List (List E)) → form ≡ trace_form o m cs → 1 ≤ m → width_of form ≡ m
   form_width form e some =
-      ap (λ (g : List (List E)). length (get_or g 0 [])) e ∙ ap (λ (row : List E). length row) (get_or-table m form_row 0 [] some)
+      ap (λ (g : List (List E)). length (get_or g 0 [])) e
+      ∙ ap (λ (row : List E). length row) (get_or-table m form_row 0 [] some)
       ∙ length-table m (λ j. trace o m cs (product o m cs (basis o m 0) (basis o m j)))
 
-module _ {E : Type 0} (o : Ops E) (L : FieldLaws o) (m : ℕ) (cs : List E) (over : IsTuple o (m * m * m) cs) (assoc : AssociativeTable o m cs) (identity : HasIdentity o m cs) where
+module _ {E : Type 0} (o : Ops E) (L : FieldLaws o) (m : ℕ) (cs : List E) (over : IsTuple o (m * m * m) cs)
+    (assoc : AssociativeTable o m cs) (identity : HasIdentity o m cs) where
   -- the combinations of the rows are the elements of the radical
   abbrev SpansRadical : List (List E) → Type 0
   SpansRadical rows = (v : List E) → IsTuple o m v → (InSpan o m rows v ↔ InTraceRadical o m cs v)
 
-  pub kernel_is_radical : (form rows : List (List E)) → form ≡ trace_form o m cs → 1 ≤ m → SpansKernel o (length form) (width_of form) form rows → SpansRadical rows
+  pub kernel_is_radical : (form rows : List (List E)) → form ≡ trace_form o m cs → 1 ≤ m
+      → SpansKernel o (length form) (width_of form) form rows → SpansRadical rows
   kernel_is_radical form rows e some k v hv =
       let height = form_height o m cs form e in
       let width = form_width o m cs form e some in
-      let square = subst (λ w. SpansKernel o m w form rows) width (subst (λ h. SpansKernel o h (width_of form) form rows) height k) in
+      let square = subst (λ w. SpansKernel o m w form rows) width
+      (subst (λ h. SpansKernel o h (width_of form) form rows) height k) in
       let by_form = subst (λ g. SpansKernel o m m g rows) e square in
       let r = (trace_radical o L m cs over assoc).kernel v hv in
       (λ s. r.1 ((by_form v hv).0 s), λ h. (by_form v hv).1 (r.0 h))
@@ -50,9 +54,11 @@ module _ {E : Type 0} (o : Ops E) (L : FieldLaws o) (m : ℕ) (cs : List E) (ove
   nondegenerate rows none spans a h =
       let s = (spans a h.tuple).1 h in
       IsTuple-ext o m a (tuple_zero o m) h.tuple (IsTuple-table o m (λ _. o.zero) (λ _ _. L.zero-elem)) (λ j j_in.
-      s.2 j j_in ∙ ap (λ n. sum_of o n (λ i. o.mul (at o s.0 i) (entry o rows i j))) none ∙ sym (at-table o m (λ _. o.zero) j j_in))
+      s.2 j j_in ∙ ap (λ n. sum_of o n (λ i. o.mul (at o s.0 i) (entry o rows i j))) none
+      ∙ sym (at-table o m (λ _. o.zero) j j_in))
 
-  pub ideal_claim : (rows : List (List E)) → IsReducedBasis o m rows → length rows ≢ 0 → SpansRadical rows → times_of o m o.one ≢ o.zero → IdealClaim o m cs rows
+  pub ideal_claim : (rows : List (List E)) → IsReducedBasis o m rows → length rows ≢ 0 → SpansRadical rows
+      → times_of o m o.one ≢ o.zero → IdealClaim o m cs rows
   ideal_claim rows x some spans apart =
       let R = trace_radical o L m cs over assoc in
       let one = identity.one in
@@ -67,14 +73,20 @@ module _ {E : Type 0} (o : Ops E) (L : FieldLaws o) (m : ℕ) (cs : List E) (ove
         some = omega arith;
         fewer = ⊎_elim
             (λ (h : length rows < m). h)
-            (λ (h : m ≤ length rows). absurd (R.not_everything one identity.is_one apart ((spans one tuple).0 (full_basis_spans o L m rows x h one tuple))))
+            (λ (h : m ≤ length rows).
+            absurd (R.not_everything one identity.is_one apart
+            ((spans one tuple).0 (full_basis_spans o L m rows x h one tuple))))
             (cases_lt (length rows) m);
         independent = reduced_basis_is_independent o L m rows x;
         ideal = record {
           shape = x.shape;
-          left = λ i r i_in r_in. (spans (product o m cs (basis o m i) (row r)) (product_tuple (basis o m i) (row r) (basis_tuple i) (row_tuple r r_in))).1
+          left = λ i r i_in r_in.
+              (spans (product o m cs (basis o m i) (row r))
+              (product_tuple (basis o m i) (row r) (basis_tuple i) (row_tuple r r_in))).1
               (R.left (row r) (basis o m i) (basis_tuple i) (in_radical r r_in));
-          right = λ i r i_in r_in. (spans (product o m cs (row r) (basis o m i)) (product_tuple (row r) (basis o m i) (row_tuple r r_in) (basis_tuple i))).1
+          right = λ i r i_in r_in.
+              (spans (product o m cs (row r) (basis o m i))
+              (product_tuple (row r) (basis o m i) (row_tuple r r_in) (basis_tuple i))).1
               (R.right (row r) (basis o m i) (basis_tuple i) (in_radical r r_in));
         };
       }

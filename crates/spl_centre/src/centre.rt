@@ -60,8 +60,9 @@ fn copies(alloc: Global, f: &Fractions, rows: &[Tuple]) -> Result<Tuples, NoMemo
     Ok(tuples)
 }
 
-/// A basis of the radical of the trace form, the set of all a with tr(a·b) = 0 for each b; None exactly where it is 0. The
-/// characteristic doesn't divide the dimension, so that the trace of the identity isn't 0. The one fault is want of memory.
+/// A basis of the radical of the trace form, the set of all a with tr(a·b) = 0 for each b; None exactly where it is 0.
+/// The characteristic doesn't divide the dimension, so that the trace of the identity isn't 0. The one fault is want of
+/// memory.
 pub fn trace_ideal(alloc: Global, f: &Fractions, a: &KAlgebra) -> Result<Option<Tuples>, NoMemory>
     requires over { IsOver (fractions_over (field_of f.now)) a.now }
     requires associative { IsAssociative (fractions_over (field_of f.now)) a.now }

@@ -7,4 +7,3 @@
 pub mod centre;
 mod identity;
 mod radical;
-

@@ -51,27 +51,39 @@ module _ (words : List (List ℕ)) (input : List ℕ) (sink sink' : SinkState) (
   }
 
   -- evidence is written
-  pub Answers-found : ShowsEvidence table bytes → Finishes Done bytes sink sink' status → Answers words input sink sink' status
+  pub Answers-found : ShowsEvidence table bytes → Finishes Done bytes sink sink' status
+      → Answers words input sink sink' status
   Answers-found shows finishes = record {
     ends = inr (
       Done,
       bytes,
-      (form, record { table = table; stands = record { text = read.0; is_text = read.1; is_table = read.2 }; shows = shows }),
+      (
+        form,
+        record {
+          table = table;
+          stands = record { text = read.0; is_text = read.1; is_table = read.2 };
+          shows =
+              shows;
+        },
+      ),
       finishes,
     );
     stands = finishes.stands;
   }
 
 -- a text with a fault is refused
-pub Answers-refused : (words : List (List ℕ)) (input : List ℕ) (sink sink' : SinkState) (status : Status) → IsDecide words → (bytes : List ℕ) (refusal : Refusal)
-    → IsRefusal whole input refusal → bytes ≡ refusal_text refusal → Finishes Refused bytes sink sink' status → Answers words input sink sink' status
+pub Answers-refused : (words : List (List ℕ)) (input : List ℕ) (sink sink' : SinkState) (status : Status)
+    → IsDecide words → (bytes : List ℕ) (refusal : Refusal)
+    → IsRefusal whole input refusal → bytes ≡ refusal_text refusal → Finishes Refused bytes sink sink' status
+    → Answers words input sink sink' status
 Answers-refused words input sink sink' status form bytes refusal cause report finishes = record {
   ends = inr (Refused, bytes, (form, record { refusal = refusal; cause = inl cause; report = report }), finishes);
   stands = finishes.stands;
 }
 
 -- evidence that was written by the fractions f and the degree n of the table
-module _ (table : Table) (f : Fractions) (n : ℕ) (same_field : f ≡ table.fractions) (same_degree : n ≡ table.degree) (e : Evidence)
+module _ (table : Table) (f : Fractions) (n : ℕ) (same_field : f ≡ table.fractions) (same_degree : n ≡ table.degree)
+    (e : Evidence)
     (holds : IsEvidence (ops_of table) (algebra_of table) e) where
   square : n * n ≡ table.algebra.dim
   square = ap (λ k. k * k) same_degree ∙ sym table.dim

@@ -1,5 +1,6 @@
 -- A run, put together from its parts.
-use Rattle.std.specs.Prelude.{◌≡◌, ◌⊎◌, ℕ, ◌+◌, ◌<◌, ◌≤◌, List, [], ◌++◌, length, drop, Option, None, Some, is_some, IfSome, refl}
+use Rattle.std.specs.Prelude.{◌≡◌, ◌⊎◌, ℕ, ◌+◌, ◌<◌, ◌≤◌, List, [], ◌++◌, length, drop, Option, None, Some, is_some}
+use Rattle.std.specs.Prelude.{IfSome, refl}
 use Rattle.std.proofs.Common.{inl, inr, ⊎_elim, sym, ◌∙◌, ap, subst, arith, length-append, append-nil}
 use Rattle.std.proofs.lemmas.Bool.{cases_lt}
 use Rattle.std.proofs.Math.Seq.{drop-append_seam}
@@ -11,7 +12,9 @@ use Rattle.spl_outside.specs.Prefix.{AppendsPart}
 use Rattle.spl_table.specs.Refusal.{table_limit, whole, IsFirstFault, IsRefusal}
 use Rattle.spl_table.specs.declared.refusal.Refusal.{Refusal}
 use Rattle.spl_table.specs.declared.refusal.Kind.{Kind}
-use Rattle.spl_table.specs.declared.refusal.Kind.TheVariants.{TooLong, NotText, Header, FieldSize, FieldLaw, Degree, Characteristic, EntryForm, EntryRange, EntryOrder, ZeroDenominator, PolyDegree, NoEnd, AfterEnd, NotBuilt}
+use Rattle.spl_table.specs.declared.refusal.Kind.TheVariants.{TooLong, NotText, Header, FieldSize, FieldLaw, Degree}
+use Rattle.spl_table.specs.declared.refusal.Kind.TheVariants.{Characteristic, EntryForm, EntryRange, EntryOrder}
+use Rattle.spl_table.specs.declared.refusal.Kind.TheVariants.{ZeroDenominator, PolyDegree, NoEnd, AfterEnd, NotBuilt}
 use Rattle.spl_cli.specs.declared.status.Status.{Status}
 use Rattle.spl_cli.specs.declared.status.Status.TheVariants.{Done, No, Usage, Refused, ReadFault, WriteFault, Memory}
 use Rattle.spl_cli.specs.Forms.{IsForm, usage_text}
@@ -57,12 +60,21 @@ cause-append read rest refusal long h = ⊎_elim
     h
 
 -- what a text that is too long comes to, each longer text comes to
-pub Report-append : (words : List (List ℕ)) (read rest : List ℕ) (answer : Status) (bytes : List ℕ) → table_limit < length read
+pub Report-append : (words : List (List ℕ)) (read rest : List ℕ) (answer : Status) (bytes : List ℕ)
+    → table_limit < length read
     → Report words read answer bytes → Report words (read ++ rest) answer bytes
 Report-append words read rest Usage bytes long h = h
-Report-append words read rest Done bytes long h = let e = h.1 in let t = e.stands in absurd (omega (arith, long, t.is_text.within))
-Report-append words read rest Refused bytes long h = let r = h.1 in
-    (h.0, record { refusal = r.refusal; cause = inl (cause-append read rest r.refusal long r.cause); report = r.report })
+Report-append words read rest Done bytes long h = let e = h.1 in let t = e.stands in
+    absurd (omega (arith, long, t.is_text.within))
+Report-append words read rest Refused bytes long h = let r = h.1 in (
+  h.0,
+  record {
+    refusal = r.refusal;
+    cause = inl (cause-append read rest r.refusal long r.cause);
+    report =
+        r.report;
+  },
+)
 Report-append words read rest No bytes long h = absurd h
 Report-append words read rest ReadFault bytes long h = absurd h
 Report-append words read rest WriteFault bytes long h = absurd h
@@ -82,7 +94,8 @@ pub record Whole (words : List (List ℕ)) (left : Option (List ℕ)) (answer : 
 
 -- the report on what was read is one on the whole input
 whole_report : (words : List (List ℕ)) (left left' : Option (List ℕ)) (read : List ℕ) (answer : Status) (bytes : List ℕ)
-    → Consumes left left' read → (length read ≤ table_limit → IsAtEnd left') → Report words read answer bytes → Whole words left answer bytes
+    → Consumes left left' read → (length read ≤ table_limit → IsAtEnd left') → Report words read answer bytes
+    → Whole words left answer bytes
 whole_report words None left' read answer bytes t w r = record { input = read; told = tt; report = r }
 whole_report words (Some xs) None read answer bytes t w r = absurd t
 whole_report words (Some xs) (Some ys) read answer bytes t w r = ⊎_elim
@@ -90,7 +103,8 @@ whole_report words (Some xs) (Some ys) read answer bytes t w r = ⊎_elim
       input = xs;
       told = refl;
       report =
-          let P : List ℕ → Type 0 = λ zs. Report words zs answer bytes in subst P (sym t) (Report-append words read ys answer bytes long r);
+          let P : List ℕ → Type 0 = λ zs. Report words zs answer bytes in
+          subst P (sym t) (Report-append words read ys answer bytes long r);
     })
     (λ (short : length read ≤ table_limit). record {
       input = xs;
@@ -103,7 +117,8 @@ whole_report words (Some xs) (Some ys) read answer bytes t w r = ⊎_elim
 
 -- how the source is left
 left_after : (left left' : Option (List ℕ)) (read : List ℕ) → Consumes left left' read → length read ≤ table_limit + 1
-    → (length read ≤ table_limit → IsAtEnd left') → is_some left' ≡ is_some left → left' ≡ option_map (drop (read_limit + 1)) left
+    → (length read ≤ table_limit → IsAtEnd left') → is_some left' ≡ is_some left
+    → left' ≡ option_map (drop (read_limit + 1)) left
 left_after None None read t m w told = refl
 left_after None (Some ys) read t m w told = absurd (cc)
 left_after (Some xs) None read t m w told = absurd t
@@ -129,16 +144,20 @@ told_is None = tt
 told_is (Some xs) = refl
 
 answer-or-write_fault : (status : Status) → IsAnswer status → status ≡ WriteFault → ⊥
-answer-or-write_fault status a e = elim a [ inl x ↦ cc | inr y ↦ elim y [ inl x ↦ cc | inr z ↦ elim z [ inl x ↦ cc | inr x ↦ cc ] ] ]
+answer-or-write_fault status a e =
+    elim a [ inl x ↦ cc | inr y ↦ elim y [ inl x ↦ cc | inr z ↦ elim z [ inl x ↦ cc | inr x ↦ cc ] ] ]
 
 answer-or-fault : (status : Status) → IsAnswer status → (status ≡ ReadFault) ⊎ (status ≡ Memory) → ⊥
 answer-or-fault status a e = ⊎_elim
-    (λ (r : status ≡ ReadFault). elim a [ inl x ↦ cc | inr y ↦ elim y [ inl x ↦ cc | inr z ↦ elim z [ inl x ↦ cc | inr x ↦ cc ] ] ])
-    (λ (r : status ≡ Memory). elim a [ inl x ↦ cc | inr y ↦ elim y [ inl x ↦ cc | inr z ↦ elim z [ inl x ↦ cc | inr x ↦ cc ] ] ])
+    (λ (r : status ≡ ReadFault).
+    elim a [ inl x ↦ cc | inr y ↦ elim y [ inl x ↦ cc | inr z ↦ elim z [ inl x ↦ cc | inr x ↦ cc ] ] ])
+    (λ (r : status ≡ Memory).
+    elim a [ inl x ↦ cc | inr y ↦ elim y [ inl x ↦ cc | inr z ↦ elim z [ inl x ↦ cc | inr x ↦ cc ] ] ])
     e
 
 -- words of no form
-pub IsRun-usage : (words : List (List ℕ)) (source : SourceState) (sink sink' : SinkState) (status : Status) → (IsForm words → ⊥)
+pub IsRun-usage : (words : List (List ℕ)) (source : SourceState) (sink sink' : SinkState) (status : Status)
+    → (IsForm words → ⊥)
     → Finishes Usage usage_text sink sink' status → IsRun words source source sink sink' status
 IsRun-usage words source sink sink' status none f = ⊎_elim
     (λ (w : (status ≡ Usage) × Appends sink.written sink'.written usage_text). record {
@@ -146,39 +165,55 @@ IsRun-usage words source sink sink' status none f = ⊎_elim
         input = told_or_nothing source.left;
         told = told_is source.left;
         bytes = usage_text;
-        report = (let P : Status → Type 0 = λ s. Report words (told_or_nothing source.left) s usage_text in subst P (sym w.0) (none, refl));
+        report = (let P : Status
+            → Type 0 = λ s. Report words (told_or_nothing source.left) s usage_text in subst P (sym w.0) (none, refl));
         written = w.1;
       };
       part = λ e. absurd (let q = w.0 in cc);
-      nothing = λ e. absurd (⊎_elim (λ (x : status ≡ ReadFault). let q = w.0 in cc) (λ (x : status ≡ Memory). let q = w.0 in cc) e);
+      nothing = λ e. absurd
+          (⊎_elim (λ (x : status ≡ ReadFault). let q = w.0 in cc) (λ (x : status ≡ Memory). let q = w.0 in cc) e);
       no_form = λ _. inl w.0;
       read_fault = λ e. absurd (let q = w.0 in cc);
       write_fault = λ e. absurd (let q = w.0 in cc);
       untouched = λ _. refl;
       taken = λ form _. absurd (none form);
-      to_the_end = λ e. absurd (⊎_elim (λ (x : status ≡ Done). let q = w.0 in cc) (λ (x : status ≡ No). let q = w.0 in cc) e);
+      to_the_end = λ e. absurd
+          (⊎_elim (λ (x : status ≡ Done). let q = w.0 in cc) (λ (x : status ≡ No). let q = w.0 in cc) e);
       source_stands = SourceStands-refl source;
       sink_stands = f.stands;
     })
-    (λ (w : (status ≡ WriteFault) × AppendsPart sink.written sink'.written usage_text × Rose sink.faults sink'.faults). record {
+    (λ (w : (status ≡ WriteFault) × AppendsPart sink.written sink'.written usage_text
+    × Rose sink.faults sink'.faults). record {
       report = λ a. absurd (answer-or-write_fault status a w.0);
-      part = λ _. record { input = told_or_nothing source.left; told = told_is source.left; status = Usage; bytes = usage_text; report = (none, refl); written = w.1 };
-      nothing = λ e. absurd (⊎_elim (λ (x : status ≡ ReadFault). let q = w.0 in cc) (λ (x : status ≡ Memory). let q = w.0 in cc) e);
+      part = λ _. record {
+        input = told_or_nothing source.left;
+        told = told_is source.left;
+        status = Usage;
+        bytes =
+            usage_text;
+        report = (none, refl);
+        written = w.1;
+      };
+      nothing = λ e. absurd
+          (⊎_elim (λ (x : status ≡ ReadFault). let q = w.0 in cc) (λ (x : status ≡ Memory). let q = w.0 in cc) e);
       no_form = λ _. inr w.0;
       read_fault = λ e. absurd (let q = w.0 in cc);
       write_fault = λ _. w.2;
       untouched = λ _. refl;
       taken = λ form _. absurd (none form);
-      to_the_end = λ e. absurd (⊎_elim (λ (x : status ≡ Done). let q = w.0 in cc) (λ (x : status ≡ No). let q = w.0 in cc) e);
+      to_the_end = λ e. absurd
+          (⊎_elim (λ (x : status ≡ Done). let q = w.0 in cc) (λ (x : status ≡ No). let q = w.0 in cc) e);
       source_stands = SourceStands-refl source;
       sink_stands = f.stands;
     })
     f.ends
 
 -- a run that ends with nothing written: a fault of reading, or want of memory
-pub IsRun-silent : (words : List (List ℕ)) (source source' : SourceState) (sink sink' : SinkState) (status : Status) → IsForm words
+pub IsRun-silent : (words : List (List ℕ)) (source source' : SourceState) (sink sink' : SinkState) (status : Status)
+    → IsForm words
     → (status ≡ ReadFault) ⊎ (status ≡ Memory) → (status ≡ ReadFault → Rose source.faults source'.faults)
-    → SourceStands source source' → Keeps sink.written sink'.written → SinkStands sink sink' → IsRun words source source' sink sink' status
+    → SourceStands source source' → Keeps sink.written sink'.written → SinkStands sink sink'
+    → IsRun words source source' sink sink' status
 IsRun-silent words source source' sink sink' status form which rose stands keeps sink_stands = record {
   report = λ a. absurd (answer-or-fault status a which);
   part = λ e. absurd (⊎_elim (λ (x : status ≡ ReadFault). cc) (λ (x : status ≡ Memory). cc) which);
@@ -189,13 +224,15 @@ IsRun-silent words source source' sink sink' status form which rose stands keeps
   untouched = λ none. absurd (none form);
   taken = λ _ e. absurd (⊎_elim (λ a. answer-or-fault status a which)
       (λ (w : status ≡ WriteFault). ⊎_elim (λ (x : status ≡ ReadFault). cc) (λ (x : status ≡ Memory). cc) which) e);
-  to_the_end = λ e. absurd (answer-or-fault status (⊎_elim (λ (x : status ≡ Done). inl x) (λ (x : status ≡ No). inr (inl x)) e) which);
+  to_the_end = λ e. absurd
+      (answer-or-fault status (⊎_elim (λ (x : status ≡ Done). inl x) (λ (x : status ≡ No). inr (inl x)) e) which);
   source_stands = stands;
   sink_stands = sink_stands;
 }
 
 -- no report goes with a fault or with want of memory
-not_reported : (words : List (List ℕ)) (input : List ℕ) (answer : Status) (bytes : List ℕ) → Report words input answer bytes
+not_reported : (words : List (List ℕ)) (input : List ℕ) (answer : Status) (bytes : List ℕ)
+    → Report words input answer bytes
     → (answer ≡ ReadFault) ⊎ ((answer ≡ WriteFault) ⊎ (answer ≡ Memory)) → ⊥
 not_reported words input Done bytes r e = elim e [ inl x ↦ cc | inr y ↦ elim y [ inl x ↦ cc | inr x ↦ cc ] ]
 not_reported words input No bytes r e = r
@@ -206,7 +243,8 @@ not_reported words input WriteFault bytes r e = r
 not_reported words input Memory bytes r e = r
 
 -- a Done report is on a text that is not too long
-Done-short : (words : List (List ℕ)) (input : List ℕ) (answer : Status) (bytes : List ℕ) → Report words input answer bytes
+Done-short : (words : List (List ℕ)) (input : List ℕ) (answer : Status) (bytes : List ℕ)
+    → Report words input answer bytes
     → (answer ≡ Done) ⊎ (answer ≡ No) → length input ≤ table_limit
 Done-short words input Done bytes r e = let t = (r.1).stands in t.is_text.within
 Done-short words input No bytes r e = absurd r
@@ -217,12 +255,15 @@ Done-short words input WriteFault bytes r e = absurd r
 Done-short words input Memory bytes r e = absurd r
 
 -- a run that has read its input and answers it
-pub IsRun-answered : (words : List (List ℕ)) (source source' : SourceState) (sink sink' : SinkState) (status : Status) (read : List ℕ) → IsForm words
+pub IsRun-answered : (words : List (List ℕ)) (source source' : SourceState) (sink sink' : SinkState) (status : Status)
+    (read : List ℕ) → IsForm words
     → Taken source source' read → Answers words read sink sink' status → IsRun words source source' sink sink' status
 IsRun-answered words source source' sink sink' status read form t a = ⊎_elim
     (λ (m : (status ≡ Memory) × Keeps sink.written sink'.written).
-    IsRun-silent words source source' sink sink' status form (inr m.0) (λ e. absurd (let q = m.0 in cc)) t.stands m.1 a.stands)
-    (λ (w : (answer : Status) × (bytes : List ℕ) × Report words read answer bytes × Finishes answer bytes sink sink' status).
+    IsRun-silent words source source' sink sink' status form (inr m.0)
+    (λ e. absurd (let q = m.0 in cc)) t.stands m.1 a.stands)
+    (λ (w : (answer : Status) × (bytes : List ℕ) × Report words read answer bytes
+    × Finishes answer bytes sink sink' status).
     answered w.0 w.1 w.2 w.3)
     a.ends
   where
@@ -232,7 +273,8 @@ IsRun-answered words source source' sink sink' status read form t a = ⊎_elim
     whole : (answer : Status) (bytes : List ℕ) → Report words read answer bytes → Whole words source.left answer bytes
     whole answer bytes r = whole_report words source.left source'.left read answer bytes t.taken t.whole r
 
-    answered : (answer : Status) (bytes : List ℕ) → Report words read answer bytes → Finishes answer bytes sink sink' status → IsRun words source source' sink sink' status
+    answered : (answer : Status) (bytes : List ℕ) → Report words read answer bytes
+        → Finishes answer bytes sink sink' status → IsRun words source source' sink sink' status
     answered answer bytes r f = ⊎_elim
         (λ (g : (status ≡ answer) × Appends sink.written sink'.written bytes).
         let x = whole answer bytes r in
@@ -245,13 +287,18 @@ IsRun-answered words source source' sink sink' status read form t a = ⊎_elim
             written = g.1;
           };
           part = λ e. absurd (not_reported words read answer bytes r (inr (inl (sym g.0 ∙ e))));
-          nothing = λ e. absurd (not_reported words read answer bytes r (⊎_elim (λ (y : status ≡ ReadFault). inl (sym g.0 ∙ y)) (λ (y : status ≡ Memory). inr (inr (sym g.0 ∙ y))) e));
+          nothing = λ e. absurd
+              (not_reported words read answer bytes r
+              (⊎_elim (λ (y : status ≡ ReadFault). inl (sym g.0 ∙ y))
+              (λ (y : status ≡ Memory). inr (inr (sym g.0 ∙ y))) e));
           no_form = λ none. absurd (none form);
           read_fault = λ e. absurd (not_reported words read answer bytes r (inl (sym g.0 ∙ e)));
           write_fault = λ e. absurd (not_reported words read answer bytes r (inr (inl (sym g.0 ∙ e))));
           untouched = λ none. absurd (none form);
           taken = λ _ _. left_is;
-          to_the_end = λ e. t.whole (Done-short words read answer bytes r (⊎_elim (λ (y : status ≡ Done). inl (sym g.0 ∙ y)) (λ (y : status ≡ No). inr (sym g.0 ∙ y)) e));
+          to_the_end = λ e. t.whole
+              (Done-short words read answer bytes r
+              (⊎_elim (λ (y : status ≡ Done). inl (sym g.0 ∙ y)) (λ (y : status ≡ No). inr (sym g.0 ∙ y)) e));
           source_stands = t.stands;
           sink_stands = a.stands;
         })
@@ -259,14 +306,24 @@ IsRun-answered words source source' sink sink' status read form t a = ⊎_elim
         let x = whole answer bytes r in
         record {
           report = λ b. absurd (answer-or-write_fault status b g.0);
-          part = λ _. record { input = x.input; told = x.told; status = answer; bytes = bytes; report = x.report; written = g.1 };
-          nothing = λ e. absurd (⊎_elim (λ (y : status ≡ ReadFault). let q = g.0 in cc) (λ (y : status ≡ Memory). let q = g.0 in cc) e);
+          part = λ _. record {
+            input = x.input;
+            told = x.told;
+            status = answer;
+            bytes = bytes;
+            report =
+                x.report;
+            written = g.1;
+          };
+          nothing = λ e. absurd
+              (⊎_elim (λ (y : status ≡ ReadFault). let q = g.0 in cc) (λ (y : status ≡ Memory). let q = g.0 in cc) e);
           no_form = λ none. absurd (none form);
           read_fault = λ e. absurd (let q = g.0 in cc);
           write_fault = λ _. g.2;
           untouched = λ none. absurd (none form);
           taken = λ _ _. left_is;
-          to_the_end = λ e. absurd (⊎_elim (λ (y : status ≡ Done). let q = g.0 in cc) (λ (y : status ≡ No). let q = g.0 in cc) e);
+          to_the_end = λ e. absurd
+              (⊎_elim (λ (y : status ≡ Done). let q = g.0 in cc) (λ (y : status ≡ No). let q = g.0 in cc) e);
           source_stands = t.stands;
           sink_stands = a.stands;
         })

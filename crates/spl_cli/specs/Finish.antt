@@ -23,5 +23,6 @@ pub record Finishes (answer : Status) (bytes : List ℕ) (sink sink' : SinkState
 -- the report of an answer to an input is written, or a proper prefix of it, or memory was wanted and nothing is
 pub record Answers (words : List (List ℕ)) (input : List ℕ) (sink sink' : SinkState) (status : Status) : Type 0 where
   pub ends : ((status ≡ Memory) × Keeps sink.written sink'.written)
-      ⊎ ((answer : Status) × (bytes : List ℕ) × Report words input answer bytes × Finishes answer bytes sink sink' status)
+      ⊎ ((answer : Status) × (bytes : List ℕ) × Report words input answer bytes
+      × Finishes answer bytes sink sink' status)
   pub stands : SinkStands sink sink'

@@ -6,7 +6,9 @@ use Rattle.spl_table.specs.Refusal.{whole, IsTableText, IsRefusal}
 use Rattle.spl_table.specs.declared.table.Table.{Table}
 use Rattle.spl_table.specs.declared.refusal.Refusal.{Refusal}
 use Rattle.spl_table.specs.declared.refusal.Kind.{Kind}
-use Rattle.spl_table.specs.declared.refusal.Kind.TheVariants.{TooLong, NotText, Header, FieldSize, FieldLaw, Degree, Characteristic, EntryForm, EntryRange, EntryOrder, ZeroDenominator, PolyDegree, NoEnd, AfterEnd, NotBuilt}
+use Rattle.spl_table.specs.declared.refusal.Kind.TheVariants.{TooLong, NotText, Header, FieldSize, FieldLaw, Degree}
+use Rattle.spl_table.specs.declared.refusal.Kind.TheVariants.{Characteristic, EntryForm, EntryRange, EntryOrder}
+use Rattle.spl_table.specs.declared.refusal.Kind.TheVariants.{ZeroDenominator, PolyDegree, NoEnd, AfterEnd, NotBuilt}
 use Rattle.spl_evidence.specs.Evidence.{IsEvidenceText}
 use Rattle.spl_evidence.specs.declared.evidence.Evidence.{Evidence}
 use Rattle.spl_engine.specs.Kind.{IsEvidence, HasNoFault}
@@ -39,7 +41,8 @@ element_text _ = []
 
 -- `refused LINE KIND`
 abbrev pub refusal_text : Refusal → List ℕ
-refusal_text r = codes "refused " ++ decimal r.line ++ codes " " ++ kind_name r.kind ++ element_text r.kind ++ codes "\n"
+refusal_text r = codes "refused " ++ decimal r.line ++ codes " " ++ kind_name r.kind ++ element_text r.kind
+    ++ codes "\n"
 
 -- the line of `end`, the last one of a table text
 abbrev pub line_of_end : List ℕ → ℕ
@@ -51,8 +54,8 @@ pub record Stands (input : List ℕ) (table : Table) : Type 0 where
   pub is_text : IsTableText whole input text []
   pub is_table : IsTableOf text table
 
--- the input is the text of a table whose algebra is central simple, and its trace form nondegenerate. No part that is built
--- decides it
+-- the input is the text of a table whose algebra is central simple, and its trace form nondegenerate. No part that is
+-- built decides it
 pub record IsUndecided (input : List ℕ) (refusal : Refusal) : Type 0 where
   pub table : Table
   pub stands : Stands input table

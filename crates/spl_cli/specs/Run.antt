@@ -47,7 +47,8 @@ abbrev pub read_limit : ℕ
 read_limit = table_limit
 
 -- the whole of a report on the input was written
-pub record WritesReport (words : List (List ℕ)) (source : SourceState) (sink sink' : SinkState) (status : Status) : Type 0 where
+pub record WritesReport (words : List (List ℕ)) (source : SourceState) (sink sink' : SinkState)
+    (status : Status) : Type 0 where
   pub input : List ℕ
   pub told : IsTold source input
   pub bytes : List ℕ
@@ -64,18 +65,21 @@ pub record WritesPart (words : List (List ℕ)) (source : SourceState) (sink sin
   pub written : AppendsPart sink.written sink'.written bytes
 
 -- A run of the program: from its words, its source and its sink to what is left of them, with this status.
-pub record IsRun (words : List (List ℕ)) (source source' : SourceState) (sink sink' : SinkState) (status : Status) : Type 0 where
+pub record IsRun (words : List (List ℕ)) (source source' : SourceState) (sink sink' : SinkState)
+    (status : Status) : Type 0 where
   -- what each status means: the report is written, or a proper prefix of it, or nothing
   pub report : IsAnswer status → WritesReport words source sink sink' status
   pub part : status ≡ WriteFault → WritesPart words source sink sink'
   pub nothing : (status ≡ ReadFault) ⊎ (status ≡ Memory) → Keeps sink.written sink'.written
-  -- when each comes: a fault only where its count rose in the call, and want of memory at any time but for words of no form
+  -- when each comes: a fault only where its count rose in the call, and want of memory at any time but for words of no
+  -- form
   pub no_form : (IsForm words → ⊥) → (status ≡ Usage) ⊎ (status ≡ WriteFault)
   pub read_fault : status ≡ ReadFault → Rose source.faults source'.faults
   pub write_fault : status ≡ WriteFault → Rose sink.faults sink'.faults
   -- what is read: nothing for words of no form, and else all the input up to one byte past the limit
   pub untouched : (IsForm words → ⊥) → source' ≡ source
-  pub taken : IsForm words → IsAnswer status ⊎ (status ≡ WriteFault) → source'.left ≡ option_map (drop (read_limit + 1)) source.left
+  pub taken : IsForm words → IsAnswer status ⊎ (status ≡ WriteFault)
+      → source'.left ≡ option_map (drop (read_limit + 1)) source.left
   pub to_the_end : (status ≡ Done) ⊎ (status ≡ No) → IsAtEnd source'.left
   -- what stands whatever happens: no count falls, what is told stays told, and what is steady stays so
   pub source_stands : SourceStands source source'

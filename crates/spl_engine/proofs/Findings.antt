@@ -8,11 +8,12 @@ use Rattle.theory_tables.specs.Algebras.{HasIdentity, HasSmallCentre, IsCentralS
 use Rattle.theory_tables.specs.Traces.{IsNondegenerate}
 use Rattle.theory_tables.specs.Claims.{NoIdentityClaim, CentralClaim}
 use Rattle.theory_tables.specs.Laws.{ClaimsExclude}
-use Rattle.theory_tables.proofs.Exclusions.{claims_exclude}
-use Rattle.theory_tables.proofs.CentralSimple.{central_simple_by_trace_form}
-use Rattle.theory_tables.proofs.SplitCentralSimple.{split_is_central_simple}
+use Rattle.theory_tables.proofs.Algebras.Exclusions.{claims_exclude}
+use Rattle.theory_tables.proofs.Algebras.CentralSimple.{central_simple_by_trace_form}
+use Rattle.theory_tables.proofs.Split.SplitCentralSimple.{split_is_central_simple}
 use Rattle.spl_evidence.specs.declared.evidence.Evidence.{Evidence}
-use Rattle.spl_evidence.specs.declared.evidence.Evidence.TheVariants.{Triple as TripleEvidence, NoIdentity, Central, Ideal}
+use Rattle.spl_evidence.specs.declared.evidence.Evidence.TheVariants.{Triple as TripleEvidence, NoIdentity, Central}
+use Rattle.spl_evidence.specs.declared.evidence.Evidence.TheVariants.{Ideal}
 use Rattle.spl_evidence.specs.Claim.{Claim}
 use Rattle.spl_table.specs.Table.{field_of, algebra_of, ops_of}
 use Rattle.spl_table.specs.declared.table.Table.{Table}
@@ -40,7 +41,8 @@ module _ (table : Table) where
   -- what evidence claims excludes that the algebra is central simple
   excludes : (e : Evidence) → Claim o A e → IsCentralSimple o A.dim A.constants → ⊥
   excludes (TripleEvidence i j k) c s = exclude.triple i j k c s.associative
-  excludes (NoIdentity left right) c s = let z = s.centre in exclude.no_identity left right c (record { one = z.one; is_one = z.is_one })
+  excludes (NoIdentity left right) c s = let z = s.centre in
+      exclude.no_identity left right c (record { one = z.one; is_one = z.is_one })
   excludes (Central tuple) c s = exclude.central tuple c s.centre
   excludes (Ideal tuples) c s = exclude.ideal tuples c s
 
@@ -63,26 +65,37 @@ module _ (table : Table) where
     differ = h.fails;
   }
 
-  pub of_no_identity : (left right : List (ℕ × ℕ × Pair ℕ)) → IsAssociative o A → NoIdentityClaim o A.dim A.constants left right
+  pub of_no_identity : (left right : List (ℕ × ℕ × Pair ℕ)) → IsAssociative o A
+      → NoIdentityClaim o A.dim A.constants left right
       → IsEvidence o A (NoIdentity left right)
-  of_no_identity left right associative claim = evidence (NoIdentity left right) (associative, exclude.no_identity left right claim) claim
+  of_no_identity left right associative claim =
+      evidence (NoIdentity left right) (associative, exclude.no_identity left right claim) claim
 
-  pub of_central : (tuple : List (Pair ℕ)) → IsAssociative o A → HasIdentity o A.dim A.constants → CentralClaim o A.dim A.constants tuple
+  pub of_central : (tuple : List (Pair ℕ)) → IsAssociative o A → HasIdentity o A.dim A.constants
+      → CentralClaim o A.dim A.constants tuple
       → IsEvidence o A (Central tuple)
   of_central tuple associative identity claim =
-      evidence (Central tuple) record { associative = associative; identity = identity; large = exclude.central tuple claim } claim
+      evidence (Central tuple) record {
+        associative = associative;
+        identity = identity;
+        large =
+            exclude.central tuple claim;
+      } claim
 
-  pub of_ideal : (tuples : List (List (Pair ℕ))) → IsAssociative o A → HasSmallCentre o A.dim A.constants → IsTraceIdeal o A tuples
+  pub of_ideal : (tuples : List (List (Pair ℕ))) → IsAssociative o A → HasSmallCentre o A.dim A.constants
+      → IsTraceIdeal o A tuples
       → IsEvidence o A (Ideal tuples)
   of_ideal tuples associative centre h =
       evidence (Ideal tuples) record {
         associative = associative;
         centre = centre;
-        degenerate = λ n. exclude.ideal tuples h.claim (central_simple_by_trace_form o L A.dim A.constants over associative centre n);
+        degenerate = λ n. exclude.ideal tuples h.claim
+            (central_simple_by_trace_form o L A.dim A.constants over associative centre n);
         radical = h.spans;
       } h.claim
 
-  pub of_none : IsAssociative o A → HasSmallCentre o A.dim A.constants → IsNondegenerate o A.dim A.constants → HasNoFault o A
+  pub of_none : IsAssociative o A → HasSmallCentre o A.dim A.constants → IsNondegenerate o A.dim A.constants
+      → HasNoFault o A
   of_none associative centre nondegenerate = record {
     associative = associative;
     centre = centre;

@@ -27,7 +27,8 @@ module _ (o : Ops (Pair ℕ)) (A : Structure (Pair ℕ)) where
     pub associative : IsAssociative o A
     pub centre : HasSmallCentre o A.dim A.constants
     pub degenerate : IsNondegenerate o A.dim A.constants → ⊥
-    pub radical : (a : List (Pair ℕ)) → IsTuple o A.dim a → (InSpan o A.dim tuples a ↔ InTraceRadical o A.dim A.constants a)
+    pub radical : (a : List (Pair ℕ)) → IsTuple o A.dim a
+        → (InSpan o A.dim tuples a ↔ InTraceRadical o A.dim A.constants a)
 
   -- the evidence is of the kind that the algebra has
   abbrev pub IsOfKind : Evidence → Type 0
@@ -36,8 +37,8 @@ module _ (o : Ops (Pair ℕ)) (A : Structure (Pair ℕ)) where
   IsOfKind (Central tuple) = HasLargeCentre
   IsOfKind (Ideal tuples) = HasDegenerateForm tuples
 
-  -- evidence of the right kind, whose claim holds, so that the algebra isn't central simple, and no matrices of any size
-  -- n ≥ 1 split it
+  -- evidence of the right kind, whose claim holds, so that the algebra isn't central simple, and no matrices of any
+  -- size n ≥ 1 split it
   pub record IsEvidence (e : Evidence) : Type 0 where
     pub kind : IsOfKind e
     pub claim : Claim o A e

@@ -39,12 +39,15 @@ tuple_line a = line (codes "tuple" ++ fractions_text a)
 
 -- `left J K F` or `right J K F`
 abbrev pub multiplier_line : List ℕ → ℕ × ℕ × Pair ℕ → List ℕ
-multiplier_line side (j, k, x) = line (side ++ codes " " ++ decimal j ++ codes " " ++ decimal k ++ codes " " ++ canonical_text x)
+multiplier_line side (j, k, x) =
+    line (side ++ codes " " ++ decimal j ++ codes " " ++ decimal k ++ codes " " ++ canonical_text x)
 
 -- the second line, and those before the line `end`
 abbrev pub body : Evidence → List ℕ
 body (Triple i j k) = line (codes "triple " ++ decimal i ++ codes " " ++ decimal j ++ codes " " ++ decimal k)
-body (NoIdentity left right) = line (codes "noidentity") ++ flat_map (multiplier_line (codes "left")) left ++ flat_map (multiplier_line (codes "right")) right
+body (NoIdentity left right) =
+    line (codes "noidentity") ++ flat_map (multiplier_line (codes "left")) left ++ flat_map
+    (multiplier_line (codes "right")) right
 body (Central tuple) = line (codes "central") ++ tuple_line tuple
 body (Ideal tuples) = line (codes "ideal " ++ decimal (length tuples)) ++ flat_map tuple_line tuples
 

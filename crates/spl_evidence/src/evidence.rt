@@ -12,8 +12,8 @@ pub enum Evidence {
         j: usize,
         k: usize,
     },
-    /// Multipliers by which the equations of an identity give 0 = 1: `left` those of Σ_i e_i·γ_ijk = δ_jk at (j, k), and
-    /// `right` those of Σ_i e_i·γ_jik = δ_jk.
+    /// Multipliers by which the equations of an identity give 0 = 1: `left` those of Σ_i e_i·γ_ijk = δ_jk at (j, k),
+    /// and `right` those of Σ_i e_i·γ_jik = δ_jk.
     NoIdentity {
         left: Multipliers<Fractions>,
         right: Multipliers<Fractions>,

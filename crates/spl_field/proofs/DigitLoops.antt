@@ -41,12 +41,14 @@ module _ (p : ℕ) (m : List ℕ) (fits : FitsField p m) where
   p_le = let h = fits.most in let l = fits.some_number in let g = le_pow_self p (length m) (omega arith) in omega arith
 
   pub two_le_size : (q : ℕ) → q ≡ p ^ length m → 2 ≤ q
-  two_le_size q e = let h = fits.least in let l = fits.some_number in let g = le_pow_self p (length m) (omega arith) in omega arith
+  two_le_size q e = let h = fits.least in let l = fits.some_number in let g =
+      le_pow_self p (length m) (omega arith) in omega arith
 
   pub number_lt : (k : ℕ) → k < length m → get_or m k 0 < p
   number_lt k l = All-get_or (λ n. n < p) m k 0 l fits.below
 
-  pub stays_small : (k place total x : ℕ) (f : ℕ → ℕ) → k < length m → ((i : ℕ) → f i < p) → IsPartial p k place total f → x < p
+  pub stays_small : (k place total x : ℕ) (f : ℕ → ℕ) → k < length m → ((i : ℕ) → f i < p)
+      → IsPartial p k place total f → x < p
       → StaysSmall p place total x
   stays_small k place total x f l small h lx =
       let one = one-le-pow k p positive in
@@ -74,5 +76,7 @@ module _ (p : ℕ) (m : List ℕ) (fits : FitsField p m) where
       stays_small k place total (n % p) (λ i. g i % p) l (λ i. mod_below (g i) p positive) h (mod_below n p positive)
 
   -- after the last digit the total is the number
-  pub IsPartial-last : (k place total : ℕ) (f : ℕ → ℕ) → length m ≤ k → k ≤ length m → IsPartial p k place total f → of_digits p (length m) f ≡ total
-  IsPartial-last k place total f l l' h = let e : length m ≡ k = omega arith in ap (λ n. of_digits p n f) e ∙ sym h.digits
+  pub IsPartial-last : (k place total : ℕ) (f : ℕ → ℕ) → length m ≤ k → k ≤ length m → IsPartial p k place total f
+      → of_digits p (length m) f ≡ total
+  IsPartial-last k place total f l l' h = let e : length m ≡ k = omega arith in ap (λ n. of_digits p n f) e
+      ∙ sym h.digits

@@ -3,7 +3,9 @@ use Rattle.std.specs.Prelude.{◌≡◌, ℕ, zero, suc, ◌+◌, ◌<◌, ◌�
 use Rattle.std.proofs.Common.{refl, sym, ◌∙◌, ap, subst, arith, ⊎_elim}
 use Rattle.std.proofs.lemmas.Bool.{cases_lt}
 use Rattle.spl_field.specs.declared.laws.Law.{Law}
-use Rattle.spl_field.specs.declared.laws.Law.TheVariants.{SumAssociative, SumCommutative, Zero, Negative, ProductAssociative, ProductCommutative, One, Distributive, Inverse}
+use Rattle.spl_field.specs.declared.laws.Law.TheVariants.{SumAssociative, SumCommutative, Zero, Negative}
+use Rattle.spl_field.specs.declared.laws.Law.TheVariants.{ProductAssociative, ProductCommutative, One, Distributive}
+use Rattle.spl_field.specs.declared.laws.Law.TheVariants.{Inverse}
 use Rattle.spl_field.specs.Laws.{number_of, Holds, AreFieldTables}
 
 -- the law with a number
@@ -60,7 +62,8 @@ module _ (q : ℕ) (sum product : List ℕ) where
   none_before l h = let g = number_of_positive l in absurd (omega arith)
 
   -- one more law
-  pub more_hold : (n : ℕ) (law : Law) → number_of law ≡ n → ((l : Law) → number_of l < n → Holds q sum product l) → Holds q sum product law
+  pub more_hold : (n : ℕ) (law : Law) → number_of law ≡ n → ((l : Law) → number_of l < n → Holds q sum product l)
+      → Holds q sum product law
       → (l : Law) → number_of l < n + 1 → Holds q sum product l
   more_hold n law e before here l h = ⊎_elim
       (before l)

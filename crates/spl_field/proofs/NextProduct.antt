@@ -37,9 +37,11 @@ module _ (p : ℕ) (m : List ℕ) (fits : FitsField p m) where
           ∙ mod-add-mod (b - 1) p (1 % p) ∙ add-mod-mod (b - 1) 1 p)
       each (suc k) =
           let two = fits.least in
-          digit-suc p b k ∙ ap (λ x. digit p x k) (sym (div-pred p b (positive p m fits) n)) ∙ sym (digit-suc p (b - 1) k)
+          digit-suc p b k ∙ ap (λ x. digit p x k) (sym (div-pred p b (positive p m fits) n))
+          ∙ sym (digit-suc p (b - 1) k)
           ∙ sym (ap (λ x. (digit p (b - 1) (suc k) + x) % p) (digit-suc_of_lt p 1 k (omega arith))
-          ∙ ap (λ x. x % p) (plain (digit p (b - 1) (suc k))) ∙ mod-eq_of_lt (digit_lt p (positive p m fits) (b - 1) (suc k)))
+          ∙ ap (λ x. x % p) (plain (digit p (b - 1) (suc k)))
+          ∙ mod-eq_of_lt (digit_lt p (positive p m fits) (b - 1) (suc k)))
         where
           plain : (x : ℕ) → x + 0 ≡ x
           plain x = omega arith
@@ -48,7 +50,8 @@ module _ (p : ℕ) (m : List ℕ) (fits : FitsField p m) where
     pub product_at_zero : b ≡ 0 → IsProductByDigits p m a b 0
     product_at_zero e = subst (λ n. IsProductByDigits p m a n 0) (sym e) (product-zero p fits.least m a)
 
-    pub product_by_t : b ≢ 0 → b % p ≡ 0 → i ≡ b / p → x ≡ get_or row i 0 → IsProductByDigits p m p x c → IsProductByDigits p m a b c
+    pub product_by_t : b ≢ 0 → b % p ≡ 0 → i ≡ b / p → x ≡ get_or row i 0 → IsProductByDigits p m p x c
+        → IsProductByDigits p m a b c
     product_by_t n e ei ex s =
         subst (λ y. IsProductByDigits p m a y c) whole
         (product-shift p fits.least m a (b / p) (get_or row (b / p) 0) c (before (b / p) smaller)

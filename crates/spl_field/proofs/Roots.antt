@@ -9,7 +9,8 @@ use Rattle.theory_rings.proofs.FiniteFields.FrobeniusRoots.{frobenius_root-exist
 use Rattle.spl_field.specs.Tables.{table_ops, table_power, AreElements, AreSums, AreNegatives, AreProducts, AreInverses}
 use Rattle.spl_field.specs.TableField.{is_field_by_digits, field_laws}
 
-module _ (p : ℕ) (two_le : 2 ≤ p) (m : List ℕ) (d : 1 ≤ length m) (q : ℕ) (size : q ≡ p ^ length m) (sums negatives products inverses : List ℕ)
+module _ (p : ℕ) (two_le : 2 ≤ p) (m : List ℕ) (d : 1 ≤ length m) (q : ℕ) (size : q ≡ p ^ length m)
+    (sums negatives products inverses : List ℕ)
     (S : AreSums p m q sums) (below_negatives : AreElements q q negatives) (N : AreNegatives p m q negatives)
     (P : AreProducts p m q products) (below_inverses : AreElements q q inverses) (I : AreInverses p m q inverses) where
   abbrev o : Ops ℕ
@@ -28,7 +29,8 @@ module _ (p : ℕ) (two_le : 2 ≤ p) (m : List ℕ) (d : 1 ≤ length m) (q : �
 
   -- a table that has a root of each p-th power has one of each element
   pub roots_of_powers : (roots : List ℕ)
-      → ((r : ℕ) → r < q → table_power q products (slice_index roots (table_power q products r p)) p ≡ table_power q products r p)
+      → ((r : ℕ) → r < q → table_power q products
+      (slice_index roots (table_power q products r p)) p ≡ table_power q products r p)
       → (a : ℕ) → a < q → table_power q products (slice_index roots a) p ≡ a
   roots_of_powers roots h a l =
       let r = root_exists a l in

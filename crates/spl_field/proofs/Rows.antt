@@ -27,8 +27,10 @@ get_or-more_rows q n R table row full front last x y lx ly = ⊎_elim within at_
         (sym (get_or-append-add table row y 0) ∙ ap (λ i. get_or (table ++ row) i 0) place)
         (last y ly)
 
--- where the entry at each place stands in R to its row and its column, the entry of row a and column b stands in R to a and b
-pub get_or-row : (n : ℕ) (R : ℕ → ℕ → ℕ → Type 0) (table : List ℕ) → ((i : ℕ) → i < n * n → R (i / n) (i % n) (get_or table i 0))
+-- where the entry at each place stands in R to its row and its column, the entry of row a and column b stands in R to a
+-- and b
+pub get_or-row : (n : ℕ) (R : ℕ → ℕ → ℕ → Type 0) (table : List ℕ)
+    → ((i : ℕ) → i < n * n → R (i / n) (i % n) (get_or table i 0))
     → (a b : ℕ) → a < n → b < n → R a b (get_or table (a * n + b) 0)
 get_or-row n R table h a b la lb =
     subst₂ (λ x y. R x y (get_or table (a * n + b) 0)) (div-mul-add a n b lb) (mod-mul-add a n b lb)
@@ -44,7 +46,8 @@ rows_below n table h i l =
     subst (λ j. get_or table j 0 < n) place (h (i / n) (i % n) ((div-lt_iff_lt-mul pos).1 l) (mod_below i n pos))
   where
     positive : (m : ℕ) → i < m * m → 0 < m
-    positive m h = ⊎_elim (λ (z : m < 1). let e : m ≡ 0 = omega arith in let g : i < 0 * m = subst (λ x. i < x * m) e h in omega arith)
+    positive m h = ⊎_elim
+        (λ (z : m < 1). let e : m ≡ 0 = omega arith in let g : i < 0 * m = subst (λ x. i < x * m) e h in omega arith)
         (λ (z : 1 ≤ m). omega arith) (cases_lt m 1)
 
 -- one more entry

@@ -1,7 +1,8 @@
 -- The digits of t times a number.
 use Rattle.std.specs.Prelude.{◌≡◌, ℕ, suc, ◌+◌, ◌-◌, ◌*◌, ◌/◌, ◌%◌, ◌^◌, ◌<◌, ◌≤◌, List, length, get_or}
 use Rattle.std.proofs.Common.{sym, ◌∙◌, ap, ap₂, arith}
-use Rattle.std.proofs.Math.Nat.{add-mul, sub-add_cancel, div-lt_iff_lt-mul, mul-lt-mul_of_pos_left, mul-div_cancel_left, mod-eq_of_lt, mod-add-mod, mul-add-mod_self_left, one-le-pow, mul-le-mul}
+use Rattle.std.proofs.Math.Nat.{add-mul, sub-add_cancel, div-lt_iff_lt-mul, mul-lt-mul_of_pos_left, mul-div_cancel_left}
+use Rattle.std.proofs.Math.Nat.{mod-eq_of_lt, mod-add-mod, mul-add-mod_self_left, one-le-pow, mul-le-mul}
 use Rattle.std.proofs.lemmas.Nat.{mod_below}
 use Rattle.theory_rings.specs.Digits.{digit, of_digits}
 use Rattle.theory_rings.specs.FieldByDigits.{IsProductByDigits}
@@ -28,12 +29,14 @@ module _ (p : ℕ) (m : List ℕ) (fits : FitsField p m) (a : ℕ) (la : a < p ^
           ∙ ap (λ x. digit p x (length m - 1)) (mul-div_cancel_left a (positive p m fits))
 
       small : (p * a) / p ^ length m < p
-      small = (div-lt_iff_lt-mul (one-le-pow (length m) p (positive p m fits))).1 (mul-lt-mul_of_pos_left la (positive p m fits))
+      small = (div-lt_iff_lt-mul (one-le-pow (length m) p (positive p m fits))).1
+          (mul-lt-mul_of_pos_left la (positive p m fits))
 
   pub product_by_t_digits : IsProductByDigits p m p a (of_digits p (length m) (digit_by_t p m a))
   product_by_t_digits = product-t p fits.least m a (of_digits p (length m) (digit_by_t p m a)) fits.some_number la
       (of_digits_lt p (positive p m fits) (length m) (digit_by_t p m a) small)
-      (λ k l. ap (λ x. (x + get_or m k 0 * top) % p) (digit-of_digits p (positive p m fits) (length m) (digit_by_t p m a) small k l)
+      (λ k l. ap (λ x. (x + get_or m k 0 * top) % p)
+      (digit-of_digits p (positive p m fits) (length m) (digit_by_t p m a) small k l)
       ∙ mod-add-mod (digit p (p * a) k + (p - get_or m k 0) * top) p (get_or m k 0 * top)
       ∙ ap (λ x. x % p) (whole k l) ∙ mul-add-mod_self_left p top (digit p (p * a) k)
       ∙ mod-eq_of_lt (digit_lt p (positive p m fits) (p * a) k))

@@ -1,6 +1,6 @@
--- The field of q = p^d elements by digits: the numbers below q, each read as d digits to the base p, lowest first, which
--- are the coefficients of a polynomial over Z/p. The sum goes digit by digit modulo p, the product is the remainder of
--- the product of the polynomials by the modulus. (Lidl and Niederreiter, Finite Fields, section 1.4.)
+-- The field of q = p^d elements by digits: the numbers below q, each read as d digits to the base p, lowest first,
+-- which are the coefficients of a polynomial over Z/p. The sum goes digit by digit modulo p, the product is the
+-- remainder of the product of the polynomials by the modulus. (Lidl and Niederreiter, Finite Fields, section 1.4.)
 use Rattle.std.specs.Prelude.{ℕ, ◌^◌, ◌<◌, ◌≤◌, List, length, All}
 use Rattle.theory_rings.specs.FieldByDigits.{IsProductByDigits}
 

@@ -2,7 +2,9 @@
 use Rattle.std.specs.Prelude.{◌≡◌, ◌≢◌, ℕ, ◌*◌, ◌<◌, ◌≤◌, List, length}
 use Rattle.spl_field.specs.Tables.{entry_at, AreElements}
 use Rattle.spl_field.specs.declared.laws.Law.{Law}
-use Rattle.spl_field.specs.declared.laws.Law.TheVariants.{SumAssociative, SumCommutative, Zero, Negative, ProductAssociative, ProductCommutative, One, Distributive, Inverse}
+use Rattle.spl_field.specs.declared.laws.Law.TheVariants.{SumAssociative, SumCommutative, Zero, Negative}
+use Rattle.spl_field.specs.declared.laws.Law.TheVariants.{ProductAssociative, ProductCommutative, One, Distributive}
+use Rattle.spl_field.specs.declared.laws.Law.TheVariants.{Inverse}
 use Rattle.spl_field.specs.declared.laws.LawAt.{LawAt}
 
 -- what tables have to be for their laws to be asked: q is 2 to 256, both are full, and their entries are below q

@@ -10,13 +10,15 @@ use Rattle.theory_rings.proofs.FiniteFields.RingByDigits.{field_by_digits_laws}
 use Rattle.spl_field.specs.Tables.{entry_at, table_ops, AreElements, AreSums, AreNegatives, AreProducts, AreInverses}
 
 -- a product is known where it is known that there is one
-pub product_of_merely : (p : ℕ) (two_le : 2 ≤ p) (m : List ℕ) (a b c : ℕ) → ∥ IsProductByDigits p m a b c ∥₁ → IsProductByDigits p m a b c
+pub product_of_merely : (p : ℕ) (two_le : 2 ≤ p) (m : List ℕ) (a b c : ℕ) → ∥ IsProductByDigits p m a b c ∥₁
+    → IsProductByDigits p m a b c
 product_of_merely p two_le m a b c h =
     let s = product_exists p two_le m a b in
     subst (IsProductByDigits p m a b)
     (∥∥₁_elim h (ℕ_set s.0 c) (λ t. product_unique p two_le m a b s.0 c s.1 t)) s.1
 
-module _ (p : ℕ) (two_le : 2 ≤ p) (m : List ℕ) (d : 1 ≤ length m) (q : ℕ) (size : q ≡ p ^ length m) (sums negatives products inverses : List ℕ)
+module _ (p : ℕ) (two_le : 2 ≤ p) (m : List ℕ) (d : 1 ≤ length m) (q : ℕ) (size : q ≡ p ^ length m)
+    (sums negatives products inverses : List ℕ)
     (S : AreSums p m q sums) (below_negatives : AreElements q q negatives) (N : AreNegatives p m q negatives)
     (P : AreProducts p m q products) (below_inverses : AreElements q q inverses) (I : AreInverses p m q inverses) where
   abbrev o : Ops ℕ
@@ -36,7 +38,8 @@ module _ (p : ℕ) (two_le : 2 ≤ p) (m : List ℕ) (d : 1 ≤ length m) (q : �
     add-neg = λ a la. N a (within a la);
     mul = λ a b la lb. product_of_merely p two_le m a b (entry_at q products a b) (P a b (within a la) (within b lb));
     inv = λ a la. subst (λ n. slice_index inverses a < n) size (below_inverses a (within a la));
-    mul-inv = λ a la n. product_of_merely p two_le m a (slice_index inverses a) 1 (I a (pos_of_ne-zero n) (within a la));
+    mul-inv = λ a la n. product_of_merely p two_le m a (slice_index inverses a) 1
+        (I a (pos_of_ne-zero n) (within a la));
   }
 
   pub field_laws : FieldLaws o

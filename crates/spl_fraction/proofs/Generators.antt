@@ -11,13 +11,16 @@ use Rattle.theory_fractions.proofs.Coefficients.{convolution_of-elem}
 use Rattle.spl_lattice.specs.Ideal.{IsGenerator}
 
 -- two items that were pushed
-pub two_pushed : {X : Type 0} (none one two : List X) (a a' b b' : X) → none ≡ [] → a' ≡ a → one ≡ none ++ a' ∷ [] → b' ≡ b → two ≡ one ++ b' ∷ []
+pub two_pushed : {X : Type 0} (none one two : List X) (a a' b b' : X) → none ≡ [] → a' ≡ a → one ≡ none ++ a' ∷ []
+    → b' ≡ b → two ≡ one ++ b' ∷ []
     → two ≡ a ∷ b ∷ []
-two_pushed none one two a a' b b' e ea e1 eb e2 = e2 ∙ ap₂ (λ xs y. xs ++ y ∷ []) (e1 ∙ ap₂ (λ xs y. xs ++ y ∷ []) e ea) eb
+two_pushed none one two a a' b b' e ea e1 eb e2 = e2
+    ∙ ap₂ (λ xs y. xs ++ y ∷ []) (e1 ∙ ap₂ (λ xs y. xs ++ y ∷ []) e ea) eb
 
 module _ {E : Type 0} (o : Ops E) (L : FieldLaws o) where
   -- the generator of the ideal of two
-  pub common_divisor_of_generator : (list multipliers : List (List E)) (a b g : List E) → list ≡ a ∷ b ∷ [] → IsOver o a → IsOver o b
+  pub common_divisor_of_generator : (list multipliers : List (List E)) (a b g : List E) → list ≡ a ∷ b ∷ []
+      → IsOver o a → IsOver o b
       → IsGenerator o list multipliers g → All (IsOver o) multipliers → IsCommonDivisor o a b g
   common_divisor_of_generator list multipliers a b g e ha hb d all = go (subst (λ l. IsGenerator o l multipliers g) e d)
     where

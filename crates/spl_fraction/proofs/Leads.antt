@@ -12,7 +12,8 @@ pub lead_nonzero : (xs : List ℕ) (n r : ℕ) → IsTrimmed 0 xs → suc n ≡ 
 lead_nonzero xs n r t e read z =
     let place : length xs - 1 ≡ n = omega arith in
     let below : n < length xs = omega arith in
-    last-ne-zero_of_pos 0 xs t (omega arith) (ap (λ i. get_or xs i 0) place ∙ sym (read ∙ get_or_default xs n r 0 below) ∙ z)
+    last-ne-zero_of_pos 0 xs t (omega arith)
+    (ap (λ i. get_or xs i 0) place ∙ sym (read ∙ get_or_default xs n r 0 below) ∙ z)
 
 module _ {E : Type 0} (o : Ops E) (L : FieldLaws o) where
   pub inverse_mul : (a b : E) → IsElem o a → a ≢ o.zero → b ≡ o.inv a → o.mul b a ≡ o.one

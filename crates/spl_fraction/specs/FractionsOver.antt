@@ -11,7 +11,8 @@ use Rattle.theory_fractions.proofs.FractionField.{fraction_laws}
 -- the laws of a small field
 pub small_laws : (f : SmallField) → FieldLaws (small_ops f)
 small_laws f =
-    field_laws f.p f.least f.modulus.items f.some_number f.size f.power f.sums.items f.negatives.items f.products.items f.inverses.items
+    field_laws f.p f.least f.modulus.items f.some_number f.size f.power f.sums.items f.negatives.items f.products.items
+    f.inverses.items
     f.sums_are f.negatives_below f.negatives_are f.products_are f.inverses_below f.inverses_are
 
 -- the operations of the fractions

@@ -10,7 +10,8 @@ module _ {E : Type 0} (o : Ops E) where
   -- v is the sum of multiplier times element
   abbrev pub IsCombination : List (List E) → List (List E) → List E → Type 0
   IsCombination list multipliers v =
-      (k : ℕ) → at o v k ≡ sum_of o (length list) (λ i. convolution_of o (at o (get_or multipliers i [])) (at o (get_or list i [])) k)
+      (k : ℕ) → at o v k ≡ sum_of o (length list)
+      (λ i. convolution_of o (at o (get_or multipliers i [])) (at o (get_or list i [])) k)
 
   -- the value is 0 or monic, divides each polynomial of the list, and is their combination by the multipliers
   pub record IsGenerator (list multipliers : List (List E)) (value : List E) : Type 0 where

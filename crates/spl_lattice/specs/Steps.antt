@@ -12,7 +12,8 @@ module _ {E : Type 0} (o : Ops E) where
 
   -- v = s · a + t · b
   abbrev pub IsCombinationOfTwo : List E → List E → List E → List E → List E → Type 0
-  IsCombinationOfTwo a b s t v = (k : ℕ) → at o v k ≡ o.add (convolution_of o (at o s) (at o a) k) (convolution_of o (at o t) (at o b) k)
+  IsCombinationOfTwo a b s t v = (k : ℕ)
+      → at o v k ≡ o.add (convolution_of o (at o s) (at o a) k) (convolution_of o (at o t) (at o b) k)
 
   -- r = a + m · b
   abbrev pub IsSumWithMultiple : List E → List E → List E → List E → Type 0
@@ -37,9 +38,10 @@ module _ {E : Type 0} (o : Ops E) where
     pub count : length multiples ≡ length items
     pub product : (i : ℕ) → i < length items → IsProduct o u (get_or items i []) (get_or multiples i [])
 
-  -- the value and the multipliers with one more polynomial b: the earlier multipliers are multiplied by the multiplier of
-  -- the earlier value, and that of b stands at the end
-  pub record IsExtension (value : List E) (multipliers : List (List E)) (b new_value : List E) (new_multipliers : List (List E)) : Type 0 where
+  -- the value and the multipliers with one more polynomial b: the earlier multipliers are multiplied by the multiplier
+  -- of the earlier value, and that of b stands at the end
+  pub record IsExtension (value : List E) (multipliers : List (List E)) (b new_value : List E)
+      (new_multipliers : List (List E)) : Type 0 where
     pub left : List E
     pub right : List E
     pub left_over : IsOver o left
@@ -50,7 +52,8 @@ module _ {E : Type 0} (o : Ops E) where
     pub pushed : new_multipliers ≡ products ++ right ∷ []
 
   -- u is the inverse of the leading coefficient of the value, and all is multiplied by it
-  pub record IsMultiple (value : List E) (multipliers : List (List E)) (new_value : List E) (new_multipliers : List (List E)) : Type 0 where
+  pub record IsMultiple (value : List E) (multipliers : List (List E)) (new_value : List E)
+      (new_multipliers : List (List E)) : Type 0 where
     pub unit : List E
     pub over : IsOver o unit
     pub product : IsProduct o unit value new_value

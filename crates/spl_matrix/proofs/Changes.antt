@@ -17,7 +17,8 @@ pub ChangedBelow-none : {X : Type 0} (d : X) (old : List X) (f : ℕ → X) → 
 ChangedBelow-none d old f = record { same_length = refl; done = λ j l. absurd (omega arith); rest = λ j _. refl }
 
 -- the item at k is written
-pub ChangedBelow-set : {X : Type 0} (d : X) (k : ℕ) (old new : List X) (f : ℕ → X) (y : X) → k < length new → ChangedBelow d k old new f
+pub ChangedBelow-set : {X : Type 0} (d : X) (k : ℕ) (old new : List X) (f : ℕ → X) (y : X) → k < length new
+    → ChangedBelow d k old new f
     → y ≡ f k → ChangedBelow d (k + 1) old (set new k y) f
 ChangedBelow-set d k old new f y l a e = record {
   same_length = length-set new k y ∙ a.same_length;
@@ -37,7 +38,8 @@ ChangedBelow-skip d k old new f a e = record {
 }
 
 -- each item is changed
-pub ChangedBelow-all : {X : Type 0} (d : X) (n : ℕ) (old new : List X) (f : ℕ → X) → length old ≡ n → ChangedBelow d n old new f → new ≡ table n f
+pub ChangedBelow-all : {X : Type 0} (d : X) (n : ℕ) (old new : List X) (f : ℕ → X) → length old ≡ n
+    → ChangedBelow d n old new f → new ≡ table n f
 ChangedBelow-all d n old new f long a =
     ext_get_or d new (table n f) (a.same_length ∙ long ∙ sym (length-table n f)) (λ k l.
     let m : k < n = omega (arith, a.same_length) in a.done k m ∙ sym (get_or-table n f k d m))

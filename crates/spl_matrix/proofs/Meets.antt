@@ -10,21 +10,23 @@ use Rattle.theory_rings.proofs.Rings.RingLaws as ring
 use Rattle.theory_rings.proofs.Rings.Solver.{◌⊠◌, minus, unit, ring2}
 use Rattle.theory_rings.proofs.Sums.Lists.{length-table, get_or-table}
 use Rattle.theory_spaces.specs.Tuples.{IsTuple}
-use Rattle.theory_spaces.proofs.Families.{join, join-below, join-above}
-use Rattle.theory_spaces.proofs.Tuples.{at-table, IsTuple-table}
+use Rattle.theory_spaces.proofs.Linear.Families.{join, join-below, join-above}
+use Rattle.theory_spaces.proofs.Tuples.Tuples.{at-table, IsTuple-table}
 use Rattle.theory_tables.specs.Matrix.{entry, IsMatrix}
 use Rattle.theory_tables.specs.Echelon.{IsReduced}
 use Rattle.theory_tables.specs.Subspace.{InSpan, SameSpan, IsReducedBasis, SpansMeet}
 use Rattle.spl_matrix.specs.Spanning.{doubled_item, doubled, right_part}
-use Rattle.theory_tables.proofs.Terms.{add-zero, add-neg, mul-zero, zero-mul, cond_yes, cond_no, cond_either}
-use Rattle.theory_tables.proofs.Sums.{sum_of_zeros, mul-sum_of, entry-elem, table_matrix, entry_table}
-use Rattle.theory_tables.proofs.Spans.{combined, combined_congr, InSpan-by, InSpan-member, InSpan_trans, sum_of-split}
-use Rattle.theory_tables.proofs.Stacks.{entry-left, combined-stacked, combined-elem, join-elem}
+use Rattle.theory_tables.proofs.Rows.Terms.{add-zero, add-neg, mul-zero, zero-mul, cond_yes, cond_no, cond_either}
+use Rattle.theory_tables.proofs.Rows.Sums.{sum_of_zeros, mul-sum_of, entry-elem, table_matrix, entry_table}
+use Rattle.theory_tables.proofs.Rows.Spans.{combined, combined_congr, InSpan-by, InSpan-member, InSpan_trans}
+use Rattle.theory_tables.proofs.Rows.Spans.{sum_of-split}
+use Rattle.theory_tables.proofs.Rows.Stacks.{entry-left, combined-stacked, combined-elem, join-elem}
 use Rattle.spl_matrix.proofs.ReducedBases.{weights-pivot}
 
 module _ {E : Type 0} (o : Ops E) (L : FieldLaws o) where
   -- the opposite of a combination
-  pub combined-neg : (w : ℕ) (rows : List (List E)) → IsMatrix o w rows → (c : ℕ → E) → ((i : ℕ) → IsElem o (c i)) → (j : ℕ)
+  pub combined-neg : (w : ℕ) (rows : List (List E)) → IsMatrix o w rows → (c : ℕ → E) → ((i : ℕ) → IsElem o (c i))
+      → (j : ℕ)
       → combined o L rows (λ i. o.neg (c i)) j ≡ o.neg (combined o L rows c j)
   combined-neg w rows shape c c_in j =
       let K = elements o L in
@@ -34,7 +36,8 @@ module _ {E : Type 0} (o : Ops E) (L : FieldLaws o) where
       let f : ℕ → E = λ i. o.mul (c i) (entry o rows i j) in
       let f_in = λ (i : ℕ). L.mul-elem _ _ (c_in i) (e_in i) in
       sum_of_congr o (length rows) (λ i. o.mul (o.neg (c i)) (entry o rows i j)) (λ i. o.mul m (f i))
-      (λ i _. ap (λ x. x.0) (ring2 K.cring (λ c e. (minus c ⊠ e, minus unit ⊠ (c ⊠ e))) refl (c i, c_in i) (entry o rows i j, e_in i)))
+      (λ i _. ap (λ x. x.0)
+      (ring2 K.cring (λ c e. (minus c ⊠ e, minus unit ⊠ (c ⊠ e))) refl (c i, c_in i) (entry o rows i j, e_in i)))
       ∙ sym (mul-sum_of o L (length rows) m f m_in f_in)
       ∙ (let s_in = sum_of-elem o L (length rows) f (λ i _. f_in i) in
       ap (λ x. x.0) (ring2 K.cring (λ s z. (minus unit ⊠ s, minus s)) refl (sum_of o (length rows) f, s_in) K.zero))
@@ -43,9 +46,11 @@ module _ {E : Type 0} (o : Ops E) (L : FieldLaws o) where
   opposite : (x y : E) → IsElem o x → IsElem o y → o.add x y ≡ o.zero → x ≡ o.neg y
   opposite x y x_in y_in e =
       let K = elements o L in
-      ap (λ z. z.0) (ring.neg_unique K.additive (y, y_in) (x, x_in) (Elem-path o (K.◌⊕◌ (y, y_in) (x, x_in)) K.zero (L.add_comm y x y_in x_in ∙ e)))
+      ap (λ z. z.0) (ring.neg_unique K.additive (y, y_in) (x, x_in)
+      (Elem-path o (K.◌⊕◌ (y, y_in) (x, x_in)) K.zero (L.add_comm y x y_in x_in ∙ e)))
 
-module _ {E : Type 0} (o : Ops E) (L : FieldLaws o) (w : ℕ) (a b : List (List E)) (sa : IsMatrix o w a) (sb : IsMatrix o w b) (stacked_shape : IsMatrix o w (a ++ b))
+module _ {E : Type 0} (o : Ops E) (L : FieldLaws o) (w : ℕ) (a b : List (List E)) (sa : IsMatrix o w a)
+    (sb : IsMatrix o w b) (stacked_shape : IsMatrix o w (a ++ b))
     (twice_shape : IsMatrix o (w + w) (doubled o w (length a) (a ++ b))) where
   abbrev both : List (List E)
   both = a ++ b
@@ -54,26 +59,33 @@ module _ {E : Type 0} (o : Ops E) (L : FieldLaws o) (w : ℕ) (a b : List (List 
   twice = doubled o w (length a) (a ++ b)
 
   twice_length : length twice ≡ length a + length b
-  twice_length = length-table (length both) (λ i. table (w + w) (doubled_item o w (nat_lt i (length a)) (get_or both i []))) ∙ length-append a b
+  twice_length = length-table (length both)
+      (λ i. table (w + w) (doubled_item o w (nat_lt i (length a)) (get_or both i []))) ∙ length-append a b
 
-  twice_at : (m j : ℕ) → m < length a + length b → j < w + w → entry o twice m j ≡ doubled_item o w (nat_lt m (length a)) (get_or both m []) j
+  twice_at : (m j : ℕ) → m < length a + length b → j < w + w
+      → entry o twice m j ≡ doubled_item o w (nat_lt m (length a)) (get_or both m []) j
   twice_at m j m_in j_in =
       let long = length-append a b in
       let m_in' : m < length both = omega arith in
-      entry_table o L (length both) (w + w) (λ i. doubled_item o w (nat_lt i (length a)) (get_or both i [])) m j m_in' j_in
+      entry_table o L (length both) (w + w)
+      (λ i. doubled_item o w (nat_lt i (length a)) (get_or both i [])) m j m_in' j_in
 
   twice_low : (m j : ℕ) → m < length a + length b → j < w → entry o twice m j ≡ entry o both m j
   twice_low m j m_in j_in =
       let j_in' : j < w + w = omega arith in
-      twice_at m j m_in j_in' ∙ ap (λ t. cond t (entry o both m j) (cond (nat_lt m (length a)) (entry o both m (j - w)) o.zero)) (lt-ltb j w j_in)
+      twice_at m j m_in j_in'
+      ∙ ap (λ t. cond t (entry o both m j) (cond (nat_lt m (length a)) (entry o both m (j - w)) o.zero))
+      (lt-ltb j w j_in)
 
-  twice_high : (m j : ℕ) → m < length a + length b → j < w → entry o twice m (w + j) ≡ cond (nat_lt m (length a)) (entry o both m j) o.zero
+  twice_high : (m j : ℕ) → m < length a + length b → j < w
+      → entry o twice m (w + j) ≡ cond (nat_lt m (length a)) (entry o both m j) o.zero
   twice_high m j m_in j_in =
       let j_in' : w + j < w + w = omega arith in
       let j_high : w ≤ w + j = omega arith in
       let back : w + j - w ≡ j = omega arith in
       twice_at m (w + j) m_in j_in'
-      ∙ ap (λ t. cond t (entry o both m (w + j)) (cond (nat_lt m (length a)) (entry o both m (w + j - w)) o.zero)) (le-ltb (w + j) w j_high)
+      ∙ ap (λ t. cond t (entry o both m (w + j)) (cond (nat_lt m (length a)) (entry o both m (w + j - w)) o.zero))
+      (le-ltb (w + j) w j_high)
       ∙ ap (λ k. cond (nat_lt m (length a)) (entry o both m k) o.zero) back
 
   both_in : (i j : ℕ) → IsElem o (entry o both i j)
@@ -83,15 +95,18 @@ module _ {E : Type 0} (o : Ops E) (L : FieldLaws o) (w : ℕ) (a b : List (List 
   twice_in = entry-elem o L (w + w) twice twice_shape
 
   -- the left half of a combination
-  combined-low : (y : ℕ → E) → ((i : ℕ) → IsElem o (y i)) → (j : ℕ) → j < w → combined o L twice y j ≡ o.add (combined o L a y j) (combined o L b (λ i. y (length a + i)) j)
+  combined-low : (y : ℕ → E) → ((i : ℕ) → IsElem o (y i)) → (j : ℕ) → j < w
+      → combined o L twice y j ≡ o.add (combined o L a y j) (combined o L b (λ i. y (length a + i)) j)
   combined-low y y_in j j_in =
       ap (λ (n : ℕ). sum_of o n (λ m. o.mul (y m) (entry o twice m j))) twice_length
-      ∙ sum_of_congr o (length a + length b) (λ m. o.mul (y m) (entry o twice m j)) (λ m. o.mul (y m) (entry o both m j)) (λ m m_in. ap (o.mul (y m)) (twice_low m j m_in j_in))
+      ∙ sum_of_congr o (length a + length b) (λ m. o.mul (y m) (entry o twice m j))
+      (λ m. o.mul (y m) (entry o both m j)) (λ m m_in. ap (o.mul (y m)) (twice_low m j m_in j_in))
       ∙ ap (λ (n : ℕ). sum_of o n (λ m. o.mul (y m) (entry o both m j))) (sym (length-append a b))
       ∙ combined-stacked o L w a b sa sb y y_in both_in j
 
   -- the right half of a combination
-  combined-high : (y : ℕ → E) → ((i : ℕ) → IsElem o (y i)) → (j : ℕ) → j < w → combined o L twice y (w + j) ≡ combined o L a y j
+  combined-high : (y : ℕ → E) → ((i : ℕ) → IsElem o (y i)) → (j : ℕ) → j < w
+      → combined o L twice y (w + j) ≡ combined o L a y j
   combined-high y y_in j j_in =
       let f : ℕ → E = λ m. o.mul (y m) (entry o twice m (w + j)) in
       ap (λ (n : ℕ). sum_of o n f) twice_length
@@ -99,17 +114,23 @@ module _ {E : Type 0} (o : Ops E) (L : FieldLaws o) (w : ℕ) (a b : List (List 
       ∙ ap₂ o.add
       (sum_of_congr o (length a) f (λ m. o.mul (y m) (entry o a m j)) (λ m m_in.
       let m_in' : m < length a + length b = omega arith in
-      ap (o.mul (y m)) (twice_high m j m_in' j_in ∙ ap (λ t. cond t (entry o both m j) o.zero) (lt-ltb m (length a) m_in) ∙ entry-left o L w a b sa sb m j m_in)))
+      ap (o.mul (y m)) (twice_high m j m_in' j_in
+      ∙ ap (λ t. cond t (entry o both m j) o.zero) (lt-ltb m (length a) m_in)
+      ∙ entry-left o L w a b sa sb m j m_in)))
       (sum_of_congr o (length b) (λ m. f (length a + m)) (λ _. o.zero) (λ m m_in.
       let m_in' : length a + m < length a + length b = omega arith in
       let high : length a ≤ length a + m = omega arith in
-      ap (o.mul (y (length a + m))) (twice_high (length a + m) j m_in' j_in ∙ ap (λ t. cond t (entry o both (length a + m) j) o.zero) (le-ltb (length a + m) (length a) high))
+      ap (o.mul (y (length a + m)))
+      (twice_high (length a + m) j m_in' j_in
+      ∙ ap (λ t. cond t (entry o both (length a + m) j) o.zero) (le-ltb (length a + m) (length a) high))
       ∙ mul-zero o L (y (length a + m)) (y_in (length a + m)))
       ∙ sum_of_zeros o L (length b))
       ∙ add-zero o L (combined o L a y j) (combined-elem o L w a b sa sb a sa y y_in j)
 
-  module _ (rows : List (List E)) (pivots : List ℕ) (shape : IsMatrix o (w + w) rows) (each : length pivots ≡ length rows) (form : IsReduced o (length rows) rows pivots (w + w))
-      (same : SameSpan o (w + w) twice rows) (k : ℕ) (k_in : k ≤ length pivots) (below : (s : ℕ) → s < k → get_or pivots s 0 < w) (above : k < length pivots → w ≤ get_or pivots k 0) where
+  module _ (rows : List (List E)) (pivots : List ℕ) (shape : IsMatrix o (w + w) rows)
+      (each : length pivots ≡ length rows) (form : IsReduced o (length rows) rows pivots (w + w))
+      (same : SameSpan o (w + w) twice rows) (k : ℕ) (k_in : k ≤ length pivots)
+      (below : (s : ℕ) → s < k → get_or pivots s 0 < w) (above : k < length pivots → w ≤ get_or pivots k 0) where
     abbrev common : List (List E)
     common = right_part o w k rows
 
@@ -123,12 +144,15 @@ module _ {E : Type 0} (o : Ops E) (L : FieldLaws o) (w : ℕ) (a b : List (List 
     common_at i j i_in j_in = entry_table o L (length rows - k) w (λ i j. entry o rows (k + i) (w + j)) i j i_in j_in
 
     common_shape : IsMatrix o w common
-    common_shape = table_matrix o L (length rows - k) w (λ i j. entry o rows (k + i) (w + j)) (λ i j. rows_elem (k + i) (w + j))
+    common_shape = table_matrix o L (length rows - k) w (λ i j. entry o rows (k + i) (w + j))
+        (λ i j. rows_elem (k + i) (w + j))
 
     high_pivot : (s : ℕ) → k ≤ s → s < length pivots → w ≤ get_or pivots s 0
     high_pivot s high s_in = ⊎_elim
-        (λ (e : s ≡ k). let first : k < length pivots = omega arith in let x = above first in let q = ap (λ (t : ℕ). get_or pivots t 0) e in omega arith)
-        (λ (d : s ≢ k). let first : k < length pivots = omega arith in let x = above first in let less : k < s = omega arith in let y = form.order k s less s_in in omega arith)
+        (λ (e : s ≡ k). let first : k < length pivots = omega arith in let x = above first in let q =
+        ap (λ (t : ℕ). get_or pivots t 0) e in omega arith)
+        (λ (d : s ≢ k). let first : k < length pivots = omega arith in let x = above first in let less : k < s =
+        omega arith in let y = form.order k s less s_in in omega arith)
         (cases_eq s k)
 
     abbrev shifted : List ℕ
@@ -180,8 +204,10 @@ module _ {E : Type 0} (o : Ops E) (L : FieldLaws o) (w : ℕ) (a b : List (List 
               ap (entry o common i) (shifted_at s s_in') ∙ common_at i (get_or pivots (k + s) 0 - w) i_in' q_in
               ∙ ap (entry o rows (k + i)) back ∙ form.unit (k + s) (k + i) s_piv i_row
               ∙ ⊎_elim
-              (λ (e : i ≡ s). cond_yes (k + i) (k + s) o.one o.zero (ap (λ t. k + t) e) ∙ sym (cond_yes i s o.one o.zero e))
-              (λ (d : i ≢ s). let d' : k + i ≢ k + s = omega arith in cond_no (k + i) (k + s) o.one o.zero d' ∙ sym (cond_no i s o.one o.zero d))
+              (λ (e : i ≡ s). cond_yes (k + i) (k + s) o.one o.zero (ap (λ t. k + t) e)
+              ∙ sym (cond_yes i s o.one o.zero e))
+              (λ (d : i ≢ s). let d' : k + i ≢ k + s = omega arith in cond_no (k + i) (k + s) o.one o.zero d'
+              ∙ sym (cond_no i s o.one o.zero d))
               (cases_eq i s);
           left = λ s j s_in j_low.
               let s_in' : s < length rows - k = omega arith in
@@ -197,7 +223,13 @@ module _ {E : Type 0} (o : Ops E) (L : FieldLaws o) (w : ℕ) (a b : List (List 
         }
 
     pub common_basis : IsReducedBasis o w common
-    common_basis = record { shape = common_shape; pivots = shifted; each = shifted_length ∙ sym common_length; reduced = common_form }
+    common_basis = record {
+      shape = common_shape;
+      pivots = shifted;
+      each = shifted_length
+          ∙ sym common_length;
+      reduced = common_form;
+    }
 
     -- each of the rows is in both spans
     row_weights : (i : ℕ) → i < length rows - k → InSpan o (w + w) twice (get_or rows (k + i) [])
@@ -229,7 +261,8 @@ module _ {E : Type 0} (o : Ops E) (L : FieldLaws o) (w : ℕ) (a b : List (List 
         let j_low : j < w + w = omega arith in
         let j_left : j < get_or pivots (k + i) 0 = omega arith in
         common_at i j i_in j_in ∙ h.2 (w + j) j_in' ∙ combined-high x x_in j j_in
-        ∙ opposite o L (combined o L a x j) (combined o L b y j) (combined-elem o L w a b sa sb a sa x x_in j) (combined-elem o L w a b sa sb b sb y y_in j)
+        ∙ opposite o L (combined o L a x j) (combined o L b y j) (combined-elem o L w a b sa sb a sa x x_in j)
+        (combined-elem o L w a b sa sb b sb y y_in j)
         (sym (combined-low x x_in j j_in) ∙ sym (h.2 j j_low) ∙ form.left (k + i) j i_piv j_left)
         ∙ sym (combined-neg o L w b sb y y_in j))
 
@@ -250,7 +283,8 @@ module _ {E : Type 0} (o : Ops E) (L : FieldLaws o) (w : ℕ) (a b : List (List 
         let y = join (length a) c e in
         let y_in = join-elem o L w a b sa sb c e c_in e_in in
         let u = table (w + w) (beside_zero v) in
-        let u_in : (j : ℕ) → IsElem o (beside_zero v j) = λ j. cond_either (IsElem o) (nat_lt j w) o.zero (at o v (j - w)) L.zero-elem (v_in (j - w)) in
+        let u_in : (j : ℕ) → IsElem o (beside_zero v j) = λ j.
+        cond_either (IsElem o) (nat_lt j w) o.zero (at o v (j - w)) L.zero-elem (v_in (j - w)) in
         let u_tuple : IsTuple o (w + w) u = IsTuple-table o (w + w) (beside_zero v) (λ j _. u_in j) in
         let u_low : (j : ℕ) → j < w → at o u j ≡ o.zero = λ j j_in.
         let j_in' : j < w + w = omega arith in
@@ -259,17 +293,23 @@ module _ {E : Type 0} (o : Ops E) (L : FieldLaws o) (w : ℕ) (a b : List (List 
         let j_in' : w + j < w + w = omega arith in
         let high : w ≤ w + j = omega arith in
         let back : w + j - w ≡ j = omega arith in
-        at-table o (w + w) (beside_zero v) (w + j) j_in' ∙ ap (λ t. cond t o.zero (at o v (w + j - w))) (le-ltb (w + j) w high) ∙ ap (at o v) back in
-        let left_is : (j : ℕ) → j < w → combined o L a y j ≡ at o v j = λ j j_in. combined_congr o L a y c j (join-below (length a) c e) ∙ sym (ha.2 j j_in) in
+        at-table o (w + w) (beside_zero v) (w + j) j_in'
+        ∙ ap (λ t. cond t o.zero (at o v (w + j - w))) (le-ltb (w + j) w high) ∙ ap (at o v) back in
+        let left_is : (j : ℕ) → j < w
+        → combined o L a y j ≡ at o v j = λ j j_in. combined_congr o L a y c j (join-below (length a) c e)
+        ∙ sym (ha.2 j j_in) in
         let right_is : (j : ℕ) → j < w → combined o L b (λ m. y (length a + m)) j ≡ o.neg (at o v j) = λ j j_in.
         combined_congr o L b (λ m. y (length a + m)) e j (λ m _. join-above (length a) c e m)
         ∙ combined-neg o L w b sb d d_in j ∙ ap o.neg (sym (hb.2 j j_in)) in
         let in_twice : InSpan o (w + w) twice u = InSpan-by o L (w + w) twice u y y_in (λ j j_in. ⊎_elim
-        (λ (low : j < w). u_low j low ∙ sym (combined-low y y_in j low ∙ ap₂ o.add (left_is j low) (right_is j low) ∙ add-neg o L (at o v j) (v_in j)))
+        (λ (low : j < w). u_low j low
+        ∙ sym (combined-low y y_in j low ∙ ap₂ o.add (left_is j low) (right_is j low)
+        ∙ add-neg o L (at o v j) (v_in j)))
         (λ (high : w ≤ j).
         let there : w + (j - w) ≡ j = omega arith in
         let i_in : j - w < w = omega arith in
-        ap (at o u) (sym there) ∙ u_high (j - w) i_in ∙ sym (left_is (j - w) i_in) ∙ sym (combined-high y y_in (j - w) i_in) ∙ ap (combined o L twice y) there)
+        ap (at o u) (sym there) ∙ u_high (j - w) i_in ∙ sym (left_is (j - w) i_in)
+        ∙ sym (combined-high y y_in (j - w) i_in) ∙ ap (combined o L twice y) there)
         (cases_lt j w)) in
         let z = (same u u_tuple).0 in_twice in
         let x = at o z.0 in
@@ -289,30 +329,39 @@ module _ {E : Type 0} (o : Ops E) (L : FieldLaws o) (w : ℕ) (a b : List (List 
         (sum_of_congr o k f (λ _. o.zero) (λ m m_in.
         let m_row : m < length rows = omega arith in
         let low = below m m_in in
-        ap (λ t. o.mul t (entry o rows m (w + j))) (weights-pivot o L (w + w) rows shape pivots each form u z m m_row ∙ u_low (get_or pivots m 0) low)
+        ap (λ t. o.mul t (entry o rows m (w + j)))
+        (weights-pivot o L (w + w) rows shape pivots each form u z m m_row ∙ u_low (get_or pivots m 0) low)
         ∙ zero-mul o L (entry o rows m (w + j)) (rows_elem m (w + j)))
         ∙ sum_of_zeros o L k)
-        (sum_of_congr o (length rows - k) tail (λ i. o.mul (x (k + i)) (entry o common i j)) (λ i i_in. ap (o.mul (x (k + i))) (sym (common_at i j i_in j_in)))
+        (sum_of_congr o (length rows - k) tail (λ i. o.mul (x (k + i)) (entry o common i j))
+        (λ i i_in. ap (o.mul (x (k + i))) (sym (common_at i j i_in j_in)))
         ∙ ap (λ (n : ℕ). sum_of o n (λ i. o.mul (x (k + i)) (entry o common i j))) (sym lc))
-        ∙ L.zero-add (combined o L common (λ i. x (k + i)) j) (combined-elem o L w a b sa sb common common_shape (λ i. x (k + i)) (λ i. x_in (k + i)) j))
+        ∙ L.zero-add (combined o L common (λ i. x (k + i)) j)
+        (combined-elem o L w a b sa sb common common_shape (λ i. x (k + i)) (λ i. x_in (k + i)) j))
 
     pub common_meet : SpansMeet o w common a b
     common_meet v tuple =
         let lc = common_length in (
           (λ (s : InSpan o w common v). (
-            InSpan_trans o L w common a v sa (λ i i_in. let i_in' : i < length rows - k = omega arith in in_left i i_in') s,
-            InSpan_trans o L w common b v sb (λ i i_in. let i_in' : i < length rows - k = omega arith in in_right i i_in') s,
+            InSpan_trans o L w common a v sa
+                (λ i i_in. let i_in' : i < length rows - k = omega arith in in_left i i_in') s,
+            InSpan_trans o L w common b v sb
+                (λ i i_in. let i_in' : i < length rows - k = omega arith in in_right i i_in') s,
           )),
           (λ (h : InSpan o w a v × InSpan o w b v). in_common v tuple h.0 h.1),
         )
 
 -- the same, as the calls give it
-pub meet_of : {E : Type 0} (o : Ops E) (L : FieldLaws o) (w : ℕ) (a b stacked twice rows found : List (List E)) (pivots : List ℕ) (p n k : ℕ) → IsMatrix o w a → IsMatrix o w b
-    → IsMatrix o w stacked → stacked ≡ a ++ b → p ≡ length a → IsMatrix o (w + w) twice → twice ≡ doubled o w p stacked → n ≡ w + w
-    → IsMatrix o n rows → length pivots ≡ length rows → IsReduced o (length rows) rows pivots n → SameSpan o n twice rows
+pub meet_of : {E : Type 0} (o : Ops E) (L : FieldLaws o) (w : ℕ) (a b stacked twice rows found : List (List E))
+    (pivots : List ℕ) (p n k : ℕ) → IsMatrix o w a → IsMatrix o w b
+    → IsMatrix o w stacked → stacked ≡ a ++ b → p ≡ length a → IsMatrix o (w + w) twice
+    → twice ≡ doubled o w p stacked → n ≡ w + w
+    → IsMatrix o n rows → length pivots ≡ length rows → IsReduced o (length rows) rows pivots n
+    → SameSpan o n twice rows
     → k ≤ length pivots → ((s : ℕ) → s < k → get_or pivots s 0 < w) → (k < length pivots → w ≤ get_or pivots k 0)
     → found ≡ right_part o w k rows → IsReducedBasis o w found × SpansMeet o w found a b
-meet_of {E} o L w a b stacked twice rows found pivots p n k sa sb stacked_shape stacked_is p_is twice_shape twice_is n_is shape each form same k_in below above found_is =
+meet_of {E} o L w a b stacked twice rows found pivots p n k sa sb stacked_shape stacked_is p_is twice_shape twice_is
+    n_is shape each form same k_in below above found_is =
     let S : List (List E) → Type 0 = λ m. IsMatrix o w m in
     let stacked_shape' = subst S stacked_is stacked_shape in
     let d = doubled o w (length a) (a ++ b) in

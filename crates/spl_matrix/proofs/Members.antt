@@ -4,29 +4,35 @@ use Rattle.std.proofs.Common.{sym, ◌∙◌, ap, subst, arith}
 use Rattle.theory_rings.specs.Ops.{Ops, FieldLaws}
 use Rattle.theory_rings.specs.Sum.{table, at}
 use Rattle.theory_spaces.specs.Tuples.{IsTuple}
-use Rattle.theory_spaces.proofs.Tuples.{at-table}
+use Rattle.theory_spaces.proofs.Tuples.Tuples.{at-table}
 use Rattle.theory_tables.specs.Matrix.{IsMatrix}
 use Rattle.theory_tables.specs.Echelon.{IsReduced}
 use Rattle.theory_tables.specs.Subspace.{InSpan, SameSpan, IsReducedBasis, SpansSum}
-use Rattle.theory_tables.proofs.Spans.{combined, combined_congr}
-use Rattle.theory_tables.proofs.Stacks.{spans_sum}
+use Rattle.theory_tables.proofs.Rows.Spans.{combined, combined_congr}
+use Rattle.theory_tables.proofs.Rows.Stacks.{spans_sum}
 use Rattle.spl_matrix.proofs.ReducedBases.{weights-pivot}
 
 module _ {E : Type 0} (o : Ops E) (L : FieldLaws o) where
   -- a vector is in the span where it is the combination by its items at the pivots
-  combined_iff : (w : ℕ) (rows : List (List E)) (pivots : List ℕ) → IsMatrix o w rows → length pivots ≡ length rows → IsReduced o (length rows) rows pivots w
+  combined_iff : (w : ℕ) (rows : List (List E)) (pivots : List ℕ) → IsMatrix o w rows → length pivots ≡ length rows
+      → IsReduced o (length rows) rows pivots w
       → (v c : List E) → IsTuple o (length rows) c → ((s : ℕ) → s < length rows → at o c s ≡ at o v (get_or pivots s 0))
       → ((j : ℕ) → j < w → at o v j ≡ combined o L rows (at o c) j) ↔ InSpan o w rows v
   combined_iff w rows pivots shape each form v c c_tuple c_at = (
     (λ h. (c, c_tuple, h)),
-    (λ h j j_in. h.2 j j_in ∙ combined_congr o L rows (at o h.0) (at o c) j (λ i i_in. weights-pivot o L w rows shape pivots each form v h i i_in ∙ sym (c_at i i_in))),
+    (λ h j j_in. h.2 j j_in
+        ∙ combined_congr o L rows (at o h.0) (at o c) j
+        (λ i i_in. weights-pivot o L w rows shape pivots each form v h i i_in ∙ sym (c_at i i_in))),
   )
 
   -- the same, as the calls give it
   pub contains_of : (w : ℕ) (rows : List (List E)) (v : List E) (x : IsReducedBasis o w rows) → IsTuple o w v
-      → (rows' : List (List E)) (w' : ℕ) (pivots places : List ℕ) (c c' : List E) → rows' ≡ rows → w' ≡ w → places ≡ pivots → c' ≡ c
-      → length pivots ≡ length rows' → IsReduced o (length rows') rows' pivots w' → IsTuple o (length places) c → c ≡ table (length places) (λ s. at o v (get_or places s 0))
-      → (b : Bool) → (IsTrue b ↔ ((j : ℕ) → j < length v → at o v j ≡ combined o L rows' (at o c') j)) → IsTrue b ↔ InSpan o w rows v
+      → (rows' : List (List E)) (w' : ℕ) (pivots places : List ℕ) (c c' : List E) → rows' ≡ rows → w' ≡ w
+      → places ≡ pivots → c' ≡ c
+      → length pivots ≡ length rows' → IsReduced o (length rows') rows' pivots w' → IsTuple o (length places) c
+      → c ≡ table (length places) (λ s. at o v (get_or places s 0))
+      → (b : Bool) → (IsTrue b ↔ ((j : ℕ) → j < length v → at o v j ≡ combined o L rows' (at o c') j))
+      → IsTrue b ↔ InSpan o w rows v
   contains_of w rows v x tuple rows' w' pivots places c c' rows_is w_is places_is c_is each form c_tuple c_at b h =
       let W : ℕ → Type 0 = λ w. IsReduced o (length rows') rows' pivots w in
       let R : List (List E) → Type 0 = λ m. IsReduced o (length m) m pivots w in
@@ -40,12 +46,16 @@ module _ {E : Type 0} (o : Ops E) (L : FieldLaws o) where
       let wide = tuple.right_length in
       let iff = combined_iff w rows pivots x.shape each' form' v c' tuple' (λ s s_in.
       let s_in' : s < length places = omega arith in
-      ap (λ xs. at o xs s) (c_is ∙ c_at) ∙ at-table o (length places) (λ s. at o v (get_or places s 0)) s s_in' ∙ ap (λ (ps : List ℕ). at o v (get_or ps s 0)) places_is) in (
-        (λ t. iff.0 (λ j j_in. let j_in' : j < length v = omega arith in h.0 t j j_in' ∙ ap (λ m. combined o L m (at o c') j) rows_is)),
-        (λ s. h.1 (λ j j_in. let j_in' : j < w = omega arith in iff.1 s j j_in' ∙ ap (λ m. combined o L m (at o c') j) (sym rows_is))),
+      ap (λ xs. at o xs s) (c_is ∙ c_at) ∙ at-table o (length places) (λ s. at o v (get_or places s 0)) s s_in'
+      ∙ ap (λ (ps : List ℕ). at o v (get_or ps s 0)) places_is) in (
+        (λ t. iff.0 (λ j j_in. let j_in' : j < length v = omega arith in h.0 t j j_in'
+            ∙ ap (λ m. combined o L m (at o c') j) rows_is)),
+        (λ s. h.1 (λ j j_in. let j_in' : j < w = omega arith in iff.1 s j j_in'
+            ∙ ap (λ m. combined o L m (at o c') j) (sym rows_is))),
       )
 
-  pub sum_of_spans : (w : ℕ) (a b stacked rows : List (List E)) → IsMatrix o w a → IsMatrix o w b → IsMatrix o w stacked → stacked ≡ a ++ b → SameSpan o w rows stacked → SpansSum o w rows a b
+  pub sum_of_spans : (w : ℕ) (a b stacked rows : List (List E)) → IsMatrix o w a → IsMatrix o w b
+      → IsMatrix o w stacked → stacked ≡ a ++ b → SameSpan o w rows stacked → SpansSum o w rows a b
   sum_of_spans w a b stacked rows sa sb shape is same v t =
       let S : List (List E) → Type 0 = λ m. IsMatrix o w m in
       let P : List (List E) → Type 0 = λ m. SameSpan o w rows m in

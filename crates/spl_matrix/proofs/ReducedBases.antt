@@ -7,14 +7,15 @@ use Rattle.theory_rings.specs.Ops.{Ops, IsElem, FieldLaws}
 use Rattle.theory_rings.specs.Sum.{at}
 use Rattle.theory_rings.proofs.Rings.Elements.{at-elem, sum_of_congr}
 use Rattle.theory_spaces.specs.Tuples.{IsTuple}
-use Rattle.theory_spaces.proofs.Tuples.{IsTuple-ext}
+use Rattle.theory_spaces.proofs.Tuples.Tuples.{IsTuple-ext}
 use Rattle.theory_tables.specs.Matrix.{entry, IsMatrix}
 use Rattle.theory_tables.specs.Echelon.{IsReduced}
-use Rattle.theory_tables.specs.Subspace.{InSpan, SameSpan, IsReducedBasis, AreIndependent, SameSubspaceSameRows, ReducedBasisIsIndependent}
+use Rattle.theory_tables.specs.Subspace.{InSpan, SameSpan, IsReducedBasis, AreIndependent, SameSubspaceSameRows}
+use Rattle.theory_tables.specs.Subspace.{ReducedBasisIsIndependent}
 use Rattle.spl_matrix.specs.Spanning.{IsLeadingPlace}
-use Rattle.theory_tables.proofs.Terms.{mul-zero, zero-mul, cond_yes, cond_no, cond_either}
-use Rattle.theory_tables.proofs.Sums.{sum_of_zeros, sum_of-delta_mul, entry-elem}
-use Rattle.theory_tables.proofs.Spans.{combined, combined_congr, rows_in, SameSpan_sym}
+use Rattle.theory_tables.proofs.Rows.Terms.{mul-zero, zero-mul, cond_yes, cond_no, cond_either}
+use Rattle.theory_tables.proofs.Rows.Sums.{sum_of_zeros, sum_of-delta_mul, entry-elem}
+use Rattle.theory_tables.proofs.Rows.Spans.{combined, combined_congr, rows_in, SameSpan_sym}
 
 -- some of n numbers is j, or none is
 pub find_place : (n : ℕ) (p : ℕ → ℕ) (j : ℕ) → ((s : ℕ) × (s < n) × (p s ≡ j)) ⊎ ((s : ℕ) → s < n → p s ≢ j)
@@ -23,7 +24,9 @@ find_place (suc n) p j = ⊎_elim
     (λ (h : (s : ℕ) × (s < n) × (p s ≡ j)). let l = h.1 in let k : h.0 < suc n = omega arith in inl (h.0, k, h.2))
     (λ (h : (s : ℕ) → s < n → p s ≢ j). ⊎_elim
     (λ (e : p n ≡ j). let k : n < suc n = omega arith in inl (n, k, e))
-    (λ (d : p n ≢ j). inr (λ s l. ⊎_elim (λ (low : s < n). h s low) (λ (high : n ≤ s). let q : s ≡ n = omega arith in λ e. d (ap p (sym q) ∙ e)) (cases_lt s n)))
+    (λ (d : p n ≢ j). inr
+    (λ s l. ⊎_elim (λ (low : s < n). h s low)
+    (λ (high : n ≤ s). let q : s ≡ n = omega arith in λ e. d (ap p (sym q) ∙ e)) (cases_lt s n)))
     (cases_eq (p n) j))
     (find_place n p j)
 
@@ -42,46 +45,59 @@ abbrev AreAmong : List ℕ → List ℕ → Type 0
 AreAmong p q = (s : ℕ) → s < length p → (t : ℕ) × (t < length q) × (get_or q t 0 ≡ get_or p s 0)
 
 module _ {E : Type 0} (o : Ops E) (L : FieldLaws o) where
-  module _ (w : ℕ) (rows : List (List E)) (shape : IsMatrix o w rows) (pivots : List ℕ) (each : length pivots ≡ length rows) (form : IsReduced o (length rows) rows pivots w) where
+  module _ (w : ℕ) (rows : List (List E)) (shape : IsMatrix o w rows) (pivots : List ℕ)
+      (each : length pivots ≡ length rows) (form : IsReduced o (length rows) rows pivots w) where
     -- the weight of a row stands at its pivot
-    pub combined-pivot : (c : ℕ → E) → ((i : ℕ) → IsElem o (c i)) → (s : ℕ) → s < length rows → combined o L rows c (get_or pivots s 0) ≡ c s
+    pub combined-pivot : (c : ℕ → E) → ((i : ℕ) → IsElem o (c i)) → (s : ℕ) → s < length rows
+        → combined o L rows c (get_or pivots s 0) ≡ c s
     combined-pivot c c_in s s_in =
         let s_piv : s < length pivots = omega arith in
         let q = get_or pivots s 0 in
-        sum_of_congr o (length rows) (λ i. o.mul (c i) (entry o rows i q)) (λ i. o.mul (cond (nat_eq i s) o.one o.zero) (c i))
+        sum_of_congr o (length rows) (λ i. o.mul (c i) (entry o rows i q))
+        (λ i. o.mul (cond (nat_eq i s) o.one o.zero) (c i))
         (λ i i_in. ap (o.mul (c i)) (form.unit s i s_piv i_in)
-        ∙ L.mul_comm (c i) (cond (nat_eq i s) o.one o.zero) (c_in i) (cond_either (IsElem o) (nat_eq i s) o.one o.zero L.one-elem L.zero-elem))
+        ∙ L.mul_comm (c i) (cond (nat_eq i s) o.one o.zero) (c_in i)
+        (cond_either (IsElem o) (nat_eq i s) o.one o.zero L.one-elem L.zero-elem))
         ∙ sum_of-delta_mul o L (length rows) s c c_in s_in
 
-    pub weights-pivot : (v : List E) (h : InSpan o w rows v) (s : ℕ) → s < length rows → at o h.0 s ≡ at o v (get_or pivots s 0)
+    pub weights-pivot : (v : List E) (h : InSpan o w rows v) (s : ℕ) → s < length rows
+        → at o h.0 s ≡ at o v (get_or pivots s 0)
     weights-pivot v h s s_in =
         let s_piv : s < length pivots = omega arith in
-        sym (h.2 (get_or pivots s 0) (form.below s s_piv) ∙ combined-pivot (at o h.0) (at-elem o L h.0 h.1.of_elements) s s_in)
+        sym (h.2 (get_or pivots s 0) (form.below s s_piv)
+        ∙ combined-pivot (at o h.0) (at-elem o L h.0 h.1.of_elements) s s_in)
 
     -- a vector of the span by its items at the pivots
-    pub expand : (v : List E) → InSpan o w rows v → (j : ℕ) → j < w → at o v j ≡ combined o L rows (λ s. at o v (get_or pivots s 0)) j
-    expand v h j j_in = h.2 j j_in ∙ combined_congr o L rows (at o h.0) (λ s. at o v (get_or pivots s 0)) j (weights-pivot v h)
+    pub expand : (v : List E) → InSpan o w rows v → (j : ℕ) → j < w
+        → at o v j ≡ combined o L rows (λ s. at o v (get_or pivots s 0)) j
+    expand v h j j_in = h.2 j j_in
+        ∙ combined_congr o L rows (at o h.0) (λ s. at o v (get_or pivots s 0)) j (weights-pivot v h)
 
     pub independent : AreIndependent o w rows
     independent c c_tuple z i i_in =
         let i_piv : i < length pivots = omega arith in
-        sym (combined-pivot (at o c) (at-elem o L c c_tuple.of_elements) i i_in) ∙ z (get_or pivots i 0) (form.below i i_piv)
+        sym (combined-pivot (at o c) (at-elem o L c c_tuple.of_elements) i i_in)
+        ∙ z (get_or pivots i 0) (form.below i i_piv)
 
     -- a vector of the span begins at a pivot
-    pub begins : (v : List E) → IsTuple o w v → InSpan o w rows v → (j : ℕ) → j < w → ((l : ℕ) → l < j → at o v l ≡ o.zero) → at o v j ≢ o.zero
+    pub begins : (v : List E) → IsTuple o w v → InSpan o w rows v → (j : ℕ) → j < w
+        → ((l : ℕ) → l < j → at o v l ≡ o.zero) → at o v j ≢ o.zero
         → (s : ℕ) × (s < length pivots) × (get_or pivots s 0 ≡ j)
     begins v tuple h j j_in before nonzero = ⊎_elim
         (λ (x : (s : ℕ) × (s < length pivots) × (get_or pivots s 0 ≡ j)). x)
         (λ (none : (s : ℕ) → s < length pivots → get_or pivots s 0 ≢ j). absurd (nonzero (
         expand v h j j_in
-        ∙ sum_of_congr o (length rows) (λ s. o.mul (at o v (get_or pivots s 0)) (entry o rows s j)) (λ _. o.zero) (λ s s_in.
+        ∙ sum_of_congr o (length rows) (λ s. o.mul (at o v (get_or pivots s 0)) (entry o rows s j)) (λ _. o.zero)
+        (λ s s_in.
         let s_piv : s < length pivots = omega arith in
         ⊎_elim
-        (λ (low : get_or pivots s 0 < j). ap (λ x. o.mul x (entry o rows s j)) (before (get_or pivots s 0) low) ∙ zero-mul o L (entry o rows s j) (entry-elem o L w rows shape s j))
+        (λ (low : get_or pivots s 0 < j). ap (λ x. o.mul x (entry o rows s j)) (before (get_or pivots s 0) low)
+        ∙ zero-mul o L (entry o rows s j) (entry-elem o L w rows shape s j))
         (λ (high : j ≤ get_or pivots s 0).
         let d = none s s_piv in
         let above : j < get_or pivots s 0 = omega arith in
-        ap (o.mul (at o v (get_or pivots s 0))) (form.left s j s_piv above) ∙ mul-zero o L (at o v (get_or pivots s 0)) (at-elem o L v tuple.of_elements (get_or pivots s 0)))
+        ap (o.mul (at o v (get_or pivots s 0))) (form.left s j s_piv above)
+        ∙ mul-zero o L (at o v (get_or pivots s 0)) (at-elem o L v tuple.of_elements (get_or pivots s 0)))
         (cases_lt (get_or pivots s 0) j))
         ∙ sum_of_zeros o L (length rows))))
         (find_place (length pivots) (λ s. get_or pivots s 0) j)
@@ -92,11 +108,13 @@ module _ {E : Type 0} (o : Ops E) (L : FieldLaws o) where
         L.one-nonzero (sym (form.unit s s s_piv s_in ∙ cond_yes s s o.one o.zero refl) ∙ e)
 
   -- the pivots of a subspace are among those of a basis of the same subspace
-  pub pivots_among : (w : ℕ) (a b : List (List E)) (x : IsReducedBasis o w a) (y : IsReducedBasis o w b) → SameSpan o w a b → AreAmong x.pivots y.pivots
+  pub pivots_among : (w : ℕ) (a b : List (List E)) (x : IsReducedBasis o w a) (y : IsReducedBasis o w b)
+      → SameSpan o w a b → AreAmong x.pivots y.pivots
   pivots_among w a b x y same s s_piv =
       let ex = x.each in
       let s_in : s < length a = omega arith in
-      begins w b y.shape y.pivots y.each y.reduced (get_or a s []) (x.shape s [] s_in) (rows_in o L w a b x.shape same s s_in) (get_or x.pivots s 0) (x.reduced.below s s_piv)
+      begins w b y.shape y.pivots y.each y.reduced (get_or a s []) (x.shape s [] s_in)
+      (rows_in o L w a b x.shape same s s_in) (get_or x.pivots s 0) (x.reduced.below s s_piv)
       (λ l l_low. x.reduced.left s l s_piv l_low) (pivot-nonzero w a x.shape x.pivots x.each x.reduced s s_piv)
 
 -- where two lists that go up agree below s, the item of the second at s is no greater, if the first is among the second
@@ -120,7 +138,8 @@ at_most p q up uq pq s sp sq before =
     ]
 
 -- of two lists that go up, each among the other, the items below k are the same
-agree : (p q : List ℕ) → GoesUp p → GoesUp q → AreAmong p q → AreAmong q p → (k s : ℕ) → s < k → s < length p → s < length q → get_or p s 0 ≡ get_or q s 0
+agree : (p q : List ℕ) → GoesUp p → GoesUp q → AreAmong p q → AreAmong q p → (k s : ℕ) → s < k → s < length p
+    → s < length q → get_or p s 0 ≡ get_or q s 0
 agree p q up uq pq qp zero s l sp sq = absurd (omega arith)
 agree p q up uq pq qp (suc k) s l sp sq = go (λ t low tp tq. agree p q up uq pq qp k t (omega arith) tp tq)
   where
@@ -160,7 +179,9 @@ module _ {E : Type 0} (o : Ops E) (L : FieldLaws o) where
   pub same_subspace_same_rows : SameSubspaceSameRows o
   same_subspace_same_rows w a b x y same =
       let back = SameSpan_sym o L w a b same in
-      let p : x.pivots ≡ y.pivots = same_pivots x.pivots y.pivots x.reduced.order y.reduced.order (pivots_among o L w a b x y same) (pivots_among o L w b a y x back) in
+      let p : x.pivots ≡ y.pivots =
+      same_pivots x.pivots y.pivots x.reduced.order y.reduced.order (pivots_among o L w a b x y same)
+      (pivots_among o L w b a y x back) in
       let ex = x.each in
       let ey = y.each in
       let lp = ap length p in
@@ -173,15 +194,18 @@ module _ {E : Type 0} (o : Ops E) (L : FieldLaws o) where
       expand o L w b y.shape y.pivots y.each y.reduced (get_or a s []) (rows_in o L w a b x.shape same s s_in) j j_in
       ∙ combined_congr o L b (λ t. entry o a s (get_or y.pivots t 0)) (λ t. d t s) j (λ t t_in.
       let t_piv : t < length x.pivots = omega arith in
-      ap (λ (ps : List ℕ). entry o a s (get_or ps t 0)) (sym p) ∙ x.reduced.unit t s t_piv s_in ∙ cond_flip s t o.one o.zero)
+      ap (λ (ps : List ℕ). entry o a s (get_or ps t 0)) (sym p) ∙ x.reduced.unit t s t_piv s_in
+      ∙ cond_flip s t o.one o.zero)
       ∙ sum_of-delta_mul o L (length b) s (λ t. entry o b t j) (λ t. entry-elem o L w b y.shape t j) s_in'))
 
   pub reduced_basis_is_independent : ReducedBasisIsIndependent o
   reduced_basis_is_independent w rows x = independent o L w rows x.shape x.pivots x.each x.reduced
 
   -- the places where the rows begin are the pivots
-  pub leading_pivots : (w : ℕ) (rows : List (List E)) (x : IsReducedBasis o w rows) (p : List ℕ) → length p ≡ length rows
-      → ((k : ℕ) → k < length rows → IsLeadingPlace o (get_or rows k []) (get_or p k 0)) → IsReduced o (length rows) rows p w
+  pub leading_pivots : (w : ℕ) (rows : List (List E)) (x : IsReducedBasis o w rows) (p : List ℕ)
+      → length p ≡ length rows
+      → ((k : ℕ) → k < length rows → IsLeadingPlace o (get_or rows k []) (get_or p k 0))
+      → IsReduced o (length rows) rows p w
   leading_pivots w rows x p long leads =
       let each = x.each in
       let e : length x.pivots ≡ length p = omega arith in
@@ -191,12 +215,14 @@ module _ {E : Type 0} (o : Ops E) (L : FieldLaws o) where
       let row_long = (x.shape k [] k_in).right_length in
       let q_in = x.reduced.below k k_piv in
       ⊎_elim
-      (λ (low : get_or x.pivots k 0 < get_or p k 0). absurd (pivot-nonzero o L w rows x.shape x.pivots each x.reduced k k_piv (lead.before (get_or x.pivots k 0) low)))
+      (λ (low : get_or x.pivots k 0 < get_or p k 0). absurd
+      (pivot-nonzero o L w rows x.shape x.pivots each x.reduced k k_piv (lead.before (get_or x.pivots k 0) low)))
       (λ (high : get_or p k 0 ≤ get_or x.pivots k 0). ⊎_elim
       (λ (less : get_or p k 0 < get_or x.pivots k 0).
       let here : get_or p k 0 < length (get_or rows k []) = omega arith in
       absurd (lead.nonzero here (x.reduced.left k (get_or p k 0) k_piv less)))
-      (λ (other : get_or x.pivots k 0 ≤ get_or p k 0). let same : get_or x.pivots k 0 ≡ get_or p k 0 = omega arith in same)
+      (λ (other : get_or x.pivots k 0 ≤ get_or p k 0). let same : get_or x.pivots k 0 ≡ get_or p k 0 = omega arith in
+      same)
       (cases_lt (get_or p k 0) (get_or x.pivots k 0)))
       (cases_lt (get_or x.pivots k 0) (get_or p k 0))) in
       let P : List ℕ → Type 0 = λ ps. IsReduced o (length rows) rows ps w in

@@ -1,26 +1,27 @@
--- Square matrices: the transform of the echelon form is the inverse where each column has a pivot, and else its last row
--- shows that the rows are dependent.
+-- Square matrices: the transform of the echelon form is the inverse where each column has a pivot, and else its last
+-- row shows that the rows are dependent.
 use Rattle.std.specs.Prelude.{◌≡◌, ◌≢◌, ℕ, zero, suc, ◌+◌, ◌-◌, ◌<◌, ◌≤◌, List, [], length, get_or, cond, nat_eq}
 use Rattle.std.proofs.Common.{refl, sym, ◌∙◌, ap, arith, ⊎_elim}
 use Rattle.theory_rings.specs.Ops.{Ops, IsElem, FieldLaws}
 use Rattle.theory_rings.specs.Elements.{Elem, Elem-path, elements}
 use Rattle.theory_rings.specs.Sum.{sum_of, at}
 use Rattle.theory_rings.proofs.Rings.Elements.{at-elem, sum_of_congr}
-use Rattle.theory_spaces.proofs.Decide.{NotAllZero, pivot}
+use Rattle.theory_spaces.proofs.Linear.Decide.{NotAllZero, pivot}
 use Rattle.theory_tables.specs.Matrix.{entry, IsMatrix}
 use Rattle.theory_tables.specs.Echelon.{IsEchelon}
 use Rattle.theory_tables.specs.Inverse.{IsInverse, AreDependent}
 use Rattle.theory_tables.specs.Subspace.{InSpan, IsReducedBasis}
 use Rattle.theory_spaces.specs.Tuples.{IsTuple}
 use Rattle.spl_matrix.proofs.Combinations.{sum_of-mul_delta}
-use Rattle.theory_tables.proofs.Inverses.{IsInverse-left}
+use Rattle.theory_tables.proofs.Rows.Inverses.{IsInverse-left}
 use Rattle.spl_matrix.proofs.ReducedBases.{cond_flip, combined-pivot}
-use Rattle.theory_tables.proofs.Spans.{combined, InSpan-by}
-use Rattle.theory_tables.proofs.Sums.{sum_of_zeros, sums_assoc, entry-elem, entry_table}
-use Rattle.theory_tables.proofs.Terms.{zero-mul, cond_yes}
+use Rattle.theory_tables.proofs.Rows.Spans.{combined, InSpan-by}
+use Rattle.theory_tables.proofs.Rows.Sums.{sum_of_zeros, sums_assoc, entry-elem, entry_table}
+use Rattle.theory_tables.proofs.Rows.Terms.{zero-mul, cond_yes}
 
 -- n numbers below n that go up are 0, 1, .., n − 1
-goes_up-id : (n : ℕ) (p : ℕ → ℕ) → ((s : ℕ) → s < n → p s < n) → ((s t : ℕ) → s < t → t < n → p s < p t) → (s : ℕ) → s < n → p s ≡ s
+goes_up-id : (n : ℕ) (p : ℕ → ℕ) → ((s : ℕ) → s < n → p s < n) → ((s t : ℕ) → s < t → t < n → p s < p t) → (s : ℕ)
+    → s < n → p s ≡ s
 goes_up-id n p below up s s_in =
     let l = low s s_in in
     let e : s + suc (n - suc s) ≡ n = omega arith in
@@ -47,7 +48,8 @@ goes_up-id n p below up s s_in =
         omega arith
 
 -- a reduced basis of as many rows as columns, or more, spans all tuples
-pub full_basis_spans : {E : Type 0} (o : Ops E) (L : FieldLaws o) (w : ℕ) (rows : List (List E)) → IsReducedBasis o w rows → w ≤ length rows
+pub full_basis_spans : {E : Type 0} (o : Ops E) (L : FieldLaws o) (w : ℕ) (rows : List (List E))
+    → IsReducedBasis o w rows → w ≤ length rows
     → (v : List E) → IsTuple o w v → InSpan o w rows v
 full_basis_spans o L w rows x full v tuple =
     let r = x.reduced in
@@ -58,11 +60,14 @@ full_basis_spans o L w rows x full v tuple =
     let at_j : get_or x.pivots j 0 ≡ j = goes_up-id w (λ s. get_or x.pivots s 0)
     (λ s s_in. let s_piv : s < length x.pivots = omega arith in r.below s s_piv)
     (λ s t s_low t_in. let t_piv : t < length x.pivots = omega arith in r.order s t s_low t_piv) j j_in in
-    sym (ap (combined o L rows (at o v)) (sym at_j) ∙ combined-pivot o L w rows x.shape x.pivots each r (at o v) v_in j j_row))
+    sym (ap (combined o L rows (at o v)) (sym at_j)
+    ∙ combined-pivot o L w rows x.shape x.pivots each r (at o v) v_in j j_row))
 
-module _ {E : Type 0} (o : Ops E) (L : FieldLaws o) (h : ℕ) (a rows : List (List E)) (pivots : List ℕ) (transform : List (List E))
+module _ {E : Type 0} (o : Ops E) (L : FieldLaws o) (h : ℕ) (a rows : List (List E)) (pivots : List ℕ)
+    (transform : List (List E))
     (a_shape : IsMatrix o h a) (echelon : IsEchelon o h h a rows pivots transform) where
-  makes_at : (i j : ℕ) → i < h → j < h → sum_of o h (λ k. o.mul (entry o transform i k) (entry o a k j)) ≡ entry o rows i j
+  makes_at : (i j : ℕ) → i < h → j < h
+      → sum_of o h (λ k. o.mul (entry o transform i k) (entry o a k j)) ≡ entry o rows i j
   makes_at i j i_in j_in =
       sym (entry_table o L h h (λ i j. sum_of o h (λ k. o.mul (entry o transform i k) (entry o a k j))) i j i_in j_in)
       ∙ ap (λ m. entry o m i j) echelon.makes
@@ -74,7 +79,9 @@ module _ {E : Type 0} (o : Ops E) (L : FieldLaws o) (h : ℕ) (a rows : List (Li
   pub is_inverse : length pivots ≡ h → IsInverse o h a transform
   is_inverse full =
       let r = echelon.reduced in
-      let left : (i j : ℕ) → i < h → j < h → sum_of o h (λ k. o.mul (entry o transform i k) (entry o a k j)) ≡ cond (nat_eq j i) o.one o.zero = λ i j i_in j_in.
+      let left : (i j : ℕ) → i < h → j < h
+      → sum_of o h (λ k. o.mul (entry o transform i k) (entry o a k j)) ≡ cond (nat_eq j i) o.one o.zero =
+      λ i j i_in j_in.
       let j_piv : j < length pivots = omega arith in
       let at_j : get_or pivots j 0 ≡ j = goes_up-id h (λ s. get_or pivots s 0)
       (λ s s_in. let s_piv : s < length pivots = omega arith in r.below s s_piv)
@@ -107,13 +114,17 @@ module _ {E : Type 0} (o : Ops E) (L : FieldLaws o) (h : ℕ) (a rows : List (Li
       sym (cond_yes last last o.one o.zero refl)
       ∙ sym (entry_table o L h h (λ i j. cond (nat_eq j i) o.one o.zero) last last last_in last_in)
       ∙ ap (λ m. entry o m last last) (sym echelon.invertible.is_inverse.mul-inverse)
-      ∙ entry_table o L h h (λ i j. sum_of o h (λ k. o.mul (entry o transform i k) (entry o u k j))) last last last_in last_in
-      ∙ sum_of_congr o h _ _ (λ k k_in. ap (λ x. o.mul x (entry o u k last)) (ap (λ (x : Elem o). x.0) (z k k_in)) ∙ zero-mul o L (entry o u k last) (u_in k last))
+      ∙ entry_table o L h h
+      (λ i j. sum_of o h (λ k. o.mul (entry o transform i k) (entry o u k j))) last last last_in last_in
+      ∙ sum_of_congr o h _ _
+      (λ k k_in. ap (λ x. o.mul x (entry o u k last)) (ap (λ (x : Elem o). x.0) (z k k_in))
+      ∙ zero-mul o L (entry o u k last) (u_in k last))
       ∙ sum_of_zeros o L h)))
       (pivot F h f)
 
 -- the rows of a matrix with an inverse are independent
-pub not_dependent : {E : Type 0} (o : Ops E) (L : FieldLaws o) (h : ℕ) (a b : List (List E)) → IsMatrix o h a → IsInverse o h a b → AreDependent o h h a → ⊥
+pub not_dependent : {E : Type 0} (o : Ops E) (L : FieldLaws o) (h : ℕ) (a b : List (List E)) → IsMatrix o h a
+    → IsInverse o h a b → AreDependent o h h a → ⊥
 not_dependent o L h a b a_shape inverse d =
     let m = at o d.multipliers in
     let m_in : (i : ℕ) → IsElem o (m i) = at-elem o L d.multipliers d.tuple.of_elements in
@@ -129,5 +140,6 @@ not_dependent o L h a b a_shape inverse d =
     sym (sum_of-mul_delta o L h p m m_in d.within)
     ∙ sum_of_congr o h _ _ (λ i i_in. ap (o.mul (m i)) (right i i_in))
     ∙ sym (sums_assoc o L h h m (entry o a) (λ k. entry o b k p) m_in (entry-elem o L h a a_shape) (λ k. b_in k p))
-    ∙ sum_of_congr o h _ _ (λ k k_in. ap (λ x. o.mul x (entry o b k p)) (d.kills k k_in) ∙ zero-mul o L (entry o b k p) (b_in k p))
+    ∙ sum_of_congr o h _ _
+    (λ k k_in. ap (λ x. o.mul x (entry o b k p)) (d.kills k k_in) ∙ zero-mul o L (entry o b k p) (b_in k p))
     ∙ sum_of_zeros o L h)

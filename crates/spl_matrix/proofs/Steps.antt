@@ -1,26 +1,29 @@
 -- The steps of the elimination, and what it leaves.
-use Rattle.std.proofs.Common.{◌≡◌, ◌≢◌, inl, inr, ℕ, ◌+◌, ◌<◌, ◌≤◌, List, [], ◌∷◌, ◌++◌, length, get_or, cond, nat_eq, nat_lt, refl, sym, ap, ap₂, subst, ◌∙◌, arith}
+use Rattle.std.proofs.Common.{◌≡◌, ◌≢◌, inl, inr, ℕ, ◌+◌, ◌<◌, ◌≤◌, List, [], ◌∷◌, ◌++◌, length, get_or, cond, nat_eq}
+use Rattle.std.proofs.Common.{nat_lt, refl, sym, ap, ap₂, subst, ◌∙◌, arith}
 use Rattle.std.proofs.lemmas.Bool.{cases_eq, lt-ltb, le-ltb}
 use Rattle.theory_rings.specs.Ops.{Ops, FieldLaws}
 use Rattle.theory_rings.specs.Sum.{sum_of, table, at}
 use Rattle.theory_rings.proofs.Rings.Elements.{at-elem, sum_of_congr}
 use Rattle.theory_rings.proofs.Sums.Lists.{get_or-table, length-table, All-table, table_congr}
 use Rattle.theory_spaces.specs.Tuples.{IsTuple}
-use Rattle.theory_spaces.proofs.Tuples.{IsTuple-table}
+use Rattle.theory_spaces.proofs.Tuples.Tuples.{IsTuple-table}
 use Rattle.theory_tables.specs.Matrix.{entry, product, IsMatrix}
-use Rattle.spl_matrix.specs.Elimination.{lead_of, reduced_by, pivoted_row, pivoted, IsStep, Combines, IsEliminated, augmented_item, augmented, columns}
+use Rattle.spl_matrix.specs.Elimination.{lead_of, reduced_by, pivoted_row, pivoted, IsStep, Combines, IsEliminated}
+use Rattle.spl_matrix.specs.Elimination.{augmented_item, augmented, columns}
 use Rattle.theory_tables.specs.Echelon.{IsReduced, IsEchelon, IsInvertible}
 use Rattle.theory_tables.specs.Subspace.{SameSpan}
 use Rattle.spl_matrix.proofs.Combinations.{sum_of-mul_delta, Combines-refl, Combines-trans, pivoted_forth, pivoted_back}
 use Rattle.spl_matrix.proofs.Forms.{form_after, form_skipped}
-use Rattle.theory_tables.proofs.Inverses.{IsInverse-left}
+use Rattle.theory_tables.proofs.Rows.Inverses.{IsInverse-left}
 use Rattle.spl_matrix.proofs.Pivots.{lead_of-tuple}
-use Rattle.theory_tables.proofs.Spans.{InSpan-by, SameSpan-by}
-use Rattle.theory_tables.proofs.Terms.{cond_yes, cond_no, cond_either}
-use Rattle.theory_tables.proofs.Sums.{entry-elem, table_matrix, entry_table}
+use Rattle.theory_tables.proofs.Rows.Spans.{InSpan-by, SameSpan-by}
+use Rattle.theory_tables.proofs.Rows.Terms.{cond_yes, cond_no, cond_either}
+use Rattle.theory_tables.proofs.Rows.Sums.{entry-elem, table_matrix, entry_table}
 
 module _ {E : Type 0} (o : Ops E) (L : FieldLaws o) where
-  pivoted-shape : (h n : ℕ) (rows : List (List E)) (p r col : ℕ) → IsMatrix o n rows → IsMatrix o n (pivoted o h n rows p r col)
+  pivoted-shape : (h n : ℕ) (rows : List (List E)) (p r col : ℕ) → IsMatrix o n rows
+      → IsMatrix o n (pivoted o h n rows p r col)
   pivoted-shape h n rows p r col shape =
       let rows_in = entry-elem o L n rows shape in
       let lead = lead_of o n rows p col in
@@ -29,7 +32,8 @@ module _ {E : Type 0} (o : Ops E) (L : FieldLaws o) where
       let source = cond (nat_eq i p) r i in
       cond_either (IsTuple o n) (nat_eq i r) lead (reduced_by o n (get_or rows source []) col lead) lead_tuple
       (IsTuple-table o n (λ j. o.add (entry o rows source j) (o.mul (o.neg (entry o rows source col)) (at o lead j)))
-      (λ j _. L.add-elem _ _ (rows_in source j) (L.mul-elem _ _ (L.neg-elem _ (rows_in source col)) (at-elem o L lead lead_tuple.of_elements j)))))
+      (λ j _. L.add-elem _ _ (rows_in source j)
+      (L.mul-elem _ _ (L.neg-elem _ (rows_in source col)) (at-elem o L lead lead_tuple.of_elements j)))))
 
   start_form : (h : ℕ) (rows : List (List E)) → IsReduced o h rows [] 0
   start_form h rows = record {
@@ -41,7 +45,8 @@ module _ {E : Type 0} (o : Ops E) (L : FieldLaws o) where
     rest = λ i j i_high i_in j_low. absurd (omega arith);
   }
 
-  pub start_eliminated : (h n : ℕ) (rows : List (List E)) → IsMatrix o n rows → length rows ≡ h → IsEliminated o h n 0 rows rows []
+  pub start_eliminated : (h n : ℕ) (rows : List (List E)) → IsMatrix o n rows → length rows ≡ h
+      → IsEliminated o h n 0 rows rows []
   start_eliminated h n rows shape long = record {
     shape = shape;
     height = long;
@@ -50,8 +55,10 @@ module _ {E : Type 0} (o : Ops E) (L : FieldLaws o) where
     back = Combines-refl o L h n rows (entry-elem o L n rows shape);
   }
 
-  pub step_eliminated : (h n col : ℕ) (origin rows rows' : List (List E)) (pivots pivots' : List ℕ) → IsMatrix o n origin → col < n
-      → IsStep o h n col rows rows' pivots pivots' → IsEliminated o h n col origin rows pivots → IsEliminated o h n (col + 1) origin rows' pivots'
+  pub step_eliminated : (h n col : ℕ) (origin rows rows' : List (List E)) (pivots pivots' : List ℕ)
+      → IsMatrix o n origin → col < n
+      → IsStep o h n col rows rows' pivots pivots' → IsEliminated o h n col origin rows pivots
+      → IsEliminated o h n (col + 1) origin rows' pivots'
   step_eliminated h n col origin rows rows' pivots pivots' origin_shape col_in step before = elim step [
     | inl s ↦
         let Q = λ (m : List (List E)). IsEliminated o h n (col + 1) origin m pivots' in
@@ -75,21 +82,29 @@ module _ {E : Type 0} (o : Ops E) (L : FieldLaws o) where
         let after : IsEliminated o h n (col + 1) origin new (pivots ++ col ∷ []) = record {
           shape = new_shape;
           height = length-table h (pivoted_row o n rows s.p r col);
-          reduced = form_after o L h n rows rows_in s.p r col col_in s.within s.from s.nonzero pivots refl before.reduced;
-          forth = Combines-trans o L h n origin rows new (entry-elem o L n origin origin_shape) before.forth (pivoted_forth o L h n rows rows_in s.p r col col_in s.within s.from s.nonzero new_in);
-          back = Combines-trans o L h n new rows origin new_in (pivoted_back o L h n rows rows_in s.p r col col_in s.within s.from s.nonzero new_in) before.back;
+          reduced = form_after o L h n rows rows_in s.p r col col_in s.within s.from s.nonzero pivots refl
+              before.reduced;
+          forth = Combines-trans o L h n origin rows new (entry-elem o L n origin origin_shape) before.forth
+              (pivoted_forth o L h n rows rows_in s.p r col col_in s.within s.from s.nonzero new_in);
+          back = Combines-trans o L h n new rows origin new_in
+              (pivoted_back o L h n rows rows_in s.p r col col_in s.within s.from s.nonzero new_in) before.back;
         } in
         subst Q (sym s.new_rows) (subst R (sym s.new_pivots) after)
   ]
 
   -- the rows before and after have the same combinations
-  pub same_span : (n w : ℕ) (a b : List (List E)) (pivots : List ℕ) → IsMatrix o n a → IsEliminated o (length a) n w a b pivots → SameSpan o n a b
+  pub same_span : (n w : ℕ) (a b : List (List E)) (pivots : List ℕ) → IsMatrix o n a
+      → IsEliminated o (length a) n w a b pivots → SameSpan o n a b
   same_span n w a b pivots shape e =
       let P : ℕ → Type 0 = λ h. Combines o h n b a in
       let back : Combines o (length b) n b a = subst P (sym e.height) e.back in
       SameSpan-by o L n a b shape e.shape
-      (λ i i_in. let i_in' : i < length b = omega (arith, e.height) in InSpan-by o L n b (get_or a i []) (back.weight i) (back.weight-elem i) (λ j j_in. sym (back.combines i j i_in' j_in)))
-      (λ i i_in. let i_in' : i < length a = omega (arith, e.height) in InSpan-by o L n a (get_or b i []) (e.forth.weight i) (e.forth.weight-elem i) (λ j j_in. sym (e.forth.combines i j i_in' j_in)))
+      (λ i i_in. let i_in' : i < length b = omega (arith, e.height) in
+      InSpan-by o L n b (get_or a i []) (back.weight i) (back.weight-elem i)
+      (λ j j_in. sym (back.combines i j i_in' j_in)))
+      (λ i i_in. let i_in' : i < length a = omega (arith, e.height) in
+      InSpan-by o L n a (get_or b i []) (e.forth.weight i) (e.forth.weight-elem i)
+      (λ j j_in. sym (e.forth.combines i j i_in' j_in)))
 
   cond_low : (j w : ℕ) (x y : E) → j < w → cond (nat_lt j w) x y ≡ x
   cond_low j w x y h = rw (lt-ltb j w h) refl
@@ -101,26 +116,32 @@ module _ {E : Type 0} (o : Ops E) (L : FieldLaws o) where
   after_width w k i row =
       cond_high (w + k) w (at o row (w + k)) (cond (nat_eq (w + k) (w + i)) o.one o.zero) (omega arith)
       ∙ elim (cases_eq k i) [
-        | inl e ↦ let f : w + k ≡ w + i = omega arith in cond_yes (w + k) (w + i) o.one o.zero f ∙ sym (cond_yes k i o.one o.zero e)
-        | inr d ↦ let f : w + k ≢ w + i = omega arith in cond_no (w + k) (w + i) o.one o.zero f ∙ sym (cond_no k i o.one o.zero d)
+        | inl e ↦ let f : w + k ≡ w + i = omega arith in cond_yes (w + k) (w + i) o.one o.zero f
+            ∙ sym (cond_yes k i o.one o.zero e)
+        | inr d ↦ let f : w + k ≢ w + i = omega arith in cond_no (w + k) (w + i) o.one o.zero f
+            ∙ sym (cond_no k i o.one o.zero d)
       ]
 
-  entry_columns : (h k n : ℕ) (rows : List (List E)) (i j : ℕ) → i < h → j < n → entry o (columns o h k n rows) i j ≡ entry o rows i (k + j)
+  entry_columns : (h k n : ℕ) (rows : List (List E)) (i j : ℕ) → i < h → j < n
+      → entry o (columns o h k n rows) i j ≡ entry o rows i (k + j)
   entry_columns h k n rows i j i_in j_in =
       ap (λ row. at o row j) (get_or-table h (λ i. table n (λ j. entry o rows i (k + j))) i [] i_in)
       ∙ get_or-table n (λ j. entry o rows i (k + j)) j o.zero j_in
 
-  entry_left : (h n : ℕ) (rows : List (List E)) (i j : ℕ) → i < h → j < n → entry o (columns o h 0 n rows) i j ≡ entry o rows i j
+  entry_left : (h n : ℕ) (rows : List (List E)) (i j : ℕ) → i < h → j < n
+      → entry o (columns o h 0 n rows) i j ≡ entry o rows i j
   entry_left h n rows i j i_in j_in =
       let e : 0 + j ≡ j = omega arith in
       entry_columns h 0 n rows i j i_in j_in ∙ ap (entry o rows i) e
 
-  form_left : (h w : ℕ) (rows : List (List E)) (pivots : List ℕ) → IsReduced o h rows pivots w → IsReduced o h (columns o h 0 w rows) pivots w
+  form_left : (h w : ℕ) (rows : List (List E)) (pivots : List ℕ) → IsReduced o h rows pivots w
+      → IsReduced o h (columns o h 0 w rows) pivots w
   form_left h w rows pivots form = record {
     count = form.count;
     below = form.below;
     order = form.order;
-    unit = λ s i s_in i_in. entry_left h w rows i (get_or pivots s 0) i_in (form.below s s_in) ∙ form.unit s i s_in i_in;
+    unit = λ s i s_in i_in. entry_left h w rows i (get_or pivots s 0) i_in (form.below s s_in)
+        ∙ form.unit s i s_in i_in;
     left = λ s j s_in j_low.
         let q_low = form.below s s_in in
         let j_in : j < w = omega arith in
@@ -129,52 +150,71 @@ module _ {E : Type 0} (o : Ops E) (L : FieldLaws o) where
     rest = λ i j i_high i_in j_low. entry_left h w rows i j i_in j_low ∙ form.rest i j i_high i_in j_low;
   }
 
-  invertible : (h w : ℕ) (a rows transform : List (List E)) → IsMatrix o h transform → Combines o h (w + h) rows (augmented o h w a) → transform ≡ columns o h w h rows → IsInvertible o h transform
+  invertible : (h w : ℕ) (a rows transform : List (List E)) → IsMatrix o h transform
+      → Combines o h (w + h) rows (augmented o h w a) → transform ≡ columns o h w h rows → IsInvertible o h transform
   invertible h w a rows transform transform_shape undo e =
       let u : List (List E) = table h (λ i. table h (undo.weight i)) in
       let u_shape : IsMatrix o h u = table_matrix o L h h undo.weight undo.weight-elem in
-      let left : (i j : ℕ) → i < h → j < h → sum_of o h (λ k. o.mul (entry o u i k) (entry o transform k j)) ≡ cond (nat_eq j i) o.one o.zero = λ i j i_in j_in.
+      let left : (i j : ℕ) → i < h → j < h
+      → sum_of o h (λ k. o.mul (entry o u i k) (entry o transform k j)) ≡ cond (nat_eq j i) o.one o.zero =
+      λ i j i_in j_in.
       let j_all : w + j < w + h = omega arith in
-      sum_of_congr o h _ _ (λ k k_in. ap₂ o.mul (entry_table o L h h undo.weight i k i_in k_in) (ap (λ m. entry o m k j) e ∙ entry_columns h w h rows k j k_in j_in))
+      sum_of_congr o h _ _ (λ k k_in.
+      ap₂ o.mul (entry_table o L h h undo.weight i k i_in k_in)
+      (ap (λ m. entry o m k j) e ∙ entry_columns h w h rows k j k_in j_in))
       ∙ undo.combines i (w + j) i_in j_all
       ∙ entry_table o L h (w + h) (λ i. augmented_item o w (get_or a i []) i) i (w + j) i_in j_all
       ∙ after_width w j i (get_or a i []) in
-      record { inverse = u; is_inverse = IsInverse-left o L h u transform u_shape (length-table h (λ i. table h (undo.weight i))) transform_shape left }
+      record {
+        inverse = u;
+        is_inverse =
+            IsInverse-left o L h u transform u_shape
+            (length-table h (λ i. table h (undo.weight i))) transform_shape left;
+      }
 
   -- the transform stands after the first w columns
-  unit_after : (h w : ℕ) (a : List (List E)) (m k : ℕ) → m < h → k < h → entry o (augmented o h w a) m (w + k) ≡ cond (nat_eq k m) o.one o.zero
+  unit_after : (h w : ℕ) (a : List (List E)) (m k : ℕ) → m < h → k < h
+      → entry o (augmented o h w a) m (w + k) ≡ cond (nat_eq k m) o.one o.zero
   unit_after h w a m k m_in k_in =
       let k_all : w + k < w + h = omega arith in
-      entry_table o L h (w + h) (λ i. augmented_item o w (get_or a i []) i) m (w + k) m_in k_all ∙ after_width w k m (get_or a m [])
+      entry_table o L h (w + h) (λ i. augmented_item o w (get_or a i []) i) m (w + k) m_in k_all
+      ∙ after_width w k m (get_or a m [])
 
-  same_before : (h w : ℕ) (a : List (List E)) (m j : ℕ) → m < h → j < w → entry o (augmented o h w a) m j ≡ entry o a m j
+  same_before : (h w : ℕ) (a : List (List E)) (m j : ℕ) → m < h → j < w
+      → entry o (augmented o h w a) m j ≡ entry o a m j
   same_before h w a m j m_in j_in =
       let j_all : j < w + h = omega arith in
       entry_table o L h (w + h) (λ i. augmented_item o w (get_or a i []) i) m j m_in j_all
       ∙ cond_low j w (entry o a m j) (cond (nat_eq j (w + m)) o.one o.zero) j_in
 
-  transform_at : (h w : ℕ) (a rows : List (List E)) (e : Combines o h (w + h) (augmented o h w a) rows) (i k : ℕ) → i < h → k < h → entry o rows i (w + k) ≡ e.weight i k
+  transform_at : (h w : ℕ) (a rows : List (List E)) (e : Combines o h (w + h) (augmented o h w a) rows) (i k : ℕ)
+      → i < h → k < h → entry o rows i (w + k) ≡ e.weight i k
   transform_at h w a rows e i k i_in k_in =
       let k_all : w + k < w + h = omega arith in
       sym (e.combines i (w + k) i_in k_all)
       ∙ sum_of_congr o h _ _ (λ m m_in. ap (o.mul (e.weight i m)) (unit_after h w a m k m_in k_in))
       ∙ sum_of-mul_delta o L h k (e.weight i) (e.weight-elem i) k_in
 
-  transforms : (h w : ℕ) (a rows : List (List E)) → Combines o h (w + h) (augmented o h w a) rows → (i j : ℕ) → i < h → j < w
+  transforms : (h w : ℕ) (a rows : List (List E)) → Combines o h (w + h) (augmented o h w a) rows → (i j : ℕ) → i < h
+      → j < w
       → sum_of o h (λ k. o.mul (entry o rows i (w + k)) (entry o a k j)) ≡ entry o rows i j
   transforms h w a rows e i j i_in j_in =
       let j_all : j < w + h = omega arith in
-      sum_of_congr o h _ _ (λ k k_in. ap₂ o.mul (transform_at h w a rows e i k i_in k_in) (sym (same_before h w a k j k_in j_in)))
+      sum_of_congr o h _ _ (λ k k_in.
+      ap₂ o.mul (transform_at h w a rows e i k i_in k_in) (sym (same_before h w a k j k_in j_in)))
       ∙ e.combines i j i_in j_all
 
-  pub finish : (h w : ℕ) (a rows left : List (List E)) (pivots : List ℕ) (transform : List (List E)) → IsEliminated o h (w + h) w (augmented o h w a) rows pivots
-      → IsMatrix o w left → IsMatrix o h transform → left ≡ columns o h 0 w rows → transform ≡ columns o h w h rows → IsEchelon o h w a left pivots transform
+  pub finish : (h w : ℕ) (a rows left : List (List E)) (pivots : List ℕ) (transform : List (List E))
+      → IsEliminated o h (w + h) w (augmented o h w a) rows pivots
+      → IsMatrix o w left → IsMatrix o h transform → left ≡ columns o h 0 w rows → transform ≡ columns o h w h rows
+      → IsEchelon o h w a left pivots transform
   finish h w a rows left pivots transform e left_shape transform_shape left_is transform_is = record {
     rows_shape = left_shape;
     rows_height = ap length left_is ∙ length-table h _;
     transform_shape = transform_shape;
     transform_height = ap length transform_is ∙ length-table h _;
-    reduced = let Q = λ (m : List (List E)). IsReduced o h m pivots w in subst Q (sym left_is) (form_left h w rows pivots e.reduced);
+    reduced = let Q = λ (m : List (List E)). IsReduced o h m pivots w in
+        subst Q (sym left_is) (form_left h w rows pivots e.reduced);
     makes =
         ap (λ t. product o h h w t a) transform_is
         ∙ table_congr h _ _ (λ i i_in. table_congr w _ _ (λ j j_in.

@@ -1,5 +1,6 @@
 -- A step of the elimination, on the rows of a matrix.
-use Rattle.std.specs.Prelude.{◌≡◌, ◌≢◌, ◌⊎◌, ◌+◌, ◌<◌, ◌≤◌, ℕ, List, [], ◌∷◌, ◌++◌, length, get_or, cond, nat_eq, nat_lt}
+use Rattle.std.specs.Prelude.{◌≡◌, ◌≢◌, ◌⊎◌, ◌+◌, ◌<◌, ◌≤◌, ℕ, List, [], ◌∷◌, ◌++◌, length, get_or, cond, nat_eq}
+use Rattle.std.specs.Prelude.{nat_lt}
 use Rattle.theory_rings.specs.Ops.{Ops, IsElem}
 use Rattle.theory_rings.specs.Sum.{sum_of, table, at}
 use Rattle.theory_tables.specs.Matrix.{entry, IsMatrix}
@@ -25,7 +26,8 @@ module _ {E : Type 0} (o : Ops E) where
   -- row i after the pivot is moved from row p to row r and cleared from the other rows
   abbrev pub pivoted_row : ℕ → List (List E) → ℕ → ℕ → ℕ → ℕ → List E
   pivoted_row n rows p r col i =
-      cond (nat_eq i r) (lead_of n rows p col) (reduced_by n (get_or rows (cond (nat_eq i p) r i) []) col (lead_of n rows p col))
+      cond (nat_eq i r) (lead_of n rows p col)
+      (reduced_by n (get_or rows (cond (nat_eq i p) r i) []) col (lead_of n rows p col))
 
   -- all h rows
   abbrev pub pivoted : ℕ → ℕ → List (List E) → ℕ → ℕ → ℕ → List (List E)
@@ -48,7 +50,8 @@ module _ {E : Type 0} (o : Ops E) where
 
   -- the step at column col
   abbrev pub IsStep : ℕ → ℕ → ℕ → List (List E) → List (List E) → List ℕ → List ℕ → Type 0
-  IsStep h n col rows rows' pivots pivots' = Skips h col rows rows' pivots pivots' ⊎ Pivots h n col rows rows' pivots pivots'
+  IsStep h n col rows rows' pivots pivots' = Skips h col rows rows' pivots pivots'
+      ⊎ Pivots h n col rows rows' pivots pivots'
 
   -- item j of row i with row i of the identity after it
   abbrev pub augmented_item : ℕ → List E → ℕ → ℕ → E
@@ -68,8 +71,8 @@ module _ {E : Type 0} (o : Ops E) where
     pub weight-elem : (i k : ℕ) → IsElem o (weight i k)
     pub combines : (i j : ℕ) → i < h → j < n → sum_of o h (λ k. o.mul (weight i k) (entry o a k j)) ≡ entry o b i j
 
-  -- the first w columns of the h by n matrix are brought into reduced row echelon form, and its rows and the new ones are
-  -- combinations of each other
+  -- the first w columns of the h by n matrix are brought into reduced row echelon form, and its rows and the new ones
+  -- are combinations of each other
   pub record IsEliminated (h n w : ℕ) (rows rows' : List (List E)) (pivots : List ℕ) : Type 0 where
     pub shape : IsMatrix o n rows'
     pub height : length rows' ≡ h

@@ -1,5 +1,6 @@
 -- The vectors and matrices that the calls on subspaces make on their way.
-use Rattle.std.specs.Prelude.{◌≡◌, ◌≢◌, ◌⊎◌, ◌+◌, ◌-◌, ◌<◌, ◌≤◌, ℕ, Bool, List, [], length, get_or, cond, nat_eq, nat_lt}
+use Rattle.std.specs.Prelude.{◌≡◌, ◌≢◌, ◌⊎◌, ◌+◌, ◌-◌, ◌<◌, ◌≤◌, ℕ, Bool, List, [], length, get_or, cond, nat_eq}
+use Rattle.std.specs.Prelude.{nat_lt}
 use Rattle.theory_rings.specs.Ops.{Ops}
 use Rattle.theory_rings.specs.Sum.{table, at}
 use Rattle.theory_tables.specs.Matrix.{entry}
@@ -16,15 +17,18 @@ module _ {E : Type 0} (o : Ops E) where
     pub before : (j : ℕ) → j < p → at o row j ≡ o.zero
     pub nonzero : p < length row → at o row p ≢ o.zero
 
-  -- item l of the vector that a reduced matrix sends to 0, made for column j: 1 at j, less item j of the row whose pivot is
-  -- in column l; where column j has a pivot, the vector is 0
+  -- item l of the vector that a reduced matrix sends to 0, made for column j: 1 at j, less item j of the row whose
+  -- pivot is in column l; where column j has a pivot, the vector is 0
   abbrev pub kernel_item : List (List E) → List ℕ → ℕ → ℕ → E
   kernel_item rows places j l = o.add (cond (nat_eq l j) o.one o.zero) (o.neg (entry o rows (get_or places l 0) j))
 
   -- each row is such a vector, and those for the columns below n without a pivot are all there
-  pub record AreKernelRows (w : ℕ) (rows : List (List E)) (places : List ℕ) (n : ℕ) (vectors : List (List E)) : Type 0 where
-    pub sound : (i : ℕ) → i < length vectors → (j : ℕ) × (j < w) × (get_or vectors i [] ≡ table w (kernel_item rows places j))
-    pub complete : (j : ℕ) → j < n → length rows ≤ get_or places j 0 → (i : ℕ) × (i < length vectors) × (get_or vectors i [] ≡ table w (kernel_item rows places j))
+  pub record AreKernelRows (w : ℕ) (rows : List (List E)) (places : List ℕ) (n : ℕ)
+      (vectors : List (List E)) : Type 0 where
+    pub sound : (i : ℕ) → i < length vectors → (j : ℕ) × (j < w)
+        × (get_or vectors i [] ≡ table w (kernel_item rows places j))
+    pub complete : (j : ℕ) → j < n → length rows ≤ get_or places j 0 → (i : ℕ) × (i < length vectors)
+        × (get_or vectors i [] ≡ table w (kernel_item rows places j))
 
   -- item j of the row with the row after it, or 0
   abbrev pub doubled_item : ℕ → Bool → List E → ℕ → E

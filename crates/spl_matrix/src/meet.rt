@@ -151,8 +151,8 @@ fn right_part_of<F: Field>(
 }
 
 /// The basis of what the spans of the rows of a and of b have in common, by Zassenhaus: each row of a stands twice
-/// beside itself and each of b beside 0, and where the left half of a row of the reduced form is 0, the right half is in
-/// both.
+/// beside itself and each of b beside 0, and where the left half of a row of the reduced form is 0, the right half is
+/// in both.
 pub(crate) fn meet_rows<F: Field>(
     alloc: Global,
     f: &F,

@@ -1,5 +1,6 @@
 -- Whether a list of failing calls is empty, and the room where it is.
-use Rattle.std.specs.Prelude.{◌≡◌, ℕ, ◌<◌, ◌≤◌, Bool, true, false, IsTrue, List, [], ◌∷◌, length, take, Option, None, Some, refl}
+use Rattle.std.specs.Prelude.{◌≡◌, ℕ, ◌<◌, ◌≤◌, Bool, true, false, IsTrue, List, [], ◌∷◌, length, take, Option, None}
+use Rattle.std.specs.Prelude.{Some, refl}
 use Rattle.std.proofs.Common.{sym, subst}
 use Rattle.std.proofs.lemmas.Bool.{false≢true}
 use Rattle.std.proofs.lemmas.List.{length-take-le}
@@ -19,6 +20,8 @@ is_empty-sound [] h = refl
 is_empty-sound (call ∷ calls) h = absurd (false≢true h)
 
 -- where the first `end` bytes of a buffer are fewer than the room that is told, no call is listed, and room is left
-pub room_told-sound : (calls buffer : List ℕ) (end room : ℕ) → length buffer ≡ room → end ≤ room → HasRoom (Some (take end buffer)) (room_told calls room) → (calls ≡ []) × (end < room)
-room_told-sound [] buffer end room full within h = (refl, subst (λ (n : ℕ). n < room) (length-take-le end buffer (subst (λ (n : ℕ). end ≤ n) (sym full) within)) h)
+pub room_told-sound : (calls buffer : List ℕ) (end room : ℕ) → length buffer ≡ room → end ≤ room
+    → HasRoom (Some (take end buffer)) (room_told calls room) → (calls ≡ []) × (end < room)
+room_told-sound [] buffer end room full within h =
+    (refl, subst (λ (n : ℕ). n < room) (length-take-le end buffer (subst (λ (n : ℕ). end ≤ n) (sym full) within)) h)
 room_told-sound (call ∷ calls) buffer end room full within h = absurd h

@@ -1,5 +1,6 @@
 // A source and a sink in memory, whose calls fail as they are told to.
-ghost use Rattle.std.specs.Prelude.{◌≡◌, ℕ, ◌+◌, ◌-◌, ◌<◌, ◌≤◌, [], ◌++◌, ◌⊎◌, ◌↔◌, List, length, take, drop, min, Contains, IsTrue, IsErr, is_some, IfOk, OnOk, OnErr, Option};
+ghost use Rattle.std.specs.Prelude.{◌≡◌, ℕ, ◌+◌, ◌-◌, ◌<◌, ◌≤◌, [], ◌++◌, ◌⊎◌, ◌↔◌, List, length, take, drop, min};
+ghost use Rattle.std.specs.Prelude.{Contains, IsTrue, IsErr, is_some, IfOk, OnOk, OnErr, Option};
 ghost use Rattle.std.specs.Io.KnownBytes.{Keeps, Appends, Consumes, IsAtEnd};
 ghost use Rattle.spl_outside.specs.Faults.{Rose, next_count};
 
@@ -64,7 +65,8 @@ impl MemSource {
 
 impl Source for MemSource {
     ghost use Rattle.std.specs.Prelude.{Some};
-    ghost use Rattle.spl_outside.specs.Memory.{left_of, source_failing, source_call, source_most, source_faults, source_steady};
+    ghost use Rattle.spl_outside.specs.Memory.{left_of, source_failing, source_call, source_most, source_faults};
+    ghost use Rattle.spl_outside.specs.Memory.{source_steady};
     ghost use Rattle.spl_outside.specs.Steady.{is_empty-sound};
 
     ghost left = { λ s. Some (left_of s) };
@@ -116,9 +118,9 @@ impl Source for MemSource {
 impl MemSink {
     ghost use Rattle.spl_outside.specs.Memory.{written_of, room_of, sink_failing, sink_call, sink_most, sink_faults};
 
-    /// A sink that takes at most `most` bytes at a call and `room` bytes in all, and whose calls with the listed numbers
-    /// fail, as do those that find no room. Calls are counted from 1. It reserves the room, so no write takes memory;
-    /// where that fails the answer is NoMemory.
+    /// A sink that takes at most `most` bytes at a call and `room` bytes in all, and whose calls with the listed
+    /// numbers fail, as do those that find no room. Calls are counted from 1. It reserves the room, so no write takes
+    /// memory; where that fails the answer is NoMemory.
     pub fn new(
         alloc: Global,
         room: usize,
@@ -162,7 +164,8 @@ impl MemSink {
 
 impl Sink for MemSink {
     ghost use Rattle.std.specs.Prelude.{Some};
-    ghost use Rattle.spl_outside.specs.Memory.{written_of, room_of, sink_failing, sink_call, sink_most, sink_faults, sink_steady};
+    ghost use Rattle.spl_outside.specs.Memory.{written_of, room_of, sink_failing, sink_call, sink_most, sink_faults};
+    ghost use Rattle.spl_outside.specs.Memory.{sink_steady};
     ghost use Rattle.spl_outside.specs.Steady.{room_told-sound};
 
     ghost written = { λ s. Some (written_of s) };

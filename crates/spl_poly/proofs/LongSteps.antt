@@ -23,11 +23,13 @@ module _ {E : Type 0} (o : Ops E) (L : FieldLaws o) where
   series_of xs h k = (at o xs k, at-elem o L xs h k)
 
   -- c written at s into the quotient and c · by taken from the rest, s places up, keep quotient · by + rest
-  pub step_whole : (q q' r r' by : List E) (hq : All (IsElem o) q) (hq' : All (IsElem o) q') (hr : All (IsElem o) r) (hr' : All (IsElem o) r') (hb : All (IsElem o) by)
+  pub step_whole : (q q' r r' by : List E) (hq : All (IsElem o) q) (hq' : All (IsElem o) q') (hr : All (IsElem o) r)
+      (hr' : All (IsElem o) r') (hb : All (IsElem o) by)
       (s : ℕ) (c : E) → IsElem o c → q' ≡ set q s c → s < length q → at o q s ≡ o.zero
       → ((k : ℕ) → k < s → at o r' k ≡ at o r k)
       → ((j : ℕ) → at o r' (s + j) ≡ o.add (at o r (s + j)) (o.mul (o.neg c) (at o by j)))
-      → (k : ℕ) → o.add (convolution_of o (at o q') (at o by) k) (at o r' k) ≡ o.add (convolution_of o (at o q) (at o by) k) (at o r k)
+      → (k : ℕ) → o.add (convolution_of o (at o q') (at o by) k) (at o r' k) ≡ o.add
+      (convolution_of o (at o q) (at o by) k) (at o r k)
   step_whole q q' r r' by hq hq' hr hr' hb s c hc e inside low kept added k =
       ap (λ x. o.add x (at o r' k)) (convolution_of-elements o L fq' fb k)
       ∙ ap (λ x. x.0) (division_step F.cring s (c, hc) fq fq' fr fr' fb
@@ -59,9 +61,11 @@ module _ {E : Type 0} (o : Ops E) (L : FieldLaws o) where
   step_clears top l u ht hl hu e =
       ap (λ x. x.0) (division_clears F.cring (top, ht) (l, hl) (u, hu) (Elem-path o (F.◌⊗◌ (l, hl) (u, hu)) F.one e))
 
-  pub step_small : (r r' by : List E) (s : ℕ) (u : E) → All (IsElem o) r → All (IsElem o) by → IsElem o u → 0 < length by
+  pub step_small : (r r' by : List E) (s : ℕ) (u : E) → All (IsElem o) r → All (IsElem o) by → IsElem o u
+      → 0 < length by
       → o.mul (at o by (length by - 1)) u ≡ o.one
-      → ((j : ℕ) → at o r' (s + j) ≡ o.add (at o r (s + j)) (o.mul (o.neg (o.mul (at o r (s + (length by - 1))) u)) (at o by j)))
+      → ((j : ℕ) → at o r' (s + j) ≡ o.add (at o r (s + j))
+      (o.mul (o.neg (o.mul (at o r (s + (length by - 1))) u)) (at o by j)))
       → ((k : ℕ) → suc s + (length by - 1) ≤ k → at o r k ≡ o.zero)
       → (k : ℕ) → s + (length by - 1) ≤ k → at o r' k ≡ o.zero
   step_small r r' by s u hr hb hu pos unit added high k le =
@@ -79,12 +83,14 @@ module _ {E : Type 0} (o : Ops E) (L : FieldLaws o) where
       hc : IsElem o (o.neg (o.mul top u))
       hc = L.neg-elem (o.mul top u) (L.mul-elem top u htop hu)
 
-      past : length by - 1 < k - s → o.add (at o r (s + (k - s))) (o.mul (o.neg (o.mul top u)) (at o by (k - s))) ≡ o.zero
+      past : length by - 1 < k - s
+          → o.add (at o r (s + (k - s))) (o.mul (o.neg (o.mul top u)) (at o by (k - s))) ≡ o.zero
       past l =
           ap₂ o.add (high (s + (k - s)) (omega arith)) (mul-past o L by (k - s) (o.neg (o.mul top u)) hc (omega arith))
           ∙ add-zero_elem o L o.zero L.zero-elem
 
-      here : k - s ≤ length by - 1 → o.add (at o r (s + (k - s))) (o.mul (o.neg (o.mul top u)) (at o by (k - s))) ≡ o.zero
+      here : k - s ≤ length by - 1
+          → o.add (at o r (s + (k - s))) (o.mul (o.neg (o.mul top u)) (at o by (k - s))) ≡ o.zero
       here l =
           let e : k - s ≡ length by - 1 = omega arith in
           ap (λ i. o.add (at o r (s + i)) (o.mul (o.neg (o.mul top u)) (at o by i))) e

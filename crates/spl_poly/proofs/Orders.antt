@@ -37,5 +37,6 @@ reverse-take xs i l = ap reverse (take_more xs i 0 l) ∙ reverse-append (take i
 -- the item at i counts before those below it
 pub cmp_from_top : (xs ys : List ℕ) (i : ℕ) → i < length xs → i < length ys
     → slice_cmp nat_cmp (reverse (take (i + 1) xs)) (reverse (take (i + 1) ys))
-    ≡ ordering_then (nat_cmp (get_or xs i 0) (get_or ys i 0)) (slice_cmp nat_cmp (reverse (take i xs)) (reverse (take i ys)))
+    ≡ ordering_then (nat_cmp (get_or xs i 0) (get_or ys i 0))
+    (slice_cmp nat_cmp (reverse (take i xs)) (reverse (take i ys)))
 cmp_from_top xs ys i lx ly = ap₂ (slice_cmp nat_cmp) (reverse-take xs i lx) (reverse-take ys i ly)

@@ -6,7 +6,8 @@ use Rattle.std.proofs.lemmas.List.{get_or_past, get_or-take, take_all, drop_all,
 use Rattle.std.specs.List.{refill}
 use Rattle.theory_rings.specs.Ring.{ZeroTest}
 use Rattle.theory_rings.specs.Polynomial.{IsTrimmed}
-use Rattle.theory_rings.proofs.Polynomials.PolynomialRing.{last-ne-zero, IsTrimmed-injective, IsTrimmed-trim, get_or-trim}
+use Rattle.theory_rings.proofs.Polynomials.PolynomialRing.{last-ne-zero, IsTrimmed-injective, IsTrimmed-trim}
+use Rattle.theory_rings.proofs.Polynomials.PolynomialRing.{get_or-trim}
 use Rattle.spl_poly.specs.Operations.{is_nought, without_zeros}
 
 pub number_test : ZeroTest 0 is_nought
@@ -14,7 +15,8 @@ number_test = record { is_zero-sound = λ a e. eqb-true a 0 e; is_zero-zero = re
 
 module _ {X : Type 0} (nought : X) where
   -- a list that ends with an item other than 0
-  pub IsTrimmed_of_last : (xs : List X) → (0 < length xs → get_or xs (length xs - 1) nought ≢ nought) → IsTrimmed nought xs
+  pub IsTrimmed_of_last : (xs : List X) → (0 < length xs → get_or xs (length xs - 1) nought ≢ nought)
+      → IsTrimmed nought xs
   IsTrimmed_of_last [] h = tt
   IsTrimmed_of_last (x ∷ []) h = λ e. h (omega arith) e
   IsTrimmed_of_last (x ∷ y ∷ ys) h = IsTrimmed_of_last (y ∷ ys) (λ l e. h (omega arith) (go (length ys) e))
@@ -23,14 +25,16 @@ module _ {X : Type 0} (nought : X) where
       go n e = let p : suc n - 1 ≡ n = omega arith in let q : suc (suc n) - 1 ≡ suc n = omega arith in
           ap (λ i. get_or (x ∷ y ∷ ys) i nought) q ∙ ap (λ i. get_or (y ∷ ys) i nought) (sym p) ∙ e
 
-  pub last-ne-zero_of_pos : (xs : List X) → IsTrimmed nought xs → 0 < length xs → get_or xs (length xs - 1) nought ≢ nought
+  pub last-ne-zero_of_pos : (xs : List X) → IsTrimmed nought xs → 0 < length xs
+      → get_or xs (length xs - 1) nought ≢ nought
   last-ne-zero_of_pos [] t l = absurd (omega arith)
   last-ne-zero_of_pos (x ∷ xs) t l =
       let p : suc (length xs) - 1 ≡ length xs = omega arith in
       λ e. last-ne-zero nought x xs t (ap (λ i. get_or (x ∷ xs) i nought) (sym p) ∙ e)
 
   -- items that are 0 from n on bound the length
-  pub length_le_of_zeros : (xs : List X) (n : ℕ) → IsTrimmed nought xs → ((k : ℕ) → n ≤ k → get_or xs k nought ≡ nought) → length xs ≤ n
+  pub length_le_of_zeros : (xs : List X) (n : ℕ) → IsTrimmed nought xs
+      → ((k : ℕ) → n ≤ k → get_or xs k nought ≡ nought) → length xs ≤ n
   length_le_of_zeros [] n t h = omega arith
   length_le_of_zeros (x ∷ xs) n t h = low (length xs) (λ l. last-ne-zero nought x xs t (h (length xs) l))
     where
@@ -38,9 +42,11 @@ module _ {X : Type 0} (nought : X) where
       low m h = omega arith
 
 -- a trimmed list with the items of another is that one without its zeros
-pub without_zeros_unique : (xs ys : List ℕ) → IsTrimmed 0 ys → ((k : ℕ) → get_or ys k 0 ≡ get_or xs k 0) → ys ≡ without_zeros xs
+pub without_zeros_unique : (xs ys : List ℕ) → IsTrimmed 0 ys → ((k : ℕ) → get_or ys k 0 ≡ get_or xs k 0)
+    → ys ≡ without_zeros xs
 without_zeros_unique xs ys t e =
-    IsTrimmed-injective 0 ys (without_zeros xs) t (IsTrimmed-trim number_test xs) (λ k. e k ∙ sym (get_or-trim number_test xs k))
+    IsTrimmed-injective 0 ys (without_zeros xs) t (IsTrimmed-trim number_test xs)
+    (λ k. e k ∙ sym (get_or-trim number_test xs k))
 
 -- the first n items, where those past them are 0 and the last of them is not
 module _ (xs : List ℕ) (n : ℕ) (within : n ≤ length xs) (past : (k : ℕ) → n ≤ k → get_or xs k 0 ≡ 0)
@@ -81,4 +87,5 @@ length_pos_of_ne (x ∷ xs) h = omega arith
 -- the elements written back in full
 pub refill_same : (xs ws : List ℕ) → length ws ≡ length xs → refill (length xs) xs ws ≡ ws
 refill_same xs ws e =
-    ap (take (length xs)) (ap (λ l. ws ++ l) (drop_all (length ws) xs (omega arith)) ∙ append-nil ws) ∙ take_all (length xs) ws (omega arith)
+    ap (take (length xs)) (ap (λ l. ws ++ l) (drop_all (length ws) xs (omega arith)) ∙ append-nil ws)
+    ∙ take_all (length xs) ws (omega arith)

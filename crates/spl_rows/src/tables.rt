@@ -2,9 +2,9 @@
 ghost use Rattle.std.specs.Prelude.{◌≡◌, length, IfOk};
 ghost use Rattle.spl_field.specs.Tables.{AreElements};
 
-use spl_field::list::Codes;
 use spl_field::field::NoMemory;
 use spl_field::laws::{LawAt, check_laws};
+use spl_field::list::Codes;
 use spl_field::small::{SmallField, Tables};
 use std::alloc::Global;
 use std::test::Fail;

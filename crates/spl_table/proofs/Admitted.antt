@@ -10,7 +10,9 @@ pub modulus_most : (p : ℕ) (m : List ℕ) (k : ℕ) → FitsField p m → k < 
 modulus_most p m k fits within = omega (arith, characteristic_most p m fits, fits.below k 0 within)
 
 -- some number is above 255
-pub high_number : (p : ℕ) (m numbers : List ℕ) → numbers ≡ m → (k : ℕ) × (k < length numbers) × (256 ≤ get_or numbers k 0) → FitsField p m → ⊥
+pub high_number : (p : ℕ) (m numbers : List ℕ) → numbers ≡ m → (k : ℕ) × (k < length numbers)
+    × (256 ≤ get_or numbers k 0) → FitsField p m → ⊥
 high_number p m numbers same high fits =
-    let here : (k : ℕ) × (k < length m) × (256 ≤ get_or m k 0) = subst (λ l. (k : ℕ) × (k < length l) × (256 ≤ get_or l k 0)) same high in
+    let here : (k : ℕ) × (k < length m)
+    × (256 ≤ get_or m k 0) = subst (λ l. (k : ℕ) × (k < length l) × (256 ≤ get_or l k 0)) same high in
     omega (arith, modulus_most p m here.0 fits here.1, here.2)

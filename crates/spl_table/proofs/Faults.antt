@@ -1,5 +1,6 @@
 -- From the faults of single lines to those of a text.
-use Rattle.std.proofs.Common.{◌≡◌, ◌≢◌, ℕ, ◌+◌, ◌*◌, ◌%◌, ◌≤◌, List, [], ◌∷◌, ◌++◌, length, None, refl, sym, ap, subst, ◌∙◌, inl, inr, append_assoc, append-nil, arith}
+use Rattle.std.proofs.Common.{◌≡◌, ◌≢◌, ℕ, ◌+◌, ◌*◌, ◌%◌, ◌≤◌, List, [], ◌∷◌, ◌++◌, length, None, refl, sym, ap, subst}
+use Rattle.std.proofs.Common.{◌∙◌, inl, inr, append_assoc, append-nil, arith}
 use Rattle.std.specs.Prelude.{Result, Err, IfErr}
 use Rattle.std.proofs.lemmas.Result.{IfErr-at_err}
 use Rattle.std.specs.List.{flat_map}
@@ -13,13 +14,18 @@ use Rattle.theory_tables.specs.Structure.{Structure}
 use Rattle.theory_fractions.specs.Fraction.{Pair}
 use Rattle.spl_fraction.specs.Fractions.{field_of as base_of}
 use Rattle.spl_fraction.specs.declared.field.Fractions.{Fractions}
-use Rattle.spl_table.specs.TableText.{Entry, Head, first_line, field_line, degree_line, head_lines, entry_line, end_line, lines_before_end, spelling, IsRightHead, IsWellFormed}
-use Rattle.spl_table.specs.Refusal.{whole, Begins, LacksLine, LineFault, last_of, IsFaultOfLines, IsFirstFault, IsRefusal, IsNoTextAt, table_limit}
+use Rattle.spl_table.specs.TableText.{Entry, Head, first_line, field_line, degree_line, head_lines, entry_line}
+use Rattle.spl_table.specs.TableText.{end_line, lines_before_end, spelling, IsRightHead, IsWellFormed}
+use Rattle.spl_table.specs.Refusal.{whole, Begins, LacksLine, LineFault, last_of, IsFaultOfLines, IsFirstFault}
+use Rattle.spl_table.specs.Refusal.{IsRefusal, IsNoTextAt, table_limit}
 use Rattle.spl_table.specs.Table.{fractions_of, degree_of, algebra_of, AreConstants, IsTableOf}
 use Rattle.spl_table.specs.declared.table.Table.{Table}
-use Rattle.spl_table.specs.Reading.{IfRefused, head_of, field_text, degree_text, IsFieldFault, IsDegreeFault, IsFaultAfter, AreEntries}
+use Rattle.spl_table.specs.Reading.{IfRefused, head_of, field_text, degree_text, IsFieldFault, IsDegreeFault}
+use Rattle.spl_table.specs.Reading.{IsFaultAfter, AreEntries}
 use Rattle.spl_table.specs.declared.refusal.Kind.{Kind}
-use Rattle.spl_table.specs.declared.refusal.Kind.TheVariants.{TooLong, NotText, Header, FieldSize, FieldLaw, Degree, Characteristic, EntryForm, EntryRange, EntryOrder, ZeroDenominator, PolyDegree, NoEnd, AfterEnd, NotBuilt}
+use Rattle.spl_table.specs.declared.refusal.Kind.TheVariants.{TooLong, NotText, Header, FieldSize, FieldLaw, Degree}
+use Rattle.spl_table.specs.declared.refusal.Kind.TheVariants.{Characteristic, EntryForm, EntryRange, EntryOrder}
+use Rattle.spl_table.specs.declared.refusal.Kind.TheVariants.{ZeroDenominator, PolyDegree, NoEnd, AfterEnd, NotBuilt}
 use Rattle.spl_table.specs.declared.refusal.Refusal.{Refusal}
 use Rattle.spl_table.specs.declared.refusal.TableFault.{TableFault}
 use Rattle.spl_table.specs.declared.refusal.TableFault.TheVariants.{Refused, Memory}
@@ -38,14 +44,17 @@ module _ (bytes rest : List ℕ) (first : bytes ≡ first_line ++ rest) where
     record {
       rest = rest;
       spelled = first;
-      lacks = λ p m after is are e. not_within 10 rest (field_text p m) after (e ∙ cut_line (field_text p m) after) lacks;
+      lacks = λ p m after is are e.
+          not_within 10 rest (field_text p m) after (e ∙ cut_line (field_text p m) after) lacks;
     },
   ))
 
   module _ (second rest' : List ℕ) (one_line : Lacks 10 second) (cut : rest ≡ second ++ 10 ∷ rest') where
     spelled_field : (p : ℕ) (m : List ℕ) → second ≡ field_text p m → bytes ≡ first_line ++ field_line p m ++ rest'
     spelled_field p m spelled =
-        first ∙ ap (λ t. first_line ++ t) (cut ∙ ap (λ t. t ++ 10 ∷ rest') spelled ∙ sym (cut_line (field_text p m) rest')) ∙ sym (append_assoc first_line (field_line p m) rest')
+        first ∙ ap (λ t. first_line ++ t)
+        (cut ∙ ap (λ t. t ++ 10 ∷ rest') spelled ∙ sym (cut_line (field_text p m) rest'))
+        ∙ sym (append_assoc first_line (field_line p m) rest')
 
     second_fault : (kind : Kind) → IsFieldFault second kind → IsFaultOfLines whole bytes 2 kind
     second_fault Header none = inr (inl (
@@ -53,11 +62,41 @@ module _ (bytes rest : List ℕ) (first : bytes ≡ first_line ++ rest) where
       record {
         rest = rest;
         spelled = first;
-        lacks = λ p m after is are e. none p m is are (split_unique 10 second (field_text p m) rest' after one_line (Lacks-field p m is are) (sym cut ∙ e ∙ cut_line (field_text p m) after)).0;
+        lacks = λ p m after is are e.
+            none p m is are (split_unique 10 second (field_text p m) rest' after one_line (Lacks-field p m is are)
+            (sym cut ∙ e ∙ cut_line (field_text p m) after)).0;
       },
     ))
-    second_fault FieldSize w = (refl, (w.p, w.m, record { rest = rest'; characteristic = w.characteristic; modulus = w.modulus; spelled = spelled_field w.p w.m w.spelled }, w.fault))
-    second_fault (FieldLaw element) w = (refl, (w.p, w.m, record { rest = rest'; characteristic = w.characteristic; modulus = w.modulus; spelled = spelled_field w.p w.m w.spelled }, w.fault))
+    second_fault FieldSize w = (
+      refl,
+      (
+        w.p,
+        w.m,
+        record {
+          rest = rest';
+          characteristic = w.characteristic;
+          modulus = w.modulus;
+          spelled =
+              spelled_field w.p w.m w.spelled;
+        },
+        w.fault,
+      ),
+    )
+    second_fault (FieldLaw element) w = (
+      refl,
+      (
+        w.p,
+        w.m,
+        record {
+          rest = rest';
+          characteristic = w.characteristic;
+          modulus = w.modulus;
+          spelled =
+              spelled_field w.p w.m w.spelled;
+        },
+        w.fault,
+      ),
+    )
     second_fault TooLong w = absurd w.fault
     second_fault NotText w = absurd w.fault
     second_fault Degree w = absurd w.fault
@@ -71,8 +110,10 @@ module _ (bytes rest : List ℕ) (first : bytes ≡ first_line ++ rest) where
     second_fault AfterEnd w = absurd w.fault
     second_fault NotBuilt w = absurd w.fault
 
-    pub second_refused : (e : TableFault) → IfRefused e (λ at kind. (at ≡ 2) × IsFieldFault second kind) → IfRefused e (IsFaultOfLines whole bytes)
-    second_refused (Refused refusal) w = subst (λ at. IsFaultOfLines whole bytes at refusal.kind) (sym w.0) (second_fault refusal.kind w.1)
+    pub second_refused : (e : TableFault) → IfRefused e (λ at kind. (at ≡ 2) × IsFieldFault second kind)
+        → IfRefused e (IsFaultOfLines whole bytes)
+    second_refused (Refused refusal) w =
+        subst (λ at. IsFaultOfLines whole bytes at refusal.kind) (sym w.0) (second_fault refusal.kind w.1)
     second_refused Memory w = tt
 
     -- ---- the third line
@@ -95,9 +136,12 @@ module _ (bytes rest : List ℕ) (first : bytes ≡ first_line ++ rest) where
         head : ℕ → Head
         head n = record { characteristic = p; modulus = m; degree = n }
 
-        pub spelled_head : (n : ℕ) → third ≡ degree_text n → bytes ≡ head_lines (record { characteristic = p; modulus = m; degree = n }) ++ rest''
+        pub spelled_head : (n : ℕ) → third ≡ degree_text n
+            → bytes ≡ head_lines (record { characteristic = p; modulus = m; degree = n }) ++ rest''
         spelled_head n spelled =
-            spelled_field p m field ∙ ap (λ t. first_line ++ field_line p m ++ t) (third_cut ∙ ap (λ t. t ++ 10 ∷ rest'') spelled ∙ sym (cut_line (degree_text n) rest''))
+            spelled_field p m field
+            ∙ ap (λ t. first_line ++ field_line p m ++ t)
+            (third_cut ∙ ap (λ t. t ++ 10 ∷ rest'') spelled ∙ sym (cut_line (degree_text n) rest''))
             ∙ sym (append_assoc (first_line ++ field_line p m) (degree_line n) rest'')
 
         third_fault : (kind : Kind) → IsDegreeFault p third kind → IsFaultOfLines whole bytes 3 kind
@@ -109,13 +153,41 @@ module _ (bytes rest : List ℕ) (first : bytes ≡ first_line ++ rest) where
             rest = rest';
             admitted = admitted;
             spelled = spelled_field p m field;
-            lacks = λ n after is e. none n is (split_unique 10 third (degree_text n) rest'' after third_line (Lacks-degree n is) (sym third_cut ∙ e ∙ cut_line (degree_text n) after)).0;
+            lacks = λ n after is e.
+                none n is (split_unique 10 third (degree_text n) rest'' after third_line (Lacks-degree n is)
+                (sym third_cut ∙ e ∙ cut_line (degree_text n) after)).0;
           },
         ))
-        third_fault Degree w =
-            (refl, (record { characteristic = p; modulus = m; degree = w.n }, record { rest = rest''; admitted = admitted; degree = w.number; spelled = spelled_head w.n w.spelled }, w.fault))
-        third_fault Characteristic w =
-            (refl, (record { characteristic = p; modulus = m; degree = w.n }, record { rest = rest''; admitted = admitted; degree = w.number; spelled = spelled_head w.n w.spelled }, w.fault.0, w.fault.1, w.fault.2))
+        third_fault Degree w = (
+          refl,
+          (
+            record { characteristic = p; modulus = m; degree = w.n },
+            record {
+              rest = rest'';
+              admitted = admitted;
+              degree = w.number;
+              spelled =
+                  spelled_head w.n w.spelled;
+            },
+            w.fault,
+          ),
+        )
+        third_fault Characteristic w = (
+          refl,
+          (
+            record { characteristic = p; modulus = m; degree = w.n },
+            record {
+              rest = rest'';
+              admitted = admitted;
+              degree = w.number;
+              spelled =
+                  spelled_head w.n w.spelled;
+            },
+            w.fault.0,
+            w.fault.1,
+            w.fault.2,
+          ),
+        )
         third_fault TooLong w = absurd w.fault
         third_fault NotText w = absurd w.fault
         third_fault FieldSize w = absurd w.fault
@@ -129,8 +201,10 @@ module _ (bytes rest : List ℕ) (first : bytes ≡ first_line ++ rest) where
         third_fault AfterEnd w = absurd w.fault
         third_fault NotBuilt w = absurd w.fault
 
-        pub third_refused : (e : TableFault) → IfRefused e (λ at kind. (at ≡ 3) × IsDegreeFault p third kind) → IfRefused e (IsFaultOfLines whole bytes)
-        third_refused (Refused refusal) w = subst (λ at. IsFaultOfLines whole bytes at refusal.kind) (sym w.0) (third_fault refusal.kind w.1)
+        pub third_refused : (e : TableFault) → IfRefused e (λ at kind. (at ≡ 3) × IsDegreeFault p third kind)
+            → IfRefused e (IsFaultOfLines whole bytes)
+        third_refused (Refused refusal) w =
+            subst (λ at. IsFaultOfLines whole bytes at refusal.kind) (sym w.0) (third_fault refusal.kind w.1)
         third_refused Memory w = tt
 
 -- ---- the lines of the entries
@@ -143,16 +217,58 @@ module _ (bytes rest : List ℕ) (h : Head) (right : IsRightHead h) (spelled : b
       begins = record {
         head = right;
         entries = w.right;
-        spelled = spelled ∙ ap (λ t. head_lines h ++ t) w.spelled ∙ sym (append_assoc (head_lines h) (flat_map entry_line w.entries) w.rest);
+        spelled = spelled ∙ ap (λ t. head_lines h ++ t) w.spelled
+            ∙ sym (append_assoc (head_lines h) (flat_map entry_line w.entries) w.rest);
       }
 
       go : (kind' : Kind) → LineFault h (last_of None w.entries) w.rest kind' → IsFaultOfLines whole bytes at kind'
-      go EntryForm f = record { head = h; entries = w.entries; rest = w.rest; begins = begins; at_line = w.at_line; fault = f }
-      go EntryRange f = record { head = h; entries = w.entries; rest = w.rest; begins = begins; at_line = w.at_line; fault = f }
-      go EntryOrder f = record { head = h; entries = w.entries; rest = w.rest; begins = begins; at_line = w.at_line; fault = f }
-      go ZeroDenominator f = record { head = h; entries = w.entries; rest = w.rest; begins = begins; at_line = w.at_line; fault = f }
-      go PolyDegree f = record { head = h; entries = w.entries; rest = w.rest; begins = begins; at_line = w.at_line; fault = f }
-      go NoEnd f = record { head = h; entries = w.entries; rest = w.rest; begins = begins; at_line = w.at_line; fault = f }
+      go EntryForm f = record {
+        head = h;
+        entries = w.entries;
+        rest = w.rest;
+        begins = begins;
+        at_line =
+            w.at_line;
+        fault = f;
+      }
+      go EntryRange f = record {
+        head = h;
+        entries = w.entries;
+        rest = w.rest;
+        begins = begins;
+        at_line =
+            w.at_line;
+        fault = f;
+      }
+      go EntryOrder f = record {
+        head = h;
+        entries = w.entries;
+        rest = w.rest;
+        begins = begins;
+        at_line =
+            w.at_line;
+        fault = f;
+      }
+      go ZeroDenominator f =
+          record { head = h; entries = w.entries; rest = w.rest; begins = begins; at_line = w.at_line; fault = f }
+      go PolyDegree f = record {
+        head = h;
+        entries = w.entries;
+        rest = w.rest;
+        begins = begins;
+        at_line =
+            w.at_line;
+        fault = f;
+      }
+      go NoEnd f = record {
+        head = h;
+        entries = w.entries;
+        rest = w.rest;
+        begins = begins;
+        at_line =
+            w.at_line;
+        fault = f;
+      }
       go TooLong f = absurd f
       go NotText f = absurd f
       go Header f = absurd f
@@ -167,14 +283,17 @@ module _ (bytes rest : List ℕ) (h : Head) (right : IsRightHead h) (spelled : b
   entries_refused (Refused refusal) w = entries_fault refusal.line refusal.kind w
   entries_refused Memory w = tt
 
-  module _ (o : Ops ℕ) (after : List ℕ) (number : ℕ) (constants : List (Pair ℕ)) (read : AreEntries o h rest after number constants) where
+  module _ (o : Ops ℕ) (after : List ℕ) (number : ℕ) (constants : List (Pair ℕ))
+      (read : AreEntries o h rest after number constants) where
     all : bytes ≡ lines_before_end h read.entries ++ (end_line ++ after)
-    all = spelled ∙ ap (λ t. head_lines h ++ t) read.spelled ∙ sym (append_assoc (head_lines h) (flat_map entry_line read.entries) (end_line ++ after))
+    all = spelled ∙ ap (λ t. head_lines h ++ t) read.spelled
+        ∙ sym (append_assoc (head_lines h) (flat_map entry_line read.entries) (end_line ++ after))
 
     pub bytes_after_end : length after ≢ 0 → IsFaultOfLines whole bytes (number + 1) AfterEnd
     bytes_after_end some = go after some all
       where
-        go : (left : List ℕ) → length left ≢ 0 → bytes ≡ lines_before_end h read.entries ++ (end_line ++ left) → IsFaultOfLines whole bytes (number + 1) AfterEnd
+        go : (left : List ℕ) → length left ≢ 0 → bytes ≡ lines_before_end h read.entries ++ (end_line ++ left)
+            → IsFaultOfLines whole bytes (number + 1) AfterEnd
         go [] none e = absurd (none refl)
         go (byte ∷ left) more e = record {
           head = h;
@@ -191,31 +310,39 @@ module _ (bytes rest : List ℕ) (h : Head) (right : IsRightHead h) (spelled : b
     pub spelled_whole : length after ≡ 0 → bytes ≡ spelling (record { head = h; entries = read.entries })
     spelled_whole none = go after none all
       where
-        go : (left : List ℕ) → length left ≡ 0 → bytes ≡ lines_before_end h read.entries ++ (end_line ++ left) → bytes ≡ lines_before_end h read.entries ++ end_line
+        go : (left : List ℕ) → length left ≡ 0 → bytes ≡ lines_before_end h read.entries ++ (end_line ++ left)
+            → bytes ≡ lines_before_end h read.entries ++ end_line
         go [] e same = same ∙ ap (λ t. lines_before_end h read.entries ++ t) (append-nil end_line)
         go (byte ∷ left) e same = absurd (omega arith)
 
 -- ---- the whole text
 
-pub right_head : (f : SmallField) (n q : ℕ) → q ≡ characteristic f → IsAdmitted (characteristic f) (modulus_of f) → 2 ≤ n → n ≤ 5 → n % q ≢ 0 → IsRightHead (head_of f n)
+pub right_head : (f : SmallField) (n q : ℕ) → q ≡ characteristic f → IsAdmitted (characteristic f) (modulus_of f)
+    → 2 ≤ n → n ≤ 5 → n % q ≢ 0 → IsRightHead (head_of f n)
 right_head f n q same admitted low high apart =
     record { admitted = admitted; degree_low = low; degree_high = high; apart = subst (λ p. n % p ≢ 0) same apart }
 
-pub table_read : (table : Table) (k : Fractions) (n : ℕ) (es : List Entry) (constants : List (Pair ℕ)) → fractions_of table ≡ k → degree_of table ≡ n
-    → algebra_of table ≡ record { dim = n * n; constants = constants } → AreConstants (small_ops (base_of k)) (n * n) es constants
+pub table_read : (table : Table) (k : Fractions) (n : ℕ) (es : List Entry) (constants : List (Pair ℕ))
+    → fractions_of table ≡ k → degree_of table ≡ n
+    → algebra_of table ≡ record { dim = n * n; constants = constants }
+    → AreConstants (small_ops (base_of k)) (n * n) es constants
     → IsTableOf (record { head = head_of (base_of k) n; entries = es }) table
 table_read table k n es constants fractions degree algebra are = record {
   characteristic = ap (λ (x : Fractions). characteristic (base_of x)) fractions;
   modulus = ap (λ (x : Fractions). modulus_of (base_of x)) fractions;
   degree = degree;
   dimension = ap (λ (A : Structure (Pair ℕ)). A.dim) algebra;
-  constants = subst (λ (x : Fractions). AreConstants (small_ops (base_of x)) (algebra_of table).dim es (algebra_of table).constants) (sym fractions)
+  constants = subst (λ (x : Fractions).
+      AreConstants (small_ops (base_of x)) (algebra_of table).dim es (algebra_of table).constants) (sym fractions)
       (subst (λ (A : Structure (Pair ℕ)). AreConstants (small_ops (base_of k)) A.dim es A.constants) (sym algebra) are);
 }
 
 module _ (bytes : List ℕ) (within : length bytes ≤ table_limit) where
-  pub refused_lines : IsText bytes → (r : Result Table TableFault) → IfErr r (λ e. IfRefused e (IsFaultOfLines whole bytes)) → (refusal : Refusal) → r ≡ Err (Refused refusal) → IsRefusal whole bytes refusal
-  refused_lines text r faults refusal is = go refusal.kind (IfErr-at_err (λ e. IfRefused e (IsFaultOfLines whole bytes)) is faults)
+  pub refused_lines : IsText bytes → (r : Result Table TableFault)
+      → IfErr r (λ e. IfRefused e (IsFaultOfLines whole bytes)) → (refusal : Refusal) → r ≡ Err (Refused refusal)
+      → IsRefusal whole bytes refusal
+  refused_lines text r faults refusal is =
+      go refusal.kind (IfErr-at_err (λ e. IfRefused e (IsFaultOfLines whole bytes)) is faults)
     where
       go : (kind : Kind) → IsFaultOfLines whole bytes refusal.line kind → IsFirstFault whole bytes refusal.line kind
       go TooLong w = absurd w.fault
@@ -234,7 +361,9 @@ module _ (bytes : List ℕ) (within : length bytes ≤ table_limit) where
       go AfterEnd w = (within, text, w)
       go NotBuilt w = (within, text, w)
 
-  pub refused_bytes : (e : TableFault) → IfRefused e (λ at kind. (kind ≡ NotText) × IsNoTextAt bytes at) → (refusal : Refusal) → e ≡ Refused refusal → IsRefusal whole bytes refusal
+  pub refused_bytes : (e : TableFault) → IfRefused e (λ at kind. (kind ≡ NotText) × IsNoTextAt bytes at)
+      → (refusal : Refusal) → e ≡ Refused refusal → IsRefusal whole bytes refusal
   refused_bytes e fault refusal is =
-      let found = subst (λ (x : TableFault). IfRefused x (λ at kind. (kind ≡ NotText) × IsNoTextAt bytes at)) is fault in
+      let found = subst (λ (x : TableFault).
+      IfRefused x (λ at kind. (kind ≡ NotText) × IsNoTextAt bytes at)) is fault in
       subst (λ (kind : Kind). IsFirstFault whole bytes refusal.line kind) (sym found.0) (within, found.1)

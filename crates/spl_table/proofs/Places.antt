@@ -1,5 +1,6 @@
 -- Where the constants of triples stand: each below the number of constants, apart, and in the order of the triples.
-use Rattle.std.proofs.Common.{◌≡◌, ℕ, ◌+◌, ◌-◌, ◌*◌, ◌/◌, ◌%◌, ◌<◌, ◌≤◌, Option, Some, None, refl, sym, ap, ◌∙◌, inl, inr, arith}
+use Rattle.std.proofs.Common.{◌≡◌, ℕ, ◌+◌, ◌-◌, ◌*◌, ◌/◌, ◌%◌, ◌<◌, ◌≤◌, Option, Some, None, refl, sym, ap, ◌∙◌, inl}
+use Rattle.std.proofs.Common.{inr, arith}
 use Rattle.std.specs.Prelude.{IfSome}
 use Rattle.std.proofs.lemmas.Bool.{cases_lt, cases_order}
 use Rattle.std.proofs.lemmas.Nat.{mul-add-lt, div-mul-add, mod-mul-add}
@@ -17,10 +18,13 @@ place-lt m i j k i_below j_below k_below =
     rw (mul_comm (m * m) m) (mul-add-lt (i * m + j) m k (m * m) row k_below)
 
 -- triples at one place are one
-pub place_injective : (m i j k i' j' k' : ℕ) → j < m → k < m → j' < m → k' < m → place m i j k ≡ place m i' j' k' → (i ≡ i') × (j ≡ j') × (k ≡ k')
+pub place_injective : (m i j k i' j' k' : ℕ) → j < m → k < m → j' < m → k' < m → place m i j k ≡ place m i' j' k'
+    → (i ≡ i') × (j ≡ j') × (k ≡ k')
 place_injective m i j k i' j' k' j_below k_below j'_below k'_below e =
-    let rows : i * m + j ≡ i' * m + j' = sym (div-mul-add (i * m + j) m k k_below) ∙ ap (λ x. x / m) e ∙ div-mul-add (i' * m + j') m k' k'_below in
-    let last : k ≡ k' = sym (mod-mul-add (i * m + j) m k k_below) ∙ ap (λ x. x % m) e ∙ mod-mul-add (i' * m + j') m k' k'_below in
+    let rows : i * m + j ≡ i' * m + j' = sym (div-mul-add (i * m + j) m k k_below) ∙ ap (λ x. x / m) e
+    ∙ div-mul-add (i' * m + j') m k' k'_below in
+    let last : k ≡ k' = sym (mod-mul-add (i * m + j) m k k_below) ∙ ap (λ x. x % m) e
+    ∙ mod-mul-add (i' * m + j') m k' k'_below in
     let first : i ≡ i' = sym (div-mul-add i m j j_below) ∙ ap (λ x. x / m) rows ∙ div-mul-add i' m j' j'_below in
     let middle : j ≡ j' = sym (mod-mul-add i m j j_below) ∙ ap (λ x. x % m) rows ∙ mod-mul-add i' m j' j'_below in
     (first, middle, last)
@@ -31,8 +35,10 @@ row-lt m a b a' b' b_below lower =
     omega (arith, above, mul_comm m a')
 
 -- a triple that comes before another stands before it
-pub place-lt-place : (m i j k i' j' k' : ℕ) → j < m → k < m → ComesBefore i j k i' j' k' → place m i j k < place m i' j' k'
-place-lt-place m i j k i' j' k' j_below k_below (inl lower) = row-lt m (i * m + j) k (i' * m + j') k' k_below (row-lt m i j i' j' j_below lower)
+pub place-lt-place : (m i j k i' j' k' : ℕ) → j < m → k < m → ComesBefore i j k i' j' k'
+    → place m i j k < place m i' j' k'
+place-lt-place m i j k i' j' k' j_below k_below (inl lower) =
+    row-lt m (i * m + j) k (i' * m + j') k' k_below (row-lt m i j i' j' j_below lower)
 place-lt-place m i j k i' j' k' j_below k_below (inr (same, inl lower)) =
     row-lt m (i * m + j) k (i' * m + j') k' k_below (omega (arith, ap (λ x. x * m) same))
 place-lt-place m i j k i' j' k' j_below k_below (inr (same, inr (same_too, lower))) =
@@ -40,9 +46,11 @@ place-lt-place m i j k i' j' k' j_below k_below (inr (same, inr (same_too, lower
     omega (arith, ap (λ x. x * m) row)
 
 -- and one that stands before another comes before it
-pub ComesBefore-from_place : (m i j k i' j' k' : ℕ) → j' < m → k' < m → place m i j k < place m i' j' k' → ComesBefore i j k i' j' k'
+pub ComesBefore-from_place : (m i j k i' j' k' : ℕ) → j' < m → k' < m → place m i j k < place m i' j' k'
+    → ComesBefore i j k i' j' k'
 ComesBefore-from_place m i j k i' j' k' j'_below k'_below below =
-    let not_after : ComesBefore i' j' k' i j k → ⊥ = λ after. omega (arith, place-lt-place m i' j' k' i j k j'_below k'_below after) in
+    let not_after : ComesBefore i' j' k' i j k
+    → ⊥ = λ after. omega (arith, place-lt-place m i' j' k' i j k j'_below k'_below after) in
     elim (cases_order i i') [
       | inr (inl lower) ↦ inl lower
       | inr (inr higher) ↦ absurd (not_after (inl higher))
@@ -63,13 +71,18 @@ ComesBefore-from_place m i j k i' j' k' j'_below k'_below below =
 from_0 : (i m : ℕ) → 1 ≤ i → i ≤ m → i - 1 < m
 from_0 i m low high = omega arith
 
-pub place_of-lt : (h : Head) (e : Entry) → IsInRange h e → place_of (dimension_of h) e < dimension_of h * dimension_of h * dimension_of h
+pub place_of-lt : (h : Head) (e : Entry) → IsInRange h e
+    → place_of (dimension_of h) e < dimension_of h * dimension_of h * dimension_of h
 place_of-lt h e range =
-    place-lt (dimension_of h) (e.i - 1) (e.j - 1) (e.k - 1) (from_0 e.i (dimension_of h) range.i_low range.i_high) (from_0 e.j (dimension_of h) range.j_low range.j_high) (from_0 e.k (dimension_of h) range.k_low range.k_high)
+    place-lt (dimension_of h) (e.i - 1) (e.j - 1) (e.k - 1) (from_0 e.i (dimension_of h) range.i_low range.i_high)
+    (from_0 e.j (dimension_of h) range.j_low range.j_high) (from_0 e.k (dimension_of h) range.k_low range.k_high)
 
-pub place_of-lt-place_of : (h : Head) (e f : Entry) → IsInRange h e → IsInRange h f → ComesBefore e.i e.j e.k f.i f.j f.k → place_of (dimension_of h) e < place_of (dimension_of h) f
+pub place_of-lt-place_of : (h : Head) (e f : Entry) → IsInRange h e → IsInRange h f
+    → ComesBefore e.i e.j e.k f.i f.j f.k → place_of (dimension_of h) e < place_of (dimension_of h) f
 place_of-lt-place_of h e f e_range f_range before =
-    place-lt-place (dimension_of h) (e.i - 1) (e.j - 1) (e.k - 1) (f.i - 1) (f.j - 1) (f.k - 1) (from_0 e.j (dimension_of h) e_range.j_low e_range.j_high) (from_0 e.k (dimension_of h) e_range.k_low e_range.k_high) (counted_from_0 before)
+    place-lt-place (dimension_of h) (e.i - 1) (e.j - 1) (e.k - 1) (f.i - 1) (f.j - 1) (f.k - 1)
+    (from_0 e.j (dimension_of h) e_range.j_low e_range.j_high)
+    (from_0 e.k (dimension_of h) e_range.k_low e_range.k_high) (counted_from_0 before)
   where
     il : 1 ≤ e.i
     il = e_range.i_low
@@ -80,15 +93,19 @@ place_of-lt-place_of h e f e_range f_range before =
     kl : 1 ≤ e.k
     kl = e_range.k_low
 
-    counted_from_0 : ComesBefore e.i e.j e.k f.i f.j f.k → ComesBefore (e.i - 1) (e.j - 1) (e.k - 1) (f.i - 1) (f.j - 1) (f.k - 1)
+    counted_from_0 : ComesBefore e.i e.j e.k f.i f.j f.k
+        → ComesBefore (e.i - 1) (e.j - 1) (e.k - 1) (f.i - 1) (f.j - 1) (f.k - 1)
     counted_from_0 (inl lower) = inl (omega (arith, il))
     counted_from_0 (inr (same, inl lower)) = inr (ap (λ x. x - 1) same, inl (omega (arith, jl)))
-    counted_from_0 (inr (same, inr (same_too, lower))) = inr (ap (λ x. x - 1) same, inr (ap (λ x. x - 1) same_too, omega (arith, kl)))
+    counted_from_0 (inr (same, inr (same_too, lower))) =
+        inr (ap (λ x. x - 1) same, inr (ap (λ x. x - 1) same_too, omega (arith, kl)))
 
-pub ComesBefore-from_place_of : (h : Head) (e f : Entry) → IsInRange h e → IsInRange h f → place_of (dimension_of h) e < place_of (dimension_of h) f → ComesBefore e.i e.j e.k f.i f.j f.k
+pub ComesBefore-from_place_of : (h : Head) (e f : Entry) → IsInRange h e → IsInRange h f
+    → place_of (dimension_of h) e < place_of (dimension_of h) f → ComesBefore e.i e.j e.k f.i f.j f.k
 ComesBefore-from_place_of h e f e_range f_range below =
     counted_from_1 (ComesBefore-from_place (dimension_of h) (e.i - 1) (e.j - 1) (e.k - 1) (f.i - 1) (f.j - 1) (f.k - 1)
-    (from_0 f.j (dimension_of h) f_range.j_low f_range.j_high) (from_0 f.k (dimension_of h) f_range.k_low f_range.k_high) below)
+    (from_0 f.j (dimension_of h) f_range.j_low f_range.j_high)
+    (from_0 f.k (dimension_of h) f_range.k_low f_range.k_high) below)
   where
     ei : 1 ≤ e.i
     ei = e_range.i_low
@@ -108,28 +125,33 @@ ComesBefore-from_place_of h e f e_range f_range below =
     fk : 1 ≤ f.k
     fk = f_range.k_low
 
-    counted_from_1 : ComesBefore (e.i - 1) (e.j - 1) (e.k - 1) (f.i - 1) (f.j - 1) (f.k - 1) → ComesBefore e.i e.j e.k f.i f.j f.k
+    counted_from_1 : ComesBefore (e.i - 1) (e.j - 1) (e.k - 1) (f.i - 1) (f.j - 1) (f.k - 1)
+        → ComesBefore e.i e.j e.k f.i f.j f.k
     counted_from_1 (inl lower) = inl (omega (arith, ei, fi))
     counted_from_1 (inr (same, inl lower)) = inr (omega (arith, ei, fi, same), inl (omega (arith, ej, fj)))
-    counted_from_1 (inr (same, inr (same_too, lower))) = inr (omega (arith, ei, fi, same), inr (omega (arith, ej, fj, same_too), omega (arith, ek, fk)))
+    counted_from_1 (inr (same, inr (same_too, lower))) =
+        inr (omega (arith, ei, fi, same), inr (omega (arith, ej, fj, same_too), omega (arith, ek, fk)))
 
 -- ---- the entry before
 
-pub after_previous : (h : Head) (next : ℕ) (previous : Option Entry) (e : Entry) → IsPrevious h next previous → IsInRange h e → next ≤ place_of (dimension_of h) e → IsAfter previous e
+pub after_previous : (h : Head) (next : ℕ) (previous : Option Entry) (e : Entry) → IsPrevious h next previous
+    → IsInRange h e → next ≤ place_of (dimension_of h) e → IsAfter previous e
 after_previous h next previous e is range later = go previous is.range is.place
   where
     go : (d : Option Entry) → IfSome d (IsInRange h) → next ≡ next_of (dimension_of h) d → IsAfter d e
     go None d_range at = tt
     go (Some d) d_range at = ComesBefore-from_place_of h d e d_range range (omega (arith, at, later))
 
-pub not_after_previous : (h : Head) (next : ℕ) (previous : Option Entry) (e : Entry) → IsPrevious h next previous → IsInRange h e → place_of (dimension_of h) e < next → IsAfter previous e → ⊥
+pub not_after_previous : (h : Head) (next : ℕ) (previous : Option Entry) (e : Entry) → IsPrevious h next previous
+    → IsInRange h e → place_of (dimension_of h) e < next → IsAfter previous e → ⊥
 not_after_previous h next previous e is range earlier after = go previous is.range is.place after
   where
     go : (d : Option Entry) → IfSome d (IsInRange h) → next ≡ next_of (dimension_of h) d → IsAfter d e → ⊥
     go None d_range at d_after = omega (arith, at, earlier)
     go (Some d) d_range at d_after = omega (arith, at, earlier, place_of-lt-place_of h d e d_range range d_after)
 
-pub after_next : (h : Head) (next : ℕ) (previous : Option Entry) (e : Entry) → IsPrevious h next previous → IsInRange h e → IsAfter previous e → next ≤ place_of (dimension_of h) e
+pub after_next : (h : Head) (next : ℕ) (previous : Option Entry) (e : Entry) → IsPrevious h next previous
+    → IsInRange h e → IsAfter previous e → next ≤ place_of (dimension_of h) e
 after_next h next previous e is range after =
     elim (cases_lt (place_of (dimension_of h) e) next) [
       | inl earlier ↦ absurd (not_after_previous h next previous e is range earlier after)

@@ -27,14 +27,16 @@ module _ {E : Type 0} (o : Ops E) (A : Structure E) where
         j_high = omega arith;
         k_low = omega arith;
         k_high = omega arith;
-        fails = λ h. third.fails (at_places (i + 1 - 1) (j + 1 - 1) (k + 1 - 1) i j k (omega arith) (omega arith) (omega arith) h);
+        fails = λ h. third.fails
+            (at_places (i + 1 - 1) (j + 1 - 1) (k + 1 - 1) i j k (omega arith) (omega arith) (omega arith) h);
         first = λ x y z lx ly lz b. ⊎_elim
             (λ (l : x + 1 < i + 1). before x y (omega arith) ly z lz)
             (λ (e : (x + 1 ≡ i + 1) × ((y + 1 < j + 1) ⊎ ((y + 1 ≡ j + 1) × (z + 1 < k + 1)))).
             let x_is = e.0 in
             let same : i ≡ x = omega arith in
             ⊎_elim
-            (λ (l : y + 1 < j + 1). at_places i y z x y z same (omega arith) (omega arith) (pair.before y (omega arith) z lz))
+            (λ (l : y + 1 < j + 1).
+            at_places i y z x y z same (omega arith) (omega arith) (pair.before y (omega arith) z lz))
             (λ (d : (y + 1 ≡ j + 1) × (z + 1 < k + 1)).
             let y_is = d.0 in
             let z_lt = d.1 in

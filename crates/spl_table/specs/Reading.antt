@@ -1,6 +1,7 @@
 -- What the parts of the reader answer. Contracts of private functions alone cite it; what a text says to a caller is in
 -- TableText and Refusal.
-use Rattle.std.specs.Prelude.{◌≡◌, ◌≢◌, ℕ, ◌+◌, ◌-◌, ◌*◌, ◌%◌, ◌≤◌, List, ◌++◌, length, codes, decimal, Option, Some, None, IfSome}
+use Rattle.std.specs.Prelude.{◌≡◌, ◌≢◌, ℕ, ◌+◌, ◌-◌, ◌*◌, ◌%◌, ◌≤◌, List, ◌++◌, length, codes, decimal, Option, Some}
+use Rattle.std.specs.Prelude.{None, IfSome}
 use Rattle.std.specs.List.{flat_map}
 use Rattle.theory_rings.specs.Ops.{Ops}
 use Rattle.theory_fractions.specs.Fraction.{Pair}
@@ -9,12 +10,14 @@ use Rattle.spl_field.specs.SmallField.{characteristic, modulus_of}
 use Rattle.spl_field.specs.declared.small.SmallField.{SmallField}
 use Rattle.spl_text.specs.FractionWords.{text_of}
 use Rattle.spl_text.specs.Text.{IsNumber, AreNumbers, numbers_text, fraction_text}
-use Rattle.spl_table.specs.TableText.{Entry, Head, entry_line, end_line, dimension_of, AreRightEntries, IsInRange, IsAfter, IsOverZero, HasSmallDegrees}
+use Rattle.spl_table.specs.TableText.{Entry, Head, entry_line, end_line, dimension_of, AreRightEntries, IsInRange}
+use Rattle.spl_table.specs.TableText.{IsAfter, IsOverZero, HasSmallDegrees}
 use Rattle.spl_table.specs.Refusal.{LineFault, last_of}
 use Rattle.spl_table.specs.Table.{AreConstants}
 use Rattle.spl_table.specs.declared.reader.entry.EntryWords.{EntryWords}
 use Rattle.spl_table.specs.declared.refusal.Kind.{Kind}
-use Rattle.spl_table.specs.declared.refusal.Kind.TheVariants.{Header, FieldSize, FieldLaw, Degree, Characteristic, EntryRange, EntryOrder, ZeroDenominator, PolyDegree}
+use Rattle.spl_table.specs.declared.refusal.Kind.TheVariants.{Header, FieldSize, FieldLaw, Degree, Characteristic}
+use Rattle.spl_table.specs.declared.refusal.Kind.TheVariants.{EntryRange, EntryOrder, ZeroDenominator, PolyDegree}
 use Rattle.spl_table.specs.declared.refusal.TableFault.{TableFault}
 use Rattle.spl_table.specs.declared.refusal.TableFault.TheVariants.{Refused, Memory}
 
@@ -103,13 +106,15 @@ abbrev pub IsEntryFaultOf : Head → Option Entry → Entry → Kind → Type 0
 IsEntryFaultOf h previous e EntryRange = IsInRange h e → ⊥
 IsEntryFaultOf h previous e EntryOrder = IsInRange h e × (IsAfter previous e → ⊥)
 IsEntryFaultOf h previous e ZeroDenominator = IsInRange h e × IsAfter previous e × IsOverZero e.value
-IsEntryFaultOf h previous e PolyDegree = IsInRange h e × IsAfter previous e × (IsOverZero e.value → ⊥) × (HasSmallDegrees e.value → ⊥)
+IsEntryFaultOf h previous e PolyDegree = IsInRange h e × IsAfter previous e × (IsOverZero e.value → ⊥)
+    × (HasSmallDegrees e.value → ⊥)
 IsEntryFaultOf h previous e _ = ⊥
 
 -- ---- the entries
 
 -- the bytes are right entries and the line `end`, and the rest follows; the constants are those of the entries
-pub record AreEntries (o : Ops ℕ) (h : Head) (bytes rest : List ℕ) (number : ℕ) (constants : List (Pair ℕ)) : Type 0 where
+pub record AreEntries (o : Ops ℕ) (h : Head) (bytes rest : List ℕ) (number : ℕ)
+    (constants : List (Pair ℕ)) : Type 0 where
   pub entries : List Entry
   pub right : AreRightEntries h None entries
   pub spelled : bytes ≡ flat_map entry_line entries ++ (end_line ++ rest)

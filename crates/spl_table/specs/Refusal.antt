@@ -1,12 +1,17 @@
 -- Which bytes are the text of a table, and what the first fault of all others is. The bytes are a whole input, or an
 -- input in whose front a table text stands.
-use Rattle.std.specs.Prelude.{◌≡◌, ◌≢◌, ◌⊎◌, ℕ, ◌+◌, ◌%◌, ◌<◌, ◌≤◌, List, [], ◌∷◌, ◌++◌, length, take, codes, Option, Some, None}
+use Rattle.std.specs.Prelude.{◌≡◌, ◌≢◌, ◌⊎◌, ℕ, ◌+◌, ◌%◌, ◌<◌, ◌≤◌, List, [], ◌∷◌, ◌++◌, length, take, codes, Option}
+use Rattle.std.specs.Prelude.{Some, None}
 use Rattle.spl_field.specs.FieldByDigits.{FitsField, IsAdmitted, IsFirstWithoutInverse}
 use Rattle.spl_text.specs.Text.{IsNumber, AreNumbers, line, Lacks, IsText, IsFirstNoText, newlines}
-use Rattle.spl_table.specs.TableText.{Entry, Head, TableText, first_line, field_line, degree_line, head_lines, entry_line, end_line, lines_before_end, spelling, IsRightHead, IsEntry, IsInRange, IsAfter, IsOverZero, HasSmallDegrees, AreRightEntries, IsWellFormed}
+use Rattle.spl_table.specs.TableText.{Entry, Head, TableText, first_line, field_line, degree_line, head_lines}
+use Rattle.spl_table.specs.TableText.{entry_line, end_line, lines_before_end, spelling, IsRightHead, IsEntry, IsInRange}
+use Rattle.spl_table.specs.TableText.{IsAfter, IsOverZero, HasSmallDegrees, AreRightEntries, IsWellFormed}
 use Rattle.spl_table.specs.declared.refusal.Refusal.{Refusal}
 use Rattle.spl_table.specs.declared.refusal.Kind.{Kind}
-use Rattle.spl_table.specs.declared.refusal.Kind.TheVariants.{TooLong, NotText, Header, FieldSize, FieldLaw, Degree, Characteristic, EntryForm, EntryRange, EntryOrder, ZeroDenominator, PolyDegree, NoEnd, AfterEnd}
+use Rattle.spl_table.specs.declared.refusal.Kind.TheVariants.{TooLong, NotText, Header, FieldSize, FieldLaw, Degree}
+use Rattle.spl_table.specs.declared.refusal.Kind.TheVariants.{Characteristic, EntryForm, EntryRange, EntryOrder}
+use Rattle.spl_table.specs.declared.refusal.Kind.TheVariants.{ZeroDenominator, PolyDegree, NoEnd, AfterEnd}
 
 -- the most bytes of a table text
 abbrev pub table_limit : ℕ
@@ -114,8 +119,11 @@ abbrev pub LineFault : Head → Option Entry → List ℕ → Kind → Type 0
 LineFault h previous rest EntryForm = IsNoEntry rest
 LineFault h previous rest EntryRange = IsEntryWith (λ e. IsInRange h e → ⊥) rest
 LineFault h previous rest EntryOrder = IsEntryWith (λ e. IsInRange h e × (IsAfter previous e → ⊥)) rest
-LineFault h previous rest ZeroDenominator = IsEntryWith (λ e. IsInRange h e × IsAfter previous e × IsOverZero e.value) rest
-LineFault h previous rest PolyDegree = IsEntryWith (λ e. IsInRange h e × IsAfter previous e × (IsOverZero e.value → ⊥) × (HasSmallDegrees e.value → ⊥)) rest
+LineFault h previous rest ZeroDenominator =
+    IsEntryWith (λ e. IsInRange h e × IsAfter previous e × IsOverZero e.value) rest
+LineFault h previous rest PolyDegree =
+    IsEntryWith (λ e. IsInRange h e × IsAfter previous e × (IsOverZero e.value → ⊥)
+    × (HasSmallDegrees e.value → ⊥)) rest
 LineFault h previous rest NoEnd = Lacks 10 rest
 LineFault h previous rest _ = ⊥
 
@@ -148,10 +156,14 @@ pub record IsNoTextAt (bytes : List ℕ) (at : ℕ) : Type 0 where
 -- of an input within the limit that is text, the first fault in the order of its lines
 abbrev pub IsFaultOfLines : Extent → List ℕ → ℕ → Kind → Type 0
 IsFaultOfLines extent bytes at Header = LacksLine bytes at
-IsFaultOfLines extent bytes at FieldSize = (at ≡ 2) × ((p : ℕ) × (m : List ℕ) × HasField bytes p m × (FitsField p m → ⊥))
-IsFaultOfLines extent bytes at (FieldLaw element) = (at ≡ 2) × ((p : ℕ) × (m : List ℕ) × HasField bytes p m × IsFirstWithoutInverse p m element)
-IsFaultOfLines extent bytes at Degree = (at ≡ 3) × ((h : Head) × HasHead bytes h × ((2 ≤ h.degree) × (h.degree ≤ 5) → ⊥))
-IsFaultOfLines extent bytes at Characteristic = (at ≡ 3) × ((h : Head) × HasHead bytes h × (2 ≤ h.degree) × (h.degree ≤ 5) × (h.degree % h.characteristic ≡ 0))
+IsFaultOfLines extent bytes at FieldSize = (at ≡ 2)
+    × ((p : ℕ) × (m : List ℕ) × HasField bytes p m × (FitsField p m → ⊥))
+IsFaultOfLines extent bytes at (FieldLaw element) = (at ≡ 2)
+    × ((p : ℕ) × (m : List ℕ) × HasField bytes p m × IsFirstWithoutInverse p m element)
+IsFaultOfLines extent bytes at Degree = (at ≡ 3)
+    × ((h : Head) × HasHead bytes h × ((2 ≤ h.degree) × (h.degree ≤ 5) → ⊥))
+IsFaultOfLines extent bytes at Characteristic = (at ≡ 3)
+    × ((h : Head) × HasHead bytes h × (2 ≤ h.degree) × (h.degree ≤ 5) × (h.degree % h.characteristic ≡ 0))
 IsFaultOfLines whole bytes at AfterEnd = IsAfterEnd bytes at
 IsFaultOfLines extent bytes at kind = IsEntryFault bytes at kind
 
@@ -164,8 +176,9 @@ IsFirstFault extent bytes at kind = IsWithinLimit extent bytes × IsText bytes �
 abbrev pub IsRefusal : Extent → List ℕ → Refusal → Type 0
 IsRefusal extent bytes r = IsFirstFault extent bytes r.line r.kind
 
--- Each byte string is the text of a table or has a refusal. No contract names this yet; `read_table` shows it of the whole
--- form wherever memory suffices.
+-- Each byte string is the text of a table or has a refusal. No contract names this yet; `read_table` shows it of the
+-- whole form wherever memory suffices.
 abbrev pub EachIsTextOrRefused : Extent → Type 0
 EachIsTextOrRefused extent =
-    (bytes : List ℕ) → ((t : TableText) × (rest : List ℕ) × IsTableText extent bytes t rest) ⊎ ((f : Refusal) × IsRefusal extent bytes f)
+    (bytes : List ℕ) → ((t : TableText) × (rest : List ℕ) × IsTableText extent bytes t rest)
+    ⊎ ((f : Refusal) × IsRefusal extent bytes f)

@@ -46,7 +46,8 @@ IsConstant o (Some t) w = IsLowestTerms o w.0 w.1 × IsFraction o w t.numerator 
 pub record AreConstants (o : Ops ℕ) (m : ℕ) (entries : List Entry) (constants : List (Pair ℕ)) : Type 0 where
   pub count : length constants ≡ m * m * m
   pub at : (i j k : ℕ) → i < m → j < m → k < m
-      → IsConstant o (constant_at entries (i + 1) (j + 1) (k + 1)) (slice_index_or constants ((i * m + j) * m + k) ([], []))
+      → IsConstant o (constant_at entries (i + 1) (j + 1) (k + 1))
+      (slice_index_or constants ((i * m + j) * m + k) ([], []))
 
 -- the table that a text stands for
 pub record IsTableOf (text : TableText) (table : Table) : Type 0 where
@@ -54,4 +55,5 @@ pub record IsTableOf (text : TableText) (table : Table) : Type 0 where
   pub modulus : modulus_of (base_of table.fractions) ≡ text.head.modulus
   pub degree : table.degree ≡ text.head.degree
   pub dimension : table.algebra.dim ≡ text.head.degree * text.head.degree
-  pub constants : AreConstants (small_ops (base_of table.fractions)) table.algebra.dim text.entries table.algebra.constants
+  pub constants : AreConstants
+      (small_ops (base_of table.fractions)) table.algebra.dim text.entries table.algebra.constants

@@ -1,6 +1,7 @@
 -- The text of a table: what such a text says, how it is spelled, and which texts are well formed. Each text says one
 -- thing, since a number has one spelling.
-use Rattle.std.specs.Prelude.{◌≡◌, ◌≢◌, ◌⊎◌, ℕ, ◌*◌, ◌^◌, ◌%◌, ◌<◌, ◌≤◌, ◌==◌, ◌&&◌, if◌then◌else◌, List, [], ◌∷◌, ◌++◌, length, codes, decimal, Option, Some, None}
+use Rattle.std.specs.Prelude.{◌≡◌, ◌≢◌, ◌⊎◌, ℕ, ◌*◌, ◌^◌, ◌%◌, ◌<◌, ◌≤◌, ◌==◌, ◌&&◌, if◌then◌else◌, List, [], ◌∷◌, ◌++◌}
+use Rattle.std.specs.Prelude.{length, codes, decimal, Option, Some, None}
 use Rattle.std.specs.List.{flat_map, AllByRecursion}
 use Rattle.spl_field.specs.FieldByDigits.{IsAdmitted}
 use Rattle.spl_text.specs.Text.{FractionText, IsFractionText, IsNumber, fraction_text, numbers_text, line}
@@ -38,7 +39,8 @@ abbrev pub head_lines : Head → List ℕ
 head_lines h = first_line ++ field_line h.characteristic h.modulus ++ degree_line h.degree
 
 abbrev pub entry_line : Entry → List ℕ
-entry_line e = line (decimal e.i ++ codes " " ++ decimal e.j ++ codes " " ++ decimal e.k ++ codes " " ++ fraction_text e.value)
+entry_line e = line (decimal e.i ++ codes " " ++ decimal e.j ++ codes " " ++ decimal e.k ++ codes " "
+    ++ fraction_text e.value)
 
 abbrev pub end_line : List ℕ
 end_line = line (codes "end")

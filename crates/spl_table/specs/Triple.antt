@@ -31,4 +31,5 @@ module _ {E : Type 0} (o : Ops E) (A : Structure E) where
     pub k_low : 1 ≤ t.k
     pub k_high : t.k ≤ A.dim
     pub fails : AssociatesAt o A (t.i - 1) (t.j - 1) (t.k - 1) → ⊥
-    pub first : (i j k : ℕ) → i < A.dim → j < A.dim → k < A.dim → ComesBefore (i + 1) (j + 1) (k + 1) t.i t.j t.k → AssociatesAt o A i j k
+    pub first : (i j k : ℕ) → i < A.dim → j < A.dim → k < A.dim → ComesBefore (i + 1) (j + 1) (k + 1) t.i t.j t.k
+        → AssociatesAt o A i j k

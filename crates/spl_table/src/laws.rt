@@ -18,5 +18,6 @@ pub fn no_text_has_both()
 
 /// A text has at most one refusal.
 pub fn one_refusal_a_text()
-    ensures { (extent : Extent) (bytes : List ℕ) (f g : Refusal) → IsRefusal extent bytes f → IsRefusal extent bytes g → f ≡ g }
+    ensures { (extent : Extent) (bytes : List ℕ) (f g : Refusal) → IsRefusal extent bytes f → IsRefusal extent bytes g
+        → f ≡ g }
 {}

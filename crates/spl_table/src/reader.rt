@@ -38,7 +38,8 @@ fn check_text(bytes: &[u8]) -> Result<(), TableFault>
 
 /// The table of the lines.
 fn read_lines(alloc: Global, bytes: &[u8]) -> Result<Table, TableFault>
-    ensures ok { IfOk result (λ table. (t : TableText) × IsWellFormed t × (bytes.now ≡ spelling t) × IsTableOf t table) }
+    ensures ok { IfOk result
+        (λ table. (t : TableText) × IsWellFormed t × (bytes.now ≡ spelling t) × IsTableOf t table) }
     ensures fault { IfErr result (λ e. IfRefused e (IsFaultOfLines whole bytes.now)) }
 {
     let Some(rest) = strip_prefix(bytes, b"spl-table 1\n") else {
@@ -59,11 +60,12 @@ fn read_lines(alloc: Global, bytes: &[u8]) -> Result<Table, TableFault>
     Ok(Table::of(alloc, fractions, n, entries.constants)?)
 }
 
-/// The table that the bytes stand for, where they are a table text. A refusal carries the first fault: too many bytes, a
-/// byte that is none of a text, or the first line at fault.
+/// The table that the bytes stand for, where they are a table text. A refusal carries the first fault: too many bytes,
+/// a byte that is none of a text, or the first line at fault.
 pub fn read_table(alloc: Global, bytes: &[u8]) -> Result<Table, TableFault>
     ensures ok { IfOk result (λ table. (t : TableText) × IsTableText whole bytes.now t [] × IsTableOf t table) }
-    ensures refused { (refusal : Refusal) → result ≡ Err (TableFault.Refused refusal) → IsRefusal whole bytes.now refusal }
+    ensures refused { (refusal : Refusal) → result ≡ Err (TableFault.Refused refusal)
+        → IsRefusal whole bytes.now refusal }
 {
     if bytes.len() > TABLE_LIMIT {
         return Err(TableFault::at(0, Kind::TooLong));

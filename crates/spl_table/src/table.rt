@@ -31,8 +31,8 @@ impl Table {
     ghost use Rattle.theory_tables.specs.Structure.{IsOver};
     ghost use Rattle.spl_table.specs.Table.{fractions_of, field_of, degree_of, algebra_of, ops_of};
 
-    /// The table of a field of fractions, a degree n and n⁶ constants: that at the basis elements i, j and k, counted from
-    /// 0, stands at (i·m + j)·m + k, where m is n².
+    /// The table of a field of fractions, a degree n and n⁶ constants: that at the basis elements i, j and k, counted
+    /// from 0, stands at (i·m + j)·m + k, where m is n².
     pub(crate) fn of(
         alloc: Global,
         fractions: Fractions,
@@ -56,8 +56,8 @@ impl Table {
         })
     }
 
-    /// The table of a field, a degree n and n⁶ constants, which are fractions over the field: that at the basis elements
-    /// i, j and k, counted from 0, stands at (i·m + j)·m + k, where m is n². The one fault is want of memory.
+    /// The table of a field, a degree n and n⁶ constants, which are fractions over the field: that at the basis
+    /// elements i, j and k, counted from 0, stands at (i·m + j)·m + k, where m is n². The one fault is want of memory.
     pub fn new(
         alloc: Global,
         field: SmallField,

@@ -88,8 +88,8 @@ fn first_triple<F: Field>(alloc: Global, f: &F, a: &Algebra<F>) -> Result<Option
     Ok(None)
 }
 
-/// The first triple (i, j, k) in lexicographic order where (b_i·b_j)·b_k and b_i·(b_j·b_k) differ; None exactly where the
-/// table is associative.
+/// The first triple (i, j, k) in lexicographic order where (b_i·b_j)·b_k and b_i·(b_j·b_k) differ; None exactly where
+/// the table is associative.
 pub fn first_failed_triple(alloc: Global, table: &Table) -> Result<Option<Triple>, NoMemory>
     ensures { IfOk result (λ r. MatchOption r (IsAssociative (ops_of table.now) (algebra_of table.now))
         (IsFirstFailed (ops_of table.now) (algebra_of table.now))) }

@@ -1,6 +1,7 @@
--- Which bytes a text holds, and how numbers, lists of numbers and fractions are spelled in it. A word spells one number,
--- one list, one fraction.
-use Rattle.std.specs.Prelude.{◌≡◌, ◌≢◌, ◌⊎◌, ℕ, ◌^◌, ◌<◌, ◌≤◌, ◌==◌, List, [], ◌∷◌, ◌++◌, length, slice_index, count_by, codes, decimal, Option, Some, None, IfSome}
+-- Which bytes a text holds, and how numbers, lists of numbers and fractions are spelled in it. A word spells one
+-- number, one list, one fraction.
+use Rattle.std.specs.Prelude.{◌≡◌, ◌≢◌, ◌⊎◌, ℕ, ◌^◌, ◌<◌, ◌≤◌, ◌==◌, List, [], ◌∷◌, ◌++◌, length, slice_index, count_by}
+use Rattle.std.specs.Prelude.{codes, decimal, Option, Some, None, IfSome}
 use Rattle.std.specs.List.{AllByRecursion}
 use Rattle.theory_rings.specs.Polynomial.{IsTrimmed}
 

@@ -1,6 +1,7 @@
--- What the field factors of a commutative subalgebra say: they exist, they are unique, and over a field of q elements the solutions of
--- z^q = z are the combinations of their idempotents, an algebra with the operations of the tuples of scalars.
--- (Berlekamp, Factoring polynomials over finite fields, 1967; Rónyai, Computing the structure of finite algebras, 1990.)
+-- What the field factors of a commutative subalgebra say: they exist, they are unique, and over a field of q elements
+-- the solutions of z^q = z are the combinations of their idempotents, an algebra with the operations of the tuples of
+-- scalars. (Berlekamp, Factoring polynomials over finite fields, 1967; Rónyai, Computing the structure of finite
+-- algebras, 1990.)
 use Rattle.std.specs.Prelude.{◌≡◌, ℕ, ◌<◌, ◌^◌, ◌↔◌}
 use Rattle.theory_rings.specs.Ring.{FieldOn}
 use Rattle.theory_rings.specs.Prime.{IsPrime}
@@ -24,23 +25,27 @@ module _ {K V : Type 0} (F : FieldOn K) (A : AlgebraOn F.ring V) (S : V → Type
   FactorsAreUnique = IsSubalgebra A S → IsCommutativeIn F A S → (D G : FieldFactors F A S) → SameFactors D G
 
 module _ {K V : Type 0} (F : FieldOn K) (E : Enumerated K) (A : AlgebraOn F.ring V) (S : V → Type 0) where
-  -- weights c 0, .., c (s − 1) are sent to their combination of e 0, .., e (s − 1) one to one, onto the solutions of z^q = z in S, and
-  -- products and ones to products and one: so the solutions are the algebra of the s-tuples of scalars
+  -- weights c 0, .., c (s − 1) are sent to their combination of e 0, .., e (s − 1) one to one, onto the solutions of
+  -- z^q = z in S, and products and ones to products and one: so the solutions are the algebra of the s-tuples of
+  -- scalars
   pub record SolutionsArePower (s : ℕ) (e : ℕ → V) : Type 0 where
     pub independent : Independent (module_of A) s e
     pub solutions : (z : V) → (S z × IsFixed A.ring E.size z) ↔ InSpan (module_of A) s e z
-    pub map-mul : (c d : ℕ → K) → comb (module_of A) s (λ i. F.◌⊗◌ (c i) (d i)) e ≡ A.◌⊗◌ (comb (module_of A) s c e) (comb (module_of A) s d e)
+    pub map-mul : (c d : ℕ → K)
+        → comb (module_of A) s (λ i. F.◌⊗◌ (c i) (d i)) e ≡ A.◌⊗◌ (comb (module_of A) s c e) (comb (module_of A) s d e)
     pub map-one : comb (module_of A) s (λ i. F.one) e ≡ A.one
 
   -- so it is for the idempotents of each direct product of fields that S is
   abbrev pub FixedPointsByFactors : Type 0
-  FixedPointsByFactors = IsSubalgebra A S → IsCommutativeIn F A S → (D : FieldFactors F A S) → SolutionsArePower D.count D.idempotent
+  FixedPointsByFactors = IsSubalgebra A S → IsCommutativeIn F A S → (D : FieldFactors F A S)
+      → SolutionsArePower D.count D.idempotent
 
-  -- over a field of q = p^i elements, p prime and p·1 = 0, a commutative subalgebra of finite dimension in which 0 alone is
-  -- nilpotent is such a product
+  -- over a field of q = p^i elements, p prime and p·1 = 0, a commutative subalgebra of finite dimension in which 0
+  -- alone is nilpotent is such a product
   abbrev pub FieldFactorsExist : Type 0
   FieldFactorsExist = (p i : ℕ) → IsPrime p → times F.monoid p F.one ≡ F.zero → E.size ≡ p ^ i
-      → IsSubalgebra A S → IsCommutativeIn F A S → IsReducedIn F A S → (k : ℕ) → BasisOf (module_of A) k S → FieldFactors F A S
+      → IsSubalgebra A S → IsCommutativeIn F A S → IsReducedIn F A S → (k : ℕ) → BasisOf (module_of A) k S
+      → FieldFactors F A S
 
 module _ {K V : Type 0} (F : FieldOn K) (E : Enumerated K) (A : AlgebraOn F.ring V) where
   -- the factors of a commutative algebra, and the solutions by them
@@ -48,7 +53,8 @@ module _ {K V : Type 0} (F : FieldOn K) (E : Enumerated K) (A : AlgebraOn F.ring
     pub factors : FieldFactors F A Whole
     pub solutions : SolutionsArePower F E A Whole factors.count factors.idempotent
 
-  -- in a commutative algebra in which 0 alone is nilpotent the solutions are a power of the field, with one place for each factor
+  -- in a commutative algebra in which 0 alone is nilpotent the solutions are a power of the field, with one place for
+  -- each factor
   abbrev pub SolutionsArePowerOfField : Type 0
   SolutionsArePowerOfField = (p i : ℕ) → IsPrime p → times F.monoid p F.one ≡ F.zero → E.size ≡ p ^ i
       → IsCommutative A.ring → IsReduced A.ring → WholeByFactors

@@ -18,8 +18,8 @@ module _ {K V : Type 0} (F : FieldOn K) (A : AlgebraOn F.ring V) (S : V → Type
   abbrev pub IsReducedIn : Type 0
   IsReducedIn = (x : V) → S x → IsNilpotent A.ring x → x ≡ A.zero
 
-  -- S is the direct product of `count` fields: orthogonal idempotents of S other than 0 with the sum one, on each of which each
-  -- member of S other than 0 has an inverse
+  -- S is the direct product of `count` fields: orthogonal idempotents of S other than 0 with the sum one, on each of
+  -- which each member of S other than 0 has an inverse
   pub record FieldFactors : Type 0 where
     pub count : ℕ
     pub idempotent : ℕ → V

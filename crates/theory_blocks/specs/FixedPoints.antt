@@ -38,14 +38,16 @@ module _ {K V : Type 0} {R : RingOn K} (A : AlgebraOn R V) where
     pub mul-in : (x y : V) → S x → S y → S (A.◌⊗◌ x y)
 
 module _ {K V : Type 0} (F : FieldOn K) (E : Enumerated K) (A : AlgebraOn F.ring V) where
-  -- in a commutative algebra over a field of q = p^i elements, p prime and p·1 = 0, the solutions of z^q = z are a subalgebra
+  -- in a commutative algebra over a field of q = p^i elements, p prime and p·1 = 0, the solutions of z^q = z are a
+  -- subalgebra
   abbrev pub FixedPointsLaw : Type 0
   FixedPointsLaw = IsCommutative A.ring → (p i : ℕ) → IsPrime p → times F.monoid p F.one ≡ F.zero → E.size ≡ p ^ i
       → IsSubalgebra A (IsFixed A.ring E.size)
 
   -- a commutative algebra in which 0 alone is nilpotent, and multiples of one alone solve z^q = z, has inverses
   abbrev pub FieldCriterion : Type 0
-  FieldCriterion = IsCommutative A.ring → IsReduced A.ring → ((z : V) → IsFixed A.ring E.size z → IsScalar A z) → HasInverses A.ring
+  FieldCriterion = IsCommutative A.ring → IsReduced A.ring → ((z : V) → IsFixed A.ring E.size z → IsScalar A z)
+      → HasInverses A.ring
 
   -- so where 1 is not 0 it is a field, with the same operations
   abbrev pub ConnectedIsField : Type 0

@@ -13,7 +13,8 @@ use Rattle.theory_blocks.specs.Splitting.{less_scalar}
 module _ {K V : Type 0} (F : FieldOn K) (E : Enumerated K) (A : AlgebraOn F.ring V) where
   -- (z − d)/(c − d), where c and d have the numbers k and j; 1 where they are one
   abbrev pub lagrange_factor : V → ℕ → ℕ → V
-  lagrange_factor z k j = cond (eqb j k) A.one (A.◌•◌ (F.inv (F.◌⊕◌ (E.member k) (F.neg (E.member j)))) (less_scalar A z (E.member j)))
+  lagrange_factor z k j =
+      cond (eqb j k) A.one (A.◌•◌ (F.inv (F.◌⊕◌ (E.member k) (F.neg (E.member j)))) (less_scalar A z (E.member j)))
 
   -- the product of (z − d)/(c − d) over the elements d of the field other than c, where c has the number k
   abbrev pub lagrange : V → ℕ → V

@@ -23,9 +23,11 @@ module _ {K V : Type 0} {R : RingOn K} (A : AlgebraOn R V) where
 
   -- no ideal but 0 is nilpotent
   abbrev pub HasNoNilpotentIdeal : Type 0
-  HasNoNilpotentIdeal = (n : ℕ) (g : ℕ → V) → IsNilpotentIdeal A.ring (InSpan (module_of A) n g) → (i : ℕ) → i < n → g i ≡ A.zero
+  HasNoNilpotentIdeal = (n : ℕ) (g : ℕ → V) → IsNilpotentIdeal A.ring (InSpan (module_of A) n g) → (i : ℕ) → i < n
+      → g i ≡ A.zero
 
-  -- an idempotent of the centre and of the span of g 0, .., g (n − 1), which fixes the members of the span and no others
+  -- an idempotent of the centre and of the span of g 0, .., g (n − 1), which fixes the members of the span and no
+  -- others
   pub record CentralUnit (n : ℕ) (g : ℕ → V) : Type 0 where
     pub unit : V
     pub inside : InSpan (module_of A) n g unit
@@ -55,7 +57,8 @@ module _ {K V : Type 0} {R : RingOn K} (A : AlgebraOn R V) where
       → ((j : ℕ) → j < n → g j ≡ A.zero) ⊎ ((x : V) → e ⊗ x ≡ x → InSpan (module_of A) n g x)
 
 module _ {K V : Type 0} (F : FieldOn K) (A : AlgebraOn F.ring V) where
-  -- the maximal ideals are the sets of elements that one of the idempotents of the centre sends to 0; what it fixes is simple
+  -- the maximal ideals are the sets of elements that one of the idempotents of the centre sends to 0; what it fixes is
+  -- simple
   pub record MaximalIdealsByFactors (D : FieldFactors F A (Centre A)) : Type 0 where
     pub maximal : (i : ℕ) → i < D.count → IsMaximalIdeal A (Annihilated A (D.idempotent i))
     pub distinct : (i j : ℕ) → i < D.count → j < D.count
@@ -70,15 +73,16 @@ module _ {K V : Type 0} (F : FieldOn K) (A : AlgebraOn F.ring V) where
   MaximalIdealsLaw = HasNoNilpotentIdeal A → (D : FieldFactors F A (Centre A)) → MaximalIdealsByFactors D
 
 module _ {K V : Type 0} (F : FieldOn K) (E : Enumerated K) (A : AlgebraOn F.ring V) where
-  -- the centre is a product of fields, with one maximal ideal for each; the solutions of z^q = z in the centre are the combinations
-  -- of the idempotents, so that their dimension is the number of the maximal ideals
+  -- the centre is a product of fields, with one maximal ideal for each; the solutions of z^q = z in the centre are the
+  -- combinations of the idempotents, so that their dimension is the number of the maximal ideals
   pub record MaximalIdealsBySolutions : Type 0 where
     pub factors : FieldFactors F A (Centre A)
     pub ideals : MaximalIdealsByFactors F A factors
     pub solutions : SolutionsArePower F E A (Centre A) factors.count factors.idempotent
     pub dimension : BasisOf (module_of A) factors.count (λ z. Centre A z × IsFixed A.ring E.size z)
 
-  -- so it is over a field of q = p^i elements, p prime and p·1 = 0, in an algebra of finite dimension without nilpotent ideals but 0
+  -- so it is over a field of q = p^i elements, p prime and p·1 = 0, in an algebra of finite dimension without nilpotent
+  -- ideals but 0
   abbrev pub MaximalIdealsAreFinitelyMany : Type 0
   MaximalIdealsAreFinitelyMany = (p i : ℕ) → IsPrime p → times F.monoid p F.one ≡ F.zero → E.size ≡ p ^ i
       → HasNoNilpotentIdeal A → MaximalIdealsBySolutions

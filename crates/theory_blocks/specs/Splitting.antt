@@ -21,8 +21,10 @@ pub record IsZeroDivisor {V : Type 0} (R : RingOn V) (x : V) : Type 0 where
 module _ {K V : Type 0} (F : FieldOn K) (E : Enumerated K) (A : AlgebraOn F.ring V) where
   -- where z^q = z, the product of z − c over the q elements c of the field is 0
   abbrev pub ScalarFactorsVanish : Type 0
-  ScalarFactorsVanish = (z : V) → IsFixed A.ring E.size z → product A.ring (λ i. less_scalar A z (E.member i)) E.size ≡ A.zero
+  ScalarFactorsVanish = (z : V) → IsFixed A.ring E.size z
+      → product A.ring (λ i. less_scalar A z (E.member i)) E.size ≡ A.zero
 
   -- where z^q = z and z is no multiple of one, some z − c is a zero divisor
   abbrev pub ZeroDivisorsExist : Type 0
-  ZeroDivisorsExist = (z : V) → IsFixed A.ring E.size z → (IsScalar A z → ⊥) → (c : K) × IsZeroDivisor A.ring (less_scalar A z c)
+  ZeroDivisorsExist = (z : V) → IsFixed A.ring E.size z → (IsScalar A z → ⊥) → (c : K)
+      × IsZeroDivisor A.ring (less_scalar A z c)

@@ -1,5 +1,6 @@
--- Independence and bases over the centre of an algebra, the maps y → x·y·w with the dimension of their span, and the test of
--- simple algebras by these. (Jacobson, Basic Algebra II, section 4.6; Pierce, Associative Algebras, chapter 12.)
+-- Independence and bases over the centre of an algebra, the maps y → x·y·w with the dimension of their span, and the
+-- test of simple algebras by these. (Jacobson, Basic Algebra II, section 4.6; Pierce, Associative Algebras, chapter
+-- 12.)
 use Rattle.std.specs.Prelude.{◌≡◌, ℕ, ◌*◌, ◌/◌, ◌%◌, ◌<◌, ◌≤◌}
 use Rattle.theory_rings.specs.Ring.{RingOn, FieldOn}
 use Rattle.theory_rings.specs.Sum.{sum}
@@ -29,10 +30,11 @@ module _ {K V : Type 0} {R : RingOn K} (A : AlgebraOn R V) where
     pub independent : IndependentOverCentre n vec
     pub spans : (x : V) → InSpanOverCentre n vec x
 
-  -- where a 0, .., a (n − 1) are independent over the centre, the map y → a 0·y·x 0 + .. + a (n − 1)·y·x (n − 1) is 0 only
-  -- where all the x are
+  -- where a 0, .., a (n − 1) are independent over the centre, the map y → a 0·y·x 0 + .. + a (n − 1)·y·x (n − 1) is 0
+  -- only where all the x are
   abbrev pub TwoSidedMapsVanish : Type 0
-  TwoSidedMapsVanish = (n : ℕ) (a x : ℕ → V) → IndependentOverCentre n a → ((y : V) → sum A.monoid n (λ i. A.◌⊗◌ (A.◌⊗◌ (a i) y) (x i)) ≡ A.zero)
+  TwoSidedMapsVanish = (n : ℕ) (a x : ℕ → V) → IndependentOverCentre n a
+      → ((y : V) → sum A.monoid n (λ i. A.◌⊗◌ (A.◌⊗◌ (a i) y) (x i)) ≡ A.zero)
       → (i : ℕ) → i < n → x i ≡ A.zero
 
 module _ {K V : Type 0} (F : FieldOn K) (A : AlgebraOn F.ring V) (m : ℕ) (B : Basis (module_of A) m) where
@@ -48,8 +50,8 @@ module _ {K V : Type 0} (F : FieldOn K) (A : AlgebraOn F.ring V) (m : ℕ) (B : 
   abbrev pub TwoSidedRank : ℕ → Type 0
   TwoSidedRank r = BasisOf (maps V (module_of A)) r (InSpan (maps V (module_of A)) (m * m) two_sided)
 
-  -- where the centre has dimension z: the algebra is simple exactly where the centre is a field and the maps span a space of
-  -- the dimension m²/z, and where the centre is a field the dimension is no more than this
+  -- where the centre has dimension z: the algebra is simple exactly where the centre is a field and the maps span a
+  -- space of the dimension m²/z, and where the centre is a field the dimension is no more than this
   pub record SimpleByRank (z : ℕ) : Type 0 where
     pub to_field : IsSimple A → CentreIsField A
     pub to_rank : IsSimple A → (r : ℕ) → TwoSidedRank r → r * z ≡ m * m
@@ -66,4 +68,5 @@ module _ {K V : Type 0} (F : FieldOn K) (A : AlgebraOn F.ring V) (m : ℕ) (B : 
     pub is_rank : TwoSidedRank rank
     pub unique : (r : ℕ) → TwoSidedRank r → r ≡ rank
     pub rows : BasisOf (functions F.ring) rank (InSpan (functions F.ring) (m * m) (λ t. map_row (two_sided t)))
-    pub unique_rows : (r : ℕ) → BasisOf (functions F.ring) r (InSpan (functions F.ring) (m * m) (λ t. map_row (two_sided t))) → r ≡ rank
+    pub unique_rows : (r : ℕ)
+        → BasisOf (functions F.ring) r (InSpan (functions F.ring) (m * m) (λ t. map_row (two_sided t))) → r ≡ rank

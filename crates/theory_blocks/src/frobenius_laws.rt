@@ -10,8 +10,8 @@ pub fn fixed_points_are_a_subalgebra<A: BasedAlgebra>()
     ensures { (E : Enumerated A.Scalar) → FixedPointsLaw A.field E A.algebra }
 {}
 
-/// In a commutative algebra without nilpotent elements but 0, in which only the multiples of one solve z^q = z, each element but 0
-/// has an inverse.
+/// In a commutative algebra without nilpotent elements but 0, in which only the multiples of one solve z^q = z, each
+/// element but 0 has an inverse.
 pub fn field_criterion<A: BasedAlgebra>()
     ensures { (E : Enumerated A.Scalar) → FieldCriterion A.field E A.algebra }
 {}

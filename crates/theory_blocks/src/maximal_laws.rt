@@ -2,7 +2,8 @@
 ghost use Rattle.theory_rings.specs.Enumerated.{Enumerated};
 ghost use Rattle.theory_blocks.specs.FixedPoints.{IsSubalgebra};
 ghost use Rattle.theory_blocks.specs.Centre.{Centre};
-ghost use Rattle.theory_blocks.specs.MaximalIdeals.{IdealsHaveCentralUnits, CentreIsReduced, MaximalIdealsLaw, MaximalIdealsAreFinitelyMany};
+ghost use Rattle.theory_blocks.specs.MaximalIdeals.{IdealsHaveCentralUnits, CentreIsReduced, MaximalIdealsLaw};
+ghost use Rattle.theory_blocks.specs.MaximalIdeals.{MaximalIdealsAreFinitelyMany};
 
 use theory_spaces::algebra_laws::BasedAlgebra;
 
@@ -21,14 +22,14 @@ pub fn ideals_have_central_units<A: BasedAlgebra>()
     ensures { IdealsHaveCentralUnits A.algebra }
 {}
 
-/// Where its centre is a product of fields, its maximal ideals are what one of the idempotents of these sends to 0, one for each; and
-/// what the idempotent fixes is simple. So it is simple where its centre is one field, and only there.
+/// Where its centre is a product of fields, its maximal ideals are what one of the idempotents of these sends to 0, one
+/// for each; and what the idempotent fixes is simple. So it is simple where its centre is one field, and only there.
 pub fn maximal_ideals_by_factors<A: BasedAlgebra>()
     ensures { MaximalIdealsLaw A.field A.algebra }
 {}
 
-/// Over a field of q elements the centre of such an algebra is a product of fields. So its maximal ideals are finitely many, and their
-/// number is the dimension of the solutions of z^q = z in the centre.
+/// Over a field of q elements the centre of such an algebra is a product of fields. So its maximal ideals are finitely
+/// many, and their number is the dimension of the solutions of z^q = z in the centre.
 pub fn maximal_ideals_are_finitely_many<A: BasedAlgebra>()
     ensures { (E : Enumerated A.Scalar) → MaximalIdealsAreFinitelyMany A.field E A.algebra }
 {}

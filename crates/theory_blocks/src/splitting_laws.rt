@@ -16,8 +16,8 @@ pub fn zero_divisors<A: BasedAlgebra>()
     ensures { (E : Enumerated A.Scalar) → ZeroDivisorsExist A.field E A.algebra }
 {}
 
-/// Where z^q = z, the products of (z − d)/(c − d) over the d other than c are orthogonal idempotents with the sum 1; z is the
-/// scalar c on each, and the sum of their multiples by c.
+/// Where z^q = z, the products of (z − d)/(c − d) over the d other than c are orthogonal idempotents with the sum 1; z
+/// is the scalar c on each, and the sum of their multiples by c.
 pub fn lagrange_idempotents<A: BasedAlgebra>()
     ensures { (E : Enumerated A.Scalar) → LagrangeIdempotents A.field E A.algebra }
 {}

@@ -46,7 +46,8 @@ module _ (rel : ℕ → ℕ → Bool) (Q : Equivalence rel) where
       let r = representative fuel j.0 (omega arith) in
       let le = r.1 in
       (r.0, omega arith, Q.transitive r.0 j.0 x r.2 (one_if-pos (rel j.0 x) j.2), r.3))
-      (λ (p : sum nat_monoid x (λ j. one_if (rel j x)) ≤ 0). (x, omega arith, Q.reflexive x, eq-eqb (sum nat_monoid x (λ j. one_if (rel j x))) 0 (omega arith)))
+      (λ (p : sum nat_monoid x (λ j. one_if (rel j x)) ≤ 0).
+      (x, omega arith, Q.reflexive x, eq-eqb (sum nat_monoid x (λ j. one_if (rel j x))) 0 (omega arith)))
       (cases_lt 0 (sum nat_monoid x (λ j. one_if (rel j x))))
 
   one_first : (n x : ℕ) → x < n → sum nat_monoid n (λ i. one_if (first i && rel i x)) ≡ 1
@@ -54,27 +55,35 @@ module _ (rel : ℕ → ℕ → Bool) (Q : Equivalence rel) where
       let r = representative (suc x) x (omega arith) in
       let k = r.0 in
       let le = r.1 in
-      sum_eq_single nat_monoid n k (λ i. one_if (first i && rel i x)) (omega arith) (λ i g d. none k i r.2 r.3 d (true_or_false (first i && rel i x)))
+      sum_eq_single nat_monoid n k (λ i. one_if (first i && rel i x)) (omega arith)
+      (λ i g d. none k i r.2 r.3 d (true_or_false (first i && rel i x)))
       ∙ ap₂ (λ a b. one_if (a && b)) r.3 r.2
     where
-      none : (k i : ℕ) → rel k x ≡ true → first k ≡ true → (i ≡ k → ⊥) → (first i && rel i x ≡ true) ⊎ (first i && rel i x ≡ false) → one_if (first i && rel i x) ≡ 0
+      none : (k i : ℕ) → rel k x ≡ true → first k ≡ true → (i ≡ k → ⊥) → (first i && rel i x ≡ true)
+          ⊎ (first i && rel i x ≡ false) → one_if (first i && rel i x) ≡ 0
       none k i r f d = ⊎_elim
           (λ (e : first i && rel i x ≡ true).
           let p = and_true (first i) (rel i x) e in
           let ik : rel i k ≡ true = Q.transitive i x k p.1 (Q.symmetric k x r) in
           absurd (⊎_elim (λ (h : i < k). first-apart k i f h ik)
-          (λ (h : k ≤ i). ⊎_elim (λ (g : k < i). first-apart i k p.0 g (Q.symmetric i k ik)) (λ (g : i ≤ k). d (omega arith)) (cases_lt k i)) (cases_lt i k)))
+          (λ (h : k ≤ i). ⊎_elim (λ (g : k < i). first-apart i k p.0 g (Q.symmetric i k ik))
+          (λ (g : i ≤ k). d (omega arith)) (cases_lt k i)) (cases_lt i k)))
           (λ (e : first i && rel i x ≡ false). ap one_if e)
 
   -- a union of classes is counted class by class
   count_by_classes : (n : ℕ) (s : ℕ → Bool) → ((i j : ℕ) → rel i j ≡ true → s i ≡ s j)
-      → sum nat_monoid n (λ x. one_if (s x)) ≡ sum nat_monoid n (λ i. one_if (first i && s i) * sum nat_monoid n (λ x. one_if (rel i x)))
+      → sum nat_monoid n (λ x. one_if (s x)) ≡ sum nat_monoid n
+      (λ i. one_if (first i && s i) * sum nat_monoid n (λ x. one_if (rel i x)))
   count_by_classes n s closed =
-      sum_congr nat_monoid n (λ x. one_if (s x)) (λ x. sum nat_monoid n (λ i. one_if (s x) * one_if (first i && rel i x)))
-      (λ x l. sym (mul-one (one_if (s x))) ∙ ap (λ t. one_if (s x) * t) (sym (one_first n x l)) ∙ mul-sum_nat n (one_if (s x)) (λ i. one_if (first i && rel i x)))
+      sum_congr nat_monoid n (λ x. one_if (s x))
+      (λ x. sum nat_monoid n (λ i. one_if (s x) * one_if (first i && rel i x)))
+      (λ x l. sym (mul-one (one_if (s x))) ∙ ap (λ t. one_if (s x) * t) (sym (one_first n x l))
+      ∙ mul-sum_nat n (one_if (s x)) (λ i. one_if (first i && rel i x)))
       ∙ sum_comm nat_monoid n n (λ x i. one_if (s x) * one_if (first i && rel i x))
-      ∙ sum_congr nat_monoid n (λ i. sum nat_monoid n (λ x. one_if (s x) * one_if (first i && rel i x))) (λ i. one_if (first i && s i) * sum nat_monoid n (λ x. one_if (rel i x)))
-      (λ i l. sum_congr nat_monoid n (λ x. one_if (s x) * one_if (first i && rel i x)) (λ x. one_if (first i && s i) * one_if (rel i x))
+      ∙ sum_congr nat_monoid n (λ i. sum nat_monoid n (λ x. one_if (s x) * one_if (first i && rel i x)))
+      (λ i. one_if (first i && s i) * sum nat_monoid n (λ x. one_if (rel i x)))
+      (λ i l. sum_congr nat_monoid n (λ x. one_if (s x) * one_if (first i && rel i x))
+      (λ x. one_if (first i && s i) * one_if (rel i x))
       (λ x g. exchanged (s x) (first i) (rel i x) (s i) (closed i x))
       ∙ sym (mul-sum_nat n (one_if (first i && s i)) (λ x. one_if (rel i x))))
 
@@ -99,7 +108,8 @@ module _ {G : Type 0} (H : GroupOn G) (E : Enumerated G) where
   class_equation =
       sym (count-not E (is_central H E))
       ∙ ap (λ t. count E (is_central H E) + t)
-      (count_by_classes rel equivalence E.size outside (λ i j r. ap not (is_central_congr H E (E.member i) (E.member j) r))
+      (count_by_classes rel equivalence E.size outside
+      (λ i j r. ap not (is_central_congr H E (E.member i) (E.member j) r))
       ∙ sum_congr nat_monoid E.size (λ i. one_if (first rel equivalence i && outside i) * class_order H E (E.member i))
       (λ i. one_if (is_first H E (E.member i) && outside i) * class_order H E (E.member i))
       (λ i l. ap (λ b. one_if (b && outside i) * class_order H E (E.member i)) (sym (first_at i l))))

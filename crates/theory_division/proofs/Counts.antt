@@ -50,16 +50,20 @@ all_of_sum (suc n) p e i l =
     let a = sum_one_if_le n p in
     let b = one_if_le (p n) in
     let t : p n ≡ true = one_if-pos (p n) (omega arith) in
-    ⊎_elim (λ (h : i < n). all_of_sum n p (omega arith) i h) (λ (h : n ≤ i). let w : i ≡ n = omega arith in ap p w ∙ t) (cases_lt i n)
+    ⊎_elim (λ (h : i < n). all_of_sum n p (omega arith) i h)
+    (λ (h : n ≤ i). let w : i ≡ n = omega arith in ap p w ∙ t) (cases_lt i n)
 
 -- a number below n that passes, or none
-find : (n : ℕ) (P : ℕ → Type 0) → ((i : ℕ) → i < n → P i ⊎ (P i → ⊥)) → ((i : ℕ) × (i < n) × P i) ⊎ ((i : ℕ) → i < n → P i → ⊥)
+find : (n : ℕ) (P : ℕ → Type 0) → ((i : ℕ) → i < n → P i ⊎ (P i → ⊥)) → ((i : ℕ) × (i < n) × P i)
+    ⊎ ((i : ℕ) → i < n → P i → ⊥)
 find zero P d = inr (λ i l. absurd (omega arith))
 find (suc n) P d = ⊎_elim
     (λ (r : (i : ℕ) × (i < n) × P i). inl (r.0, (let w = r.1 in omega arith), r.2))
     (λ (r : (i : ℕ) → i < n → P i → ⊥). ⊎_elim
     (λ (h : P n). inl (n, omega arith, h))
-    (λ (h : P n → ⊥). inr (λ i l p. ⊎_elim (λ (a : i < n). r i a p) (λ (a : n ≤ i). let w : i ≡ n = omega arith in h (subst P w p)) (cases_lt i n)))
+    (λ (h : P n → ⊥). inr
+    (λ i l p. ⊎_elim (λ (a : i < n). r i a p) (λ (a : n ≤ i). let w : i ≡ n = omega arith in h (subst P w p))
+    (cases_lt i n)))
     (d n (omega arith)))
     (find n P (λ i l. d i (omega arith)))
 
@@ -86,31 +90,39 @@ module _ {X : Type 0} (E : Enumerated X) where
   pub search_all : (P : X → Type 0) → ((x : X) → P x ⊎ (P x → ⊥)) → ((x : X) × P x) ⊎ ((x : X) → P x → ⊥)
   search_all P d = ⊎_elim
       (λ (r : (i : ℕ) × (i < E.size) × P (E.member i)). inl (E.member r.0, r.2))
-      (λ (r : (i : ℕ) → i < E.size → P (E.member i) → ⊥). inr (λ x p. r (E.number x) (E.number-lt x) (subst P (sym (E.member-number x)) p)))
+      (λ (r : (i : ℕ) → i < E.size → P (E.member i) → ⊥). inr
+      (λ x p. r (E.number x) (E.number-lt x) (subst P (sym (E.member-number x)) p)))
       (find E.size (λ i. P (E.member i)) (λ i l. d (E.member i)))
 
   pub count_congr : (P Q : X → Bool) → ((x : X) → P x ≡ Q x) → count E P ≡ count E Q
-  count_congr P Q h = sum_congr nat_monoid E.size (λ i. one_if (P (E.member i))) (λ i. one_if (Q (E.member i))) (λ i l. ap one_if (h (E.member i)))
+  count_congr P Q h = sum_congr nat_monoid E.size (λ i. one_if (P (E.member i))) (λ i. one_if (Q (E.member i)))
+      (λ i l. ap one_if (h (E.member i)))
 
   pub count_all : (P : X → Bool) → ((x : X) → P x ≡ true) → count E P ≡ E.size
   count_all P h = sum_ones E.size (λ i. one_if (P (E.member i))) (λ i l. ap one_if (h (E.member i)))
 
   pub all_of_count : (P : X → Bool) → count E P ≡ E.size → (x : X) → P x ≡ true
-  all_of_count P e x = ap P (sym (E.member-number x)) ∙ all_of_sum E.size (λ i. P (E.member i)) e (E.number x) (E.number-lt x)
+  all_of_count P e x = ap P (sym (E.member-number x))
+      ∙ all_of_sum E.size (λ i. P (E.member i)) e (E.number x) (E.number-lt x)
 
   -- those that pass and those that do not are all
   pub count-not : (P : X → Bool) → count E P + count E (λ x. not (P x)) ≡ E.size
   count-not P = sym (sum-add nat_monoid E.size (λ i. one_if (P (E.member i))) (λ i. one_if (not (P (E.member i)))))
-      ∙ sum_ones E.size (λ i. one_if (P (E.member i)) + one_if (not (P (E.member i)))) (λ i l. one_if-not (P (E.member i)))
+      ∙ sum_ones E.size (λ i. one_if (P (E.member i)) + one_if (not (P (E.member i))))
+      (λ i l. one_if-not (P (E.member i)))
 
   -- over all members in another order
   pub count_moved : (p q : X → X) → ((x : X) → q (p x) ≡ x) → (P : X → Bool) → count E (λ x. P (p x)) ≡ count E P
   count_moved p q back P =
-      sum_congr nat_monoid E.size (λ i. one_if (P (p (E.member i)))) (λ i. one_if (P (E.member (E.number (p (E.member i))))))
+      sum_congr nat_monoid E.size (λ i. one_if (P (p (E.member i))))
+      (λ i. one_if (P (E.member (E.number (p (E.member i))))))
       (λ i l. ap (λ x. one_if (P x)) (sym (E.member-number (p (E.member i)))))
-      ∙ sum_reindex nat_monoid E.size (λ i. E.number (p (E.member i))) (λ i. one_if (P (E.member i))) (λ i l. E.number-lt (p (E.member i)))
+      ∙ sum_reindex nat_monoid E.size (λ i. E.number (p (E.member i))) (λ i. one_if (P (E.member i)))
+      (λ i l. E.number-lt (p (E.member i)))
       (λ i j a b e. sym (E.number-member i a)
-      ∙ ap E.number (sym (back (E.member i)) ∙ ap q (sym (E.member-number (p (E.member i))) ∙ ap E.member e ∙ E.member-number (p (E.member j))) ∙ back (E.member j))
+      ∙ ap E.number (sym (back (E.member i))
+      ∙ ap q (sym (E.member-number (p (E.member i))) ∙ ap E.member e ∙ E.member-number (p (E.member j)))
+      ∙ back (E.member j))
       ∙ E.number-member j b)
 
   -- one member is z
@@ -123,18 +135,21 @@ module _ {X : Type 0} (E : Enumerated X) where
   -- as many pass as a list of those that pass has
   pub count_of_list : (P : X → Bool) (n : ℕ) (f : ℕ → X) → Lists P n f → count E P ≡ n
   count_of_list P n f L =
-      sum_congr nat_monoid E.size (λ i. one_if (P (E.member i))) (λ i. sum nat_monoid n (λ t. one_if (eqb (E.number (f t)) i)))
+      sum_congr nat_monoid E.size (λ i. one_if (P (E.member i)))
+      (λ i. sum nat_monoid n (λ t. one_if (eqb (E.number (f t)) i)))
       (λ i l. ⊎_elim (hit i l) (miss i l) (true_or_false (P (E.member i))))
       ∙ sum_comm nat_monoid E.size n (λ i t. one_if (eqb (E.number (f t)) i))
       ∙ sum_ones n (λ t. sum nat_monoid E.size (λ i. one_if (eqb (E.number (f t)) i)))
-      (λ t l. sum_eq_single nat_monoid E.size (E.number (f t)) (λ i. one_if (eqb (E.number (f t)) i)) (E.number-lt (f t))
+      (λ t l. sum_eq_single nat_monoid E.size (E.number (f t)) (λ i. one_if (eqb (E.number (f t)) i))
+      (E.number-lt (f t))
       (λ i g d. ap one_if (ne_eqb (E.number (f t)) i (λ e. d (sym e))))
       ∙ ap one_if (eq-eqb (E.number (f t)) (E.number (f t)) refl))
     where
       at_number : (i t : ℕ) → i < E.size → E.number (f t) ≡ i → f t ≡ E.member i
       at_number i t l e = sym (E.member-number (f t)) ∙ ap E.member e
 
-      hit : (i : ℕ) → i < E.size → P (E.member i) ≡ true → one_if (P (E.member i)) ≡ sum nat_monoid n (λ t. one_if (eqb (E.number (f t)) i))
+      hit : (i : ℕ) → i < E.size → P (E.member i) ≡ true
+          → one_if (P (E.member i)) ≡ sum nat_monoid n (λ t. one_if (eqb (E.number (f t)) i))
       hit i l e =
           let w = L.whole (E.member i) e in
           ap one_if e
@@ -142,8 +157,10 @@ module _ {X : Type 0} (E : Enumerated X) where
           (λ t g d. ap one_if (ne_eqb (E.number (f t)) i (λ q. d (L.apart t w.0 g w.1 (at_number i t l q ∙ sym w.2)))))
           ∙ ap one_if (eq-eqb (E.number (f w.0)) i (ap E.number w.2 ∙ E.number-member i l)))
 
-      miss : (i : ℕ) → i < E.size → P (E.member i) ≡ false → one_if (P (E.member i)) ≡ sum nat_monoid n (λ t. one_if (eqb (E.number (f t)) i))
+      miss : (i : ℕ) → i < E.size → P (E.member i) ≡ false
+          → one_if (P (E.member i)) ≡ sum nat_monoid n (λ t. one_if (eqb (E.number (f t)) i))
       miss i l e =
           ap one_if e
           ∙ sym (sum_eq_zero nat_monoid n (λ t. one_if (eqb (E.number (f t)) i))
-          (λ t g. ap one_if (ne_eqb (E.number (f t)) i (λ q. true≢false (sym (L.passes t g) ∙ ap P (at_number i t l q) ∙ e)))))
+          (λ t g. ap one_if (ne_eqb (E.number (f t)) i
+          (λ q. true≢false (sym (L.passes t g) ∙ ap P (at_number i t l q) ∙ e)))))

@@ -1,7 +1,9 @@
 -- The table of cyclotomic polynomials is right, by computation, and what follows for their values.
-use Rattle.std.specs.Prelude.{◌≡◌, ℕ, zero, suc, ◌+◌, ◌-◌, ◌*◌, ◌%◌, ◌^◌, ◌<◌, ◌≤◌, List, [], ◌∷◌, Bool, true, false, ◌&&◌, eqb, cond}
+use Rattle.std.specs.Prelude.{◌≡◌, ℕ, zero, suc, ◌+◌, ◌-◌, ◌*◌, ◌%◌, ◌^◌, ◌<◌, ◌≤◌, List, [], ◌∷◌, Bool, true, false}
+use Rattle.std.specs.Prelude.{◌&&◌, eqb, cond}
 use Rattle.std.specs.Int.{◌∣◌}
-use Rattle.std.proofs.Common.{refl, sym, ◌∙◌, ap, ap₂, subst₂, arith, ⊎_elim, mul-add, add-mul, mul_assoc, mul_comm, mul_left_comm, mul-one, one-mul, zero-mul, mul-zero, pow-suc, le-mul_of_pos_right}
+use Rattle.std.proofs.Common.{refl, sym, ◌∙◌, ap, ap₂, subst₂, arith, ⊎_elim, mul-add, add-mul, mul_assoc, mul_comm}
+use Rattle.std.proofs.Common.{mul_left_comm, mul-one, one-mul, zero-mul, mul-zero, pow-suc, le-mul_of_pos_right}
 use Rattle.std.proofs.Math.Nat.{pow-zero, mod-eq_of_lt, mod_self, dvd-mul_right}
 use Rattle.std.proofs.lemmas.Bool.{cases_lt, eq-eqb, ne_eqb, eqb-true}
 use Rattle.std.proofs.lemmas.Nat.Gcd.{dvd_of_mod-eq-zero, mod-eq-zero_of_dvd, dvd_trans}
@@ -9,7 +11,8 @@ use Rattle.theory_rings.specs.Sum.{sum}
 use Rattle.theory_rings.specs.Ring.{AddCommMonoidOn}
 use Rattle.theory_rings.proofs.Rings.Semirings.{products, naturals}
 use Rattle.theory_rings.proofs.Sums.Sums.{sum_congr, sum-add, sum-split, sum_eq_zero}
-use Rattle.theory_division.specs.Cyclotomic.{plus, scale, times, value, power_of_next, without_constant, power_less_one, cyclotomic, divisor_product, CyclotomicTable, CyclotomicValue}
+use Rattle.theory_division.specs.Cyclotomic.{plus, scale, times, value, power_of_next, without_constant, power_less_one}
+use Rattle.theory_division.specs.Cyclotomic.{cyclotomic, divisor_product, CyclotomicTable, CyclotomicValue}
 use Rattle.theory_division.proofs.Counts.{and_true}
 use Rattle.theory_division.proofs.PowersLessOne.{less, less-is, power-less}
 
@@ -23,7 +26,8 @@ value-plus (x ∷ a) (y ∷ b) z =
 value-scale : (c : ℕ) (a : List ℕ) (z : ℕ) → value (scale c a) z ≡ c * value a z
 value-scale c [] z = sym (mul-zero c)
 value-scale c (x ∷ a) z =
-    ap (λ t. c * x + z * t) (value-scale c a z) ∙ ap (λ t. c * x + t) (mul_left_comm z c (value a z)) ∙ sym (mul-add c x (z * value a z))
+    ap (λ t. c * x + z * t) (value-scale c a z) ∙ ap (λ t. c * x + t) (mul_left_comm z c (value a z))
+    ∙ sym (mul-add c x (z * value a z))
 
 value-times : (a b : List ℕ) (z : ℕ) → value (times a b) z ≡ value a z * value b z
 value-times [] b z = sym (zero-mul (value b z))
@@ -35,7 +39,8 @@ value-times (x ∷ a) b z =
 value-power_of_next : (m z : ℕ) → value (power_of_next m) z ≡ suc z ^ m
 value-power_of_next zero z = let e = pow-zero (suc z) in omega arith
 value-power_of_next (suc m) z =
-    value-times (1 ∷ 1 ∷ []) (power_of_next m) z ∙ ap₂ (λ s t. s * t) first (value-power_of_next m z) ∙ mul_comm (suc z) (suc z ^ m) ∙ sym (pow-suc (suc z) m)
+    value-times (1 ∷ 1 ∷ []) (power_of_next m) z ∙ ap₂ (λ s t. s * t) first (value-power_of_next m z)
+    ∙ mul_comm (suc z) (suc z ^ m) ∙ sym (pow-suc (suc z) m)
   where
     first : value (1 ∷ 1 ∷ []) z ≡ suc z
     first = omega arith
@@ -100,7 +105,9 @@ all_large = refl
 pub cyclotomic_table : CyclotomicTable
 unfolding is_right
 cyclotomic_table zero l h = absurd (omega arith)
-cyclotomic_table (suc i) l h = same_list-eq (divisor_product (suc i) (suc i)) (power_less_one (suc i)) (all_at 36 (λ i. is_right (suc i)) all_right i (omega arith))
+cyclotomic_table (suc i) l h =
+    same_list-eq (divisor_product (suc i) (suc i)) (power_less_one (suc i))
+    (all_at 36 (λ i. is_right (suc i)) all_right i (omega arith))
 
 is_large-value : (a : List ℕ) (z : ℕ) → is_large a ≡ true → z < value a z
 unfolding is_large
@@ -108,12 +115,15 @@ is_large-value [] z e = cc
 is_large-value (zero ∷ a) z e = cc
 is_large-value (suc x ∷ []) z e = cc
 is_large-value (suc x ∷ zero ∷ a) z e = cc
-is_large-value (suc x ∷ suc y ∷ a) z e = let h : z ≤ z * (suc y + z * value a z) = le-mul_of_pos_right z (omega arith) in omega arith
+is_large-value (suc x ∷ suc y ∷ a) z e = let h : z ≤ z * (suc y + z * value a z) =
+    le-mul_of_pos_right z (omega arith) in omega arith
 
 pub cyclotomic-large : (m z : ℕ) → 2 ≤ m → m ≤ 36 → z < value (cyclotomic m) z
 cyclotomic-large zero z a b = absurd (omega arith)
 cyclotomic-large (suc zero) z a b = absurd (omega arith)
-cyclotomic-large (suc (suc i)) z a b = is_large-value (cyclotomic (suc (suc i))) z (all_at 35 (λ i. is_large (cyclotomic (suc (suc i)))) all_large i (omega arith))
+cyclotomic-large (suc (suc i)) z a b =
+    is_large-value (cyclotomic (suc (suc i))) z
+    (all_at 35 (λ i. is_large (cyclotomic (suc (suc i)))) all_large i (omega arith))
 
 -- the products of the values
 module _ (z : ℕ) where
@@ -131,14 +141,17 @@ module _ (z : ℕ) where
   value-divisor_product m zero = omega arith
   value-divisor_product m (suc k) = step (value-divisor_product m k) (eqb (m % suc k) 0)
     where
-      step : value (divisor_product m k) z ≡ sum P k (factor m) → (b : Bool) → value (elim b [ true ↦ times (cyclotomic (suc k)) (divisor_product m k) | false ↦ divisor_product m k ]) z
+      step : value (divisor_product m k) z ≡ sum P k (factor m) → (b : Bool)
+          → value (elim b [ true ↦ times (cyclotomic (suc k)) (divisor_product m k) | false ↦ divisor_product m k ]) z
           ≡ sum P k (factor m) * cond b (at k) 1
-      step h true = value-times (cyclotomic (suc k)) (divisor_product m k) z ∙ ap (λ t. at k * t) h ∙ mul_comm (at k) (sum P k (factor m))
+      step h true = value-times (cyclotomic (suc k)) (divisor_product m k) z ∙ ap (λ t. at k * t) h
+          ∙ mul_comm (at k) (sum P k (factor m))
       step h false = h ∙ sym (mul-one (sum P k (factor m)))
 
   -- q^m − 1 is the product of the values at the divisors of m
   less-factors : (m : ℕ) → 1 ≤ m → m ≤ 36 → less m z ≡ sum P m (factor m)
-  less-factors m a b = sym (value-power_less_one m z) ∙ ap (λ t. value t z) (sym (cyclotomic_table m a b)) ∙ value-divisor_product m m
+  less-factors m a b = sym (value-power_less_one m z) ∙ ap (λ t. value t z) (sym (cyclotomic_table m a b))
+      ∙ value-divisor_product m m
 
   -- the value at a divisor of m that does not divide d
   abbrev other : ℕ → ℕ → ℕ → ℕ
@@ -154,7 +167,9 @@ module _ (z : ℕ) where
       go false e = sym (one-mul (factor m i))
 
   factor-past : (d i : ℕ) → 0 < d → d ≤ i → factor d i ≡ 1
-  factor-past d i p l = ap (λ b. cond b (at i) 1) (ne_eqb (d % suc i) 0 (λ e. let w : d % suc i ≡ d = mod-eq_of_lt (omega arith) in omega arith))
+  factor-past d i p l =
+      ap (λ b. cond b (at i) 1)
+      (ne_eqb (d % suc i) 0 (λ e. let w : d % suc i ≡ d = mod-eq_of_lt (omega arith) in omega arith))
 
   -- past d there are no divisors of d
   factors-front : (d n : ℕ) → 0 < d → d ≤ n → sum P n (factor d) ≡ sum P d (factor d)
@@ -162,11 +177,13 @@ module _ (z : ℕ) where
       let k = n - d in
       let e : n ≡ d + k = omega arith in
       ap (λ t. sum P t (factor d)) e ∙ sum-split P d k (factor d)
-      ∙ ap (λ t. sum P d (factor d) * t) (sum_eq_zero P k (λ i. factor d (d + i)) (λ i _. factor-past d (d + i) p (omega arith)))
+      ∙ ap (λ t. sum P d (factor d) * t)
+      (sum_eq_zero P k (λ i. factor d (d + i)) (λ i _. factor-past d (d + i) p (omega arith)))
       ∙ mul-one (sum P d (factor d))
 
   -- q^m − 1 with m proper divisors' share taken apart
-  pub less-parts : (m d : ℕ) → 0 < d → d < m → m ≤ 36 → d ∣ m → (k : ℕ) × (less m z ≡ less d z * value (cyclotomic m) z * k)
+  pub less-parts : (m d : ℕ) → 0 < d → d < m → m ≤ 36 → d ∣ m → (k : ℕ)
+      × (less m z ≡ less d z * value (cyclotomic m) z * k)
   less-parts zero d p l b h = absurd (omega arith)
   less-parts (suc n) d p l b h = (
     sum P n (other (suc n) d),
@@ -174,7 +191,8 @@ module _ (z : ℕ) where
         ∙ ap₂ (λ s t. s * t)
         (sum_congr P n (factor (suc n)) (λ i. factor d i * other (suc n) d i) (λ i _. factor-other (suc n) d i h)
         ∙ sum-add P n (factor d) (other (suc n) d)
-        ∙ ap (λ t. t * sum P n (other (suc n) d)) (factors-front d n p (omega arith) ∙ sym (less-factors d (omega arith) (omega arith))))
+        ∙ ap (λ t. t * sum P n (other (suc n) d))
+        (factors-front d n p (omega arith) ∙ sym (less-factors d (omega arith) (omega arith))))
         (ap (λ b. cond b (at n) 1) (eq-eqb (suc n % suc n) 0 (mod_self (suc n))))
         ∙ mul_assoc (less d z) (sum P n (other (suc n) d)) (at n)
         ∙ ap (λ t. less d z * t) (mul_comm (sum P n (other (suc n) d)) (at n))
@@ -186,5 +204,6 @@ cyclotomic_values m z a b = record {
   large = cyclotomic-large m z a b;
   divides = λ d p l h.
       let k = less-parts z m d p l b h in
-      subst₂ (λ s t. s * value (cyclotomic m) z ∣ t) (less-is d z) (sym k.1 ∙ less-is m z) (dvd-mul_right (less d z * value (cyclotomic m) z) k.0);
+      subst₂ (λ s t. s * value (cyclotomic m) z ∣ t) (less-is d z) (sym k.1 ∙ less-is m z)
+      (dvd-mul_right (less d z * value (cyclotomic m) z) k.0);
 }

@@ -10,8 +10,10 @@ use Rattle.theory_rings.proofs.Sums.Sums.{sum_congr, sum_comm}
 use Rattle.theory_rings.proofs.Sums.NaturalSums.{sum-mul_nat, le_sum}
 use Rattle.theory_rings.proofs.Numbers.Pigeonhole.{term_pos_of_sum_pos}
 use Rattle.theory_division.specs.Counting.{one_if, count, same}
-use Rattle.theory_division.specs.Group.{GroupOn, conjugate, commute, centralizer_order, are_conjugate, class_order, is_central, OrbitStabilizer}
-use Rattle.theory_division.proofs.Counts.{bool_iff, one_if-pos, sum_ones, same-eq, eq-same, count_congr, count_all, all_of_count, count_moved, count_same}
+use Rattle.theory_division.specs.Group.{GroupOn, conjugate, commute, centralizer_order, are_conjugate, class_order}
+use Rattle.theory_division.specs.Group.{is_central, OrbitStabilizer}
+use Rattle.theory_division.proofs.Counts.{bool_iff, one_if-pos, sum_ones, same-eq, eq-same, count_congr, count_all}
+use Rattle.theory_division.proofs.Counts.{all_of_count, count_moved, count_same}
 
 module _ {G : Type 0} (H : GroupOn G) where
   infixl 70 ◌·◌
@@ -22,11 +24,15 @@ module _ {G : Type 0} (H : GroupOn G) where
 
   mul-inv : (a : G) → a · inv a ≡ H.one
   mul-inv a =
-      sym (H.one-mul (a · inv a)) ∙ ap (λ z. z · (a · inv a)) (sym (H.inv-mul (inv a))) ∙ H.mul_assoc (inv (inv a)) (inv a) (a · inv a)
-      ∙ ap (λ z. inv (inv a) · z) (sym (H.mul_assoc (inv a) a (inv a)) ∙ ap (λ z. z · inv a) (H.inv-mul a) ∙ H.one-mul (inv a)) ∙ H.inv-mul (inv a)
+      sym (H.one-mul (a · inv a)) ∙ ap (λ z. z · (a · inv a)) (sym (H.inv-mul (inv a)))
+      ∙ H.mul_assoc (inv (inv a)) (inv a) (a · inv a)
+      ∙ ap (λ z. inv (inv a) · z)
+      (sym (H.mul_assoc (inv a) a (inv a)) ∙ ap (λ z. z · inv a) (H.inv-mul a) ∙ H.one-mul (inv a))
+      ∙ H.inv-mul (inv a)
 
   mul-one : (a : G) → a · H.one ≡ a
-  mul-one a = ap (λ z. a · z) (sym (H.inv-mul a)) ∙ sym (H.mul_assoc a (inv a) a) ∙ ap (λ z. z · a) (mul-inv a) ∙ H.one-mul a
+  mul-one a = ap (λ z. a · z) (sym (H.inv-mul a)) ∙ sym (H.mul_assoc a (inv a) a) ∙ ap (λ z. z · a) (mul-inv a)
+      ∙ H.one-mul a
 
   inv_mul_cancel_left : (g h : G) → inv g · (g · h) ≡ h
   inv_mul_cancel_left g h = sym (H.mul_assoc (inv g) g h) ∙ ap (λ z. z · h) (H.inv-mul g) ∙ H.one-mul h
@@ -53,10 +59,12 @@ module _ {G : Type 0} (H : GroupOn G) where
   conj_injective g x y e = sym (undo g x) ∙ ap (λ z. (inv g · z) · g) e ∙ undo g y
     where
       undo : (g x : G) → (inv g · conj g x) · g ≡ x
-      undo g x = H.mul_assoc (inv g) (conj g x) g ∙ ap (λ z. inv g · z) (inv_mul_cancel_right g (g · x)) ∙ inv_mul_cancel_left g x
+      undo g x = H.mul_assoc (inv g) (conj g x) g ∙ ap (λ z. inv g · z) (inv_mul_cancel_right g (g · x))
+          ∙ inv_mul_cancel_left g x
 
   conj_one : (x : G) → conj H.one x ≡ x
-  conj_one x = ap (λ z. z · inv H.one) (H.one-mul x) ∙ ap (λ z. x · z) (sym (H.one-mul (inv H.one)) ∙ mul-inv H.one) ∙ mul-one x
+  conj_one x = ap (λ z. z · inv H.one) (H.one-mul x) ∙ ap (λ z. x · z) (sym (H.one-mul (inv H.one)) ∙ mul-inv H.one)
+      ∙ mul-one x
 
   module _ (E : Enumerated G) where
     -- how many take x to y
@@ -68,8 +76,10 @@ module _ {G : Type 0} (H : GroupOn G) where
 
     -- those that take x to itself are those that commute with it
     fibre_self : (x : G) → fibre x x ≡ centralizer_order H E x
-    fibre_self x = count_congr E (λ g. same E (conj g x) x) (λ g. commute H E g x) (λ g. bool_iff (same E (conj g x) x) (commute H E g x)
-        (λ e. eq-same E (g · x) (x · g) (sym (inv_mul_cancel_right g (g · x)) ∙ ap (λ z. z · g) (same-eq E (conj g x) x e)))
+    fibre_self x = count_congr E (λ g. same E (conj g x) x) (λ g. commute H E g x)
+        (λ g. bool_iff (same E (conj g x) x) (commute H E g x)
+        (λ e. eq-same E (g · x) (x · g)
+        (sym (inv_mul_cancel_right g (g · x)) ∙ ap (λ z. z · g) (same-eq E (conj g x) x e)))
         (λ e. eq-same E (conj g x) x (ap (λ z. z · inv g) (same-eq E (g · x) (x · g) e) ∙ mul_inv_cancel_right g x)))
 
     fibre_of : (x y g : G) → conj g x ≡ y → fibre x y ≡ fibre x x
@@ -77,13 +87,15 @@ module _ {G : Type 0} (H : GroupOn G) where
         sym (count_moved E (λ h. g · h) (λ h. inv g · h) (inv_mul_cancel_left g) (λ h. same E (conj h x) y))
         ∙ count_congr E (λ h. same E (conj (g · h) x) y) (λ h. same E (conj h x) x) (λ h.
         bool_iff (same E (conj (g · h) x) y) (same E (conj h x) x)
-        (λ b. eq-same E (conj h x) x (conj_injective g (conj h x) x (sym (conj-mul g h x) ∙ same-eq E (conj (g · h) x) y b ∙ sym e)))
+        (λ b. eq-same E (conj h x) x
+        (conj_injective g (conj h x) x (sym (conj-mul g h x) ∙ same-eq E (conj (g · h) x) y b ∙ sym e)))
         (λ b. eq-same E (conj (g · h) x) y (conj-mul g h x ∙ ap (conj g) (same-eq E (conj h x) x b) ∙ e)))
 
     fibre_total : (x : G) → sum nat_monoid E.size (λ i. fibre x (E.member i)) ≡ E.size
     fibre_total x =
         sum_comm nat_monoid E.size E.size (λ i j. one_if (same E (conj (E.member j) x) (E.member i)))
-        ∙ sum_ones E.size (λ j. count E (λ y. same E (conj (E.member j) x) y)) (λ j l. count_same E (conj (E.member j) x))
+        ∙ sum_ones E.size (λ j. count E (λ y. same E (conj (E.member j) x) y))
+        (λ j l. count_same E (conj (E.member j) x))
 
     -- some g takes x to y where as many as one do
     taken : (x y : G) → 0 < fibre x y → (g : G) × (conj g x ≡ y)
@@ -93,7 +105,8 @@ module _ {G : Type 0} (H : GroupOn G) where
 
     fibre_weighed : (x y : G) → one_if (rel x y) * fibre x x ≡ fibre x y
     fibre_weighed x y = ⊎_elim
-        (λ (l : 0 < fibre x y). let g = taken x y l in rw (lt-ltb 0 (fibre x y) l) (one-mul (fibre x x) ∙ sym (fibre_of x y g.0 g.1)))
+        (λ (l : 0 < fibre x y). let g = taken x y l in
+        rw (lt-ltb 0 (fibre x y) l) (one-mul (fibre x x) ∙ sym (fibre_of x y g.0 g.1)))
         (λ (l : fibre x y ≤ 0). rw (le-ltb 0 (fibre x y) l) (zero-mul (fibre x x) ∙ omega arith))
         (cases_lt 0 (fibre x y))
 
@@ -101,7 +114,8 @@ module _ {G : Type 0} (H : GroupOn G) where
     orbit_stabilizer x =
         ap (λ t. class_order H E x * t) (sym (fibre_self x))
         ∙ sum-mul_nat E.size (fibre x x) (λ i. one_if (rel x (E.member i)))
-        ∙ sum_congr nat_monoid E.size (λ i. one_if (rel x (E.member i)) * fibre x x) (λ i. fibre x (E.member i)) (λ i l. fibre_weighed x (E.member i))
+        ∙ sum_congr nat_monoid E.size (λ i. one_if (rel x (E.member i)) * fibre x x) (λ i. fibre x (E.member i))
+        (λ i l. fibre_weighed x (E.member i))
         ∙ fibre_total x
 
     -- the test of conjugacy is right
@@ -125,7 +139,9 @@ module _ {G : Type 0} (H : GroupOn G) where
     pub are_conjugate-symm : (x y : G) → rel x y ≡ true → rel y x ≡ true
     are_conjugate-symm x y e =
         let g = are_conjugate-sound x y e in
-        are_conjugate-complete y x (inv g.0) (ap (conj (inv g.0)) (sym g.1) ∙ sym (conj-mul (inv g.0) g.0 x) ∙ ap (λ h. conj h x) (H.inv-mul g.0) ∙ conj_one x)
+        are_conjugate-complete y x (inv g.0)
+        (ap (conj (inv g.0)) (sym g.1) ∙ sym (conj-mul (inv g.0) g.0 x) ∙ ap (λ h. conj h x) (H.inv-mul g.0)
+        ∙ conj_one x)
 
     pub are_conjugate-trans : (x y z : G) → rel x y ≡ true → rel y z ≡ true → rel x z ≡ true
     are_conjugate-trans x y z a b =
@@ -146,7 +162,8 @@ module _ {G : Type 0} (H : GroupOn G) where
       where
         -- g takes x to y where its inverse takes y to x
         turned : fibre x y ≡ fibre y x
-        turned = count_congr E (λ g. same E (conj g x) y) (λ g. same E (conj (inv g) y) x) (λ g. bool_iff (same E (conj g x) y) (same E (conj (inv g) y) x)
+        turned = count_congr E (λ g. same E (conj g x) y) (λ g. same E (conj (inv g) y) x)
+            (λ g. bool_iff (same E (conj g x) y) (same E (conj (inv g) y) x)
             (λ b. eq-same E (conj (inv g) y) x (ap (conj (inv g)) (sym (same-eq E (conj g x) y b)) ∙ back g x))
             (λ b. eq-same E (conj g x) y (ap (conj g) (sym (same-eq E (conj (inv g) y) x b)) ∙ forth g y)))
             ∙ count_moved E inv inv inv_inv (λ g. same E (conj g y) x)
@@ -166,8 +183,10 @@ module _ {G : Type 0} (H : GroupOn G) where
     -- the test of the centre is right
     pub is_central-sound : (x : G) → is_central H E x ≡ true → (y : G) → x · y ≡ y · x
     is_central-sound x e y =
-        sym (same-eq E (y · x) (x · y) (all_of_count E (λ g. commute H E g x) (eqb-true (centralizer_order H E x) E.size e) y))
+        sym (same-eq E (y · x) (x · y)
+        (all_of_count E (λ g. commute H E g x) (eqb-true (centralizer_order H E x) E.size e) y))
 
     pub is_central-complete : (x : G) → ((y : G) → x · y ≡ y · x) → is_central H E x ≡ true
     is_central-complete x h =
-        eq-eqb (centralizer_order H E x) E.size (count_all E (λ g. commute H E g x) (λ g. eq-same E (g · x) (x · g) (sym (h g))))
+        eq-eqb (centralizer_order H E x) E.size
+        (count_all E (λ g. commute H E g x) (λ g. eq-same E (g · x) (x · g) (sym (h g))))

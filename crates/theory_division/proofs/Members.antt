@@ -3,11 +3,12 @@ use Rattle.std.specs.Prelude.{◌≡◌, ℕ, ◌^◌, ◌<◌, Bool, true}
 use Rattle.std.proofs.Common.{sym, ◌∙◌, arith}
 use Rattle.theory_rings.specs.Ring.{FieldOn}
 use Rattle.theory_rings.specs.Enumerated.{Enumerated}
-use Rattle.theory_rings.proofs.FiniteFields.EnumeratedTuples.{tuple, tuple_injective, number_of_tuple, number_of_tuple_lt, tuple-number_of_tuple}
+use Rattle.theory_rings.proofs.FiniteFields.EnumeratedTuples.{tuple, tuple_injective, number_of_tuple}
+use Rattle.theory_rings.proofs.FiniteFields.EnumeratedTuples.{number_of_tuple_lt, tuple-number_of_tuple}
 use Rattle.theory_spaces.specs.Module.{ModuleOn}
 use Rattle.theory_spaces.specs.Linear.{comb, InSpan, Independent, Basis}
-use Rattle.theory_spaces.proofs.Modules.{comb_congr, comb_injective}
-use Rattle.theory_spaces.proofs.Spaces.{Basis-coord}
+use Rattle.theory_spaces.proofs.Linear.Modules.{comb_congr, comb_injective}
+use Rattle.theory_spaces.proofs.Linear.Spaces.{Basis-coord}
 use Rattle.theory_division.specs.Counting.{count}
 use Rattle.theory_division.proofs.Counts.{count_of_list}
 
@@ -38,7 +39,8 @@ module _ {K V : Type 0} (F : FieldOn K) (M : ModuleOn F.ring V) (E : Enumerated 
     number = λ x. number_of_tuple E m (B.coord x);
     number-lt = λ x. number_of_tuple_lt E size_pos m (B.coord x);
     member-number = λ x.
-        comb_congr M m (tuple E (number_of_tuple E m (B.coord x))) (B.coord x) B.vec (tuple-number_of_tuple E size_pos m (B.coord x)) ∙ sym (B.expand x);
+        comb_congr M m (tuple E (number_of_tuple E m (B.coord x))) (B.coord x) B.vec
+        (tuple-number_of_tuple E size_pos m (B.coord x)) ∙ sym (B.expand x);
     number-member = λ t l.
         let x = comb M m (tuple E t) B.vec in
         tuple_injective E size_pos m (number_of_tuple E m (B.coord x)) t (number_of_tuple_lt E size_pos m (B.coord x)) l

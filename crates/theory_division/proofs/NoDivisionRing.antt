@@ -1,9 +1,12 @@
--- No division ring of dimension 2 to 36 has a finite field as its centre: the value of a cyclotomic polynomial divides the
--- number of its elements but 0, and the size of each class outside the centre, so it divides what is left, and is greater.
+-- No division ring of dimension 2 to 36 has a finite field as its centre: the value of a cyclotomic polynomial divides
+-- the number of its elements but 0, and the size of each class outside the centre, so it divides what is left, and is
+-- greater.
 use Rattle.std.specs.Prelude.{◌≡◌, ℕ, zero, suc, pred, ◌+◌, ◌*◌, ◌^◌, ◌<◌, ◌≤◌, Bool, true, false, ◌&&◌, not, eqb}
 use Rattle.std.specs.Int.{◌∣◌}
-use Rattle.std.proofs.Common.{refl, sym, ◌∙◌, ap, ap₂, subst, subst₂, arith, ⊎_elim, mul_comm, one-mul, zero-mul as nat_zero-mul}
-use Rattle.std.proofs.Math.Nat.{dvd-add, dvd-add_iff_right, dvd-mul_left, dvd-mul_right, dvd-mul_right_of_dvd, dvd_of_mul-dvd-mul_right, one-dvd, add_comm}
+use Rattle.std.proofs.Common.{refl, sym, ◌∙◌, ap, ap₂, subst, subst₂, arith, ⊎_elim, mul_comm, one-mul}
+use Rattle.std.proofs.Common.{zero-mul as nat_zero-mul}
+use Rattle.std.proofs.Math.Nat.{dvd-add, dvd-add_iff_right, dvd-mul_left, dvd-mul_right, dvd-mul_right_of_dvd}
+use Rattle.std.proofs.Math.Nat.{dvd_of_mul-dvd-mul_right, one-dvd, add_comm}
 use Rattle.std.proofs.lemmas.Nat.Gcd.{dvd-zero, le_of_dvd}
 use Rattle.std.proofs.Math.Bool.{true≢false}
 use Rattle.std.proofs.lemmas.Bool.{cases_lt, eq-eqb, eqb-true}
@@ -16,9 +19,9 @@ use Rattle.theory_rings.proofs.Rings.ZeroTests.{eq_zero_or}
 use Rattle.theory_spaces.specs.Module.{ModuleOn, AlgebraOn, module_of}
 use Rattle.theory_spaces.specs.Linear.{comb, InSpan, Independent, IsSubmodule, Basis}
 use Rattle.theory_spaces.specs.Algebra.{Central}
-use Rattle.theory_spaces.proofs.Modules.{scale-zero, comb_in, independent_none}
-use Rattle.theory_spaces.proofs.Spaces.{coords_of, Grown, grow}
-use Rattle.theory_spaces.proofs.IndependentVectors.{Independent-at_most}
+use Rattle.theory_spaces.proofs.Linear.Modules.{scale-zero, comb_in, independent_none}
+use Rattle.theory_spaces.proofs.Linear.Spaces.{coords_of, Grown, grow}
+use Rattle.theory_spaces.proofs.Linear.IndependentVectors.{Independent-at_most}
 use Rattle.theory_division.specs.Cyclotomic.{cyclotomic, value}
 use Rattle.theory_division.specs.Counting.{one_if, count}
 use Rattle.theory_division.specs.Group.{GroupOn, centralizer_order, class_order, is_central, is_first}
@@ -29,7 +32,8 @@ use Rattle.theory_division.proofs.Counts.{bool_iff, same-eq, eq-same, count_cong
 use Rattle.theory_division.proofs.Groups.{orbit_stabilizer}
 use Rattle.theory_division.proofs.ClassEquation.{class_equation}
 use Rattle.theory_division.proofs.Members.{count_of_span, numbered}
-use Rattle.theory_division.proofs.Units.{Unit_of, units, unit_members, units-size, count_units, commutes, count_centralizer}
+use Rattle.theory_division.proofs.Units.{Unit_of, units, unit_members, units-size, count_units, commutes}
+use Rattle.theory_division.proofs.Units.{count_centralizer}
 
 -- what divides each term divides the sum
 dvd-sum : (p n : ℕ) (f : ℕ → ℕ) → ((i : ℕ) → i < n → p ∣ f i) → p ∣ sum nat_monoid n f
@@ -38,7 +42,8 @@ dvd-sum p (suc n) f h = dvd-add p (dvd-sum p n f (λ i l. h i (omega arith))) (h
 
 -- where N is c times l, and l times p times k, p divides c
 dvd_of_parts : (p l k c N : ℕ) → 0 < l → c * l ≡ N → N ≡ l * p * k → p ∣ c
-dvd_of_parts p l k c N pos o e = dvd_of_mul-dvd-mul_right p pos (subst₂ (λ a b. a ∣ b) (mul_comm l p) (sym e ∙ sym o) (dvd-mul_right (l * p) k))
+dvd_of_parts p l k c N pos o e =
+    dvd_of_mul-dvd-mul_right p pos (subst₂ (λ a b. a ∣ b) (mul_comm l p) (sym e ∙ sym o) (dvd-mul_right (l * p) k))
 
 suc_pred : (n i : ℕ) → i < n → n ≡ suc (pred n)
 suc_pred n i l = omega arith
@@ -117,7 +122,8 @@ module _ {K D : Type 0} (F : FieldOn K) (EK : Enumerated K) (A : AlgebraOn F.rin
 
   -- it has a dimension
   abbrev space : (x : D) → Grown F M m (coords_of M m B) 0 B.vec E.size (λ i. pick (E.member i) (swaps (E.member i) x))
-  space x = grow F M m (coords_of M m B) 0 B.vec (independent_none M B.vec) E.size (λ i. pick (E.member i) (swaps (E.member i) x))
+  space x = grow F M m (coords_of M m B) 0 B.vec (independent_none M B.vec) E.size
+      (λ i. pick (E.member i) (swaps (E.member i) x))
 
   pick_commutes : (x y : D) (b : Bool) → swaps y x ≡ b → Commutes x (pick y b)
   unfolding pick
@@ -134,7 +140,8 @@ module _ {K D : Type 0} (F : FieldOn K) (EK : Enumerated K) (A : AlgebraOn F.rin
       (λ y e.
       let i = E.number y in
       let P : D → Type 0 = λ y. InSpan M (space x).size (space x).vec y in
-      subst P (pick_true (E.member i) (swaps (E.member i) x) (ap (λ y. swaps y x) (E.member-number y) ∙ e) ∙ E.member-number y) ((space x).spans i (E.number-lt y)))
+      subst P (pick_true (E.member i) (swaps (E.member i) x) (ap (λ y. swaps y x) (E.member-number y) ∙ e)
+      ∙ E.member-number y) ((space x).spans i (E.number-lt y)))
       (λ c. let y = comb M (space x).size c (space x).vec in
       eq-same E (y ⊗ x) (x ⊗ y) (comb_in M (Commutes x) (commutant x) (space x).size c (space x).vec
       (λ j l. let t = (space x).taken j (omega arith) l in
@@ -160,7 +167,8 @@ module _ {K D : Type 0} (F : FieldOn K) (EK : Enumerated K) (A : AlgebraOn F.rin
   one_free = record {
     only_zero = λ c e i l. let w : i ≡ 0 = omega arith in ap c w ∙ ⊎_elim (λ (h : c 0 ≡ F.zero). h)
         (λ (h : c 0 ≡ F.zero → ⊥). absurd (proper (
-        sym (A.one-scale A.one) ∙ ap (λ t. A.◌•◌ t A.one) (sym (F.inv-mul (c 0) h)) ∙ A.mul-scale (F.inv (c 0)) (c 0) A.one
+        sym (A.one-scale A.one) ∙ ap (λ t. A.◌•◌ t A.one) (sym (F.inv-mul (c 0) h))
+        ∙ A.mul-scale (F.inv (c 0)) (c 0) A.one
         ∙ ap (A.◌•◌ (F.inv (c 0))) (sym (A.zero-add (A.◌•◌ (c 0) A.one)) ∙ e) ∙ scale-zero M (F.inv (c 0)))))
         (eq_zero_or F.zero_test (c 0));
   }
@@ -209,7 +217,8 @@ module _ {K D : Type 0} (F : FieldOn K) (EK : Enumerated K) (A : AlgebraOn F.rin
       let pos : 0 < d = positive d o in
       let lt : d < m = below d le cent in
       let k = less-parts z m d pos lt bounded (dvd_of_less-mul m d z (class_order G S u) z_pos pos (sym o)) in
-      dvd_of_parts Φ (less d z) k.0 (class_order G S u) (less m z) (let e = less_lt_less 0 d z z_pos pos in omega arith) o k.1
+      dvd_of_parts Φ (less d z) k.0 (class_order G S u) (less m z)
+      (let e = less_lt_less 0 d z z_pos pos in omega arith) o k.1
     where
       positive : (d : ℕ) → class_order G S u * less d z ≡ less m z → 0 < d
       positive zero e = let a = ap (λ t. class_order G S u * t) (less-zero z) in let b = S_pos in absurd (omega arith)
@@ -223,10 +232,12 @@ module _ {K D : Type 0} (F : FieldOn K) (EK : Enumerated K) (A : AlgebraOn F.rin
 
   -- the classes outside the centre together
   abbrev outside : ℕ
-  outside = sum nat_monoid S.size (λ i. one_if (is_first G S (S.member i) && not (is_central G S (S.member i))) * class_order G S (S.member i))
+  outside = sum nat_monoid S.size
+      (λ i. one_if (is_first G S (S.member i) && not (is_central G S (S.member i))) * class_order G S (S.member i))
 
   outside_dvd : Φ ∣ outside
-  outside_dvd = dvd-sum Φ S.size (λ i. one_if (is_first G S (S.member i) && not (is_central G S (S.member i))) * class_order G S (S.member i))
+  outside_dvd = dvd-sum Φ S.size
+      (λ i. one_if (is_first G S (S.member i) && not (is_central G S (S.member i))) * class_order G S (S.member i))
       (λ i l. let u = S.member i in part (is_first G S u) (is_central G S u) (class_order G S u) (class_dvd u))
     where
       part : (f b : Bool) (n : ℕ) → ((b ≡ true → ⊥) → Φ ∣ n) → Φ ∣ one_if (f && not b) * n
@@ -241,7 +252,8 @@ module _ {K D : Type 0} (F : FieldOn K) (EK : Enumerated K) (A : AlgebraOn F.rin
 
   pub no_division_ring : ⊥
   no_division_ring =
-      let total : less m z ≡ outside + z = sym S_size ∙ class_equation G S ∙ ap (λ t. t + outside) count_central ∙ add_comm z outside in
+      let total : less m z ≡ outside + z = sym S_size ∙ class_equation G S ∙ ap (λ t. t + outside) count_central
+      ∙ add_comm z outside in
       let d : Φ ∣ z = (dvd-add_iff_right Φ outside_dvd).1 (subst (λ t. Φ ∣ t) total whole_dvd) in
       let a = le_of_dvd z_pos d in
       let b = cyclotomic-large m z enough bounded in

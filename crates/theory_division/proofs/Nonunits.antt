@@ -20,11 +20,15 @@ module _ {K D : Type 0} (F : FieldOn K) (EK : Enumerated K) (A : AlgebraOn F.rin
   nonunit_exists =
       let E = numbered F (module_of A) EK m B in
       let Inverse : D → Type 0 = λ x. (y : D) × (y ⊗ x ≡ A.one) in
-      let inverse_or : (x : D) → Inverse x ⊎ ((y : D) → y ⊗ x ≡ A.one → ⊥) = λ x. search_all E (λ y. y ⊗ x ≡ A.one) (λ y. equal_or_not E (y ⊗ x) A.one) in
+      let inverse_or : (x : D) → Inverse x
+      ⊎ ((y : D) → y ⊗ x ≡ A.one → ⊥) = λ x.
+      search_all E (λ y. y ⊗ x ≡ A.one) (λ y. equal_or_not E (y ⊗ x) A.one) in
       ⊎_elim
       (λ (r : (x : D) × Nonunit A.ring x). r)
       (λ (r : (x : D) → Nonunit A.ring x → ⊥). absurd (no_division_ring F EK A m B central enough bounded
-      (λ x d. ⊎_elim (λ (i : Inverse x). i) (λ (i : (y : D) → y ⊗ x ≡ A.one → ⊥). absurd (r x (record { not_zero = d; no_inverse = i }))) (inverse_or x))))
+      (λ x d. ⊎_elim (λ (i : Inverse x). i)
+      (λ (i : (y : D) → y ⊗ x ≡ A.one → ⊥). absurd (r x (record { not_zero = d; no_inverse = i })))
+      (inverse_or x))))
       (search_all E (Nonunit A.ring) (λ x. ⊎_elim
       (λ (e : x ≡ A.zero). inr (λ n. n.not_zero e))
       (λ (d : x ≡ A.zero → ⊥). ⊎_elim

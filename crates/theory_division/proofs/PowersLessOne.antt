@@ -1,7 +1,8 @@
 -- The numbers q^m − 1: q^d − 1 divides q^m − 1 only where d divides m, by Euclid's algorithm on the exponents.
 use Rattle.std.specs.Prelude.{◌≡◌, ℕ, zero, suc, ◌+◌, ◌-◌, ◌*◌, ◌/◌, ◌%◌, ◌^◌, ◌<◌, ◌≤◌}
 use Rattle.std.specs.Int.{◌∣◌}
-use Rattle.std.proofs.Common.{sym, ◌∙◌, ap, subst₂, arith, ⊎_elim, add-mul, zero-mul, pow-suc, mod-eq_of_lt, mul-le-mul_left, mul-le-mul_right, mul-lt-mul_of_pos_right, mul_comm}
+use Rattle.std.proofs.Common.{sym, ◌∙◌, ap, subst₂, arith, ⊎_elim, add-mul, zero-mul, pow-suc, mod-eq_of_lt}
+use Rattle.std.proofs.Common.{mul-le-mul_left, mul-le-mul_right, mul-lt-mul_of_pos_right, mul_comm}
 use Rattle.std.proofs.Math.Nat.{pow-zero, pow-le-pow_right, one-le-pow, add-mod_right, zero-mod, mul-div_cancel'}
 use Rattle.std.proofs.lemmas.Nat.{pow-add}
 use Rattle.std.proofs.lemmas.Nat.Gcd.{dvd_of_mod-eq-zero}
@@ -24,7 +25,8 @@ less-add a d z =
     let e1 = power-less (a + d) z in
     let e2 = pow-add (suc z) a d in
     let e3 = power-less a z in
-    let e4 : suc z ^ a * suc z ^ d ≡ suc z ^ a * less d z + suc z ^ a = ap (λ t. suc z ^ a * t) (power-less d z) ∙ omega arith in
+    let e4 : suc z ^ a * suc z ^ d ≡ suc z ^ a * less d z + suc z ^ a = ap (λ t. suc z ^ a * t) (power-less d z)
+    ∙ omega arith in
     omega arith
 
 pub less_lt_less : (a b z : ℕ) → 0 < z → a < b → less a z < less b z
@@ -40,7 +42,8 @@ pub less-zero : (z : ℕ) → less 0 z ≡ 0
 less-zero z = let e = power-less 0 z in let f = pow-zero (suc z) in omega arith
 
 pub less-one : (z : ℕ) → less 1 z ≡ z
-less-one z = let e = power-less 1 z in let f = pow-suc (suc z) 0 in let g = pow-zero (suc z) in let h = ap (λ t. t * suc z) g in omega arith
+less-one z = let e = power-less 1 z in let f = pow-suc (suc z) 0 in let g = pow-zero (suc z) in let h =
+    ap (λ t. t * suc z) g in omega arith
 
 mod-eq-zero_of_less-mul : (fuel m d z k : ℕ) → 0 < z → 0 < d → m ≤ fuel → less m z ≡ k * less d z → m % d ≡ 0
 mod-eq-zero_of_less-mul zero m d z k p q l e = let w : m ≡ 0 = omega arith in ap (λ t. t % d) w ∙ zero-mod d
@@ -63,7 +66,9 @@ mod-eq-zero_of_less-mul (suc fuel) m d z k p q l e = ⊎_elim
     (cases_lt m d)
   where
     small : (k : ℕ) → m < d → less m z ≡ k * less d z → m ≡ 0
-    small zero h e = ⊎_elim (λ (c : 0 < m). let g = less_lt_less 0 m z p c in let y = zero-mul (less d z) in absurd (omega arith)) (λ (c : m ≤ 0). omega arith) (cases_lt 0 m)
+    small zero h e = ⊎_elim
+        (λ (c : 0 < m). let g = less_lt_less 0 m z p c in let y = zero-mul (less d z) in absurd (omega arith))
+        (λ (c : m ≤ 0). omega arith) (cases_lt 0 m)
     small (suc k) h e = let g = less_lt_less m d z p h in let y = add-mul k 1 (less d z) in absurd (omega arith)
 
 -- q^d − 1 divides q^m − 1 only where d divides m
@@ -74,4 +79,5 @@ pub dvd_of_power_less_one : (q m d : ℕ) → 2 ≤ q → 0 < d → q ^ d - 1 �
 dvd_of_power_less_one zero m d h p v = absurd (omega arith)
 dvd_of_power_less_one (suc z) m d h p v =
     let w : less d z ∣ less m z = subst₂ (λ a b. a ∣ b) (sym (less-is d z)) (sym (less-is m z)) v in
-    dvd_of_less-mul m d z (less m z / less d z) (omega arith) p (sym (mul-div_cancel' (less d z) w) ∙ mul_comm (less d z) (less m z / less d z))
+    dvd_of_less-mul m d z (less m z / less d z) (omega arith) p
+    (sym (mul-div_cancel' (less d z) w) ∙ mul_comm (less d z) (less m z / less d z))

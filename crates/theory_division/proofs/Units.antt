@@ -1,4 +1,5 @@
--- The elements but 0 of a finite ring in which each has a left inverse are a group; counts in the ring and in the group.
+-- The elements but 0 of a finite ring in which each has a left inverse are a group; counts in the ring and in the
+-- group.
 use Rattle.std.specs.Prelude.{◌≡◌, ℕ, suc, pred, ◌+◌, ◌<◌, ◌≤◌, Bool, true, false, not, ◌⊎◌}
 use Rattle.std.proofs.Common.{refl, sym, ◌∙◌, ap, ap₂, arith, inl, inr, ⊎_elim}
 use Rattle.std.proofs.Math.Bool.{Bool-set}
@@ -9,7 +10,8 @@ use Rattle.theory_rings.specs.Sum.{sum}
 use Rattle.theory_rings.specs.Naturals.{nat_monoid}
 use Rattle.theory_rings.specs.Enumerated.{Enumerated}
 use Rattle.theory_rings.proofs.Rings.RingLaws.{mul-zero, zero-mul}
-use Rattle.theory_rings.proofs.Sums.Bump.{bump, bump-below, bump-above, bump-lt, bump-apart, unbump, bump-unbump, unbump-lt}
+use Rattle.theory_rings.proofs.Sums.Bump.{bump, bump-below, bump-above, bump-lt, bump-apart, unbump, bump-unbump}
+use Rattle.theory_rings.proofs.Sums.Bump.{unbump-lt}
 use Rattle.theory_rings.proofs.Sums.Sums.{sum_congr, sum_take_out}
 use Rattle.theory_division.specs.Counting.{one_if, count, same}
 use Rattle.theory_division.specs.Group.{GroupOn, commute, centralizer_order}
@@ -22,7 +24,8 @@ unbump-bump k i = ⊎_elim
     (λ (l : k ≤ i). ap (unbump k) (bump-above k i l) ∙ rw (le-ltb (suc i) k (omega arith)) (omega arith))
     (cases_lt i k)
 
-module _ {D : Type 0} (R : RingOn D) (E : Enumerated D) (proper : R.one ≡ R.zero → ⊥) (inverse : HasLeftInverses R) where
+module _ {D : Type 0} (R : RingOn D) (E : Enumerated D) (proper : R.one ≡ R.zero → ⊥)
+    (inverse : HasLeftInverses R) where
   infixl 70 ◌⊗◌
   open R use {◌⊗◌}
 
@@ -86,7 +89,8 @@ module _ {D : Type 0} (R : RingOn D) (E : Enumerated D) (proper : R.one ≡ R.ze
   bump_in i l = let a = bump-lt k i (pred E.size) l in let b = size_suc in omega arith
 
   bump_nonzero : (i : ℕ) → i < pred E.size → nonzero (E.member (bump k i)) ≡ true
-  bump_nonzero i l = ne-nonzero (E.member (bump k i)) (λ e. bump-apart k i (sym (E.number-member (bump k i) (bump_in i l)) ∙ ap E.number e))
+  bump_nonzero i l = ne-nonzero (E.member (bump k i))
+      (λ e. bump-apart k i (sym (E.number-member (bump k i) (bump_in i l)) ∙ ap E.number e))
 
   number_apart : (u : Unit_of) → E.number u.0 ≡ k → ⊥
   number_apart u e = nonzero-ne u.0 u.1 (sym (E.member-number u.0) ∙ ap E.member e ∙ E.member-number R.zero)
@@ -107,9 +111,12 @@ module _ {D : Type 0} (R : RingOn D) (E : Enumerated D) (proper : R.one ≡ R.ze
     size = pred E.size;
     member = λ i. unit_at (E.member (bump k i));
     number = λ u. unbump k (E.number u.0);
-    number-lt = λ u. unbump-lt (pred E.size) k (E.number u.0) (let l = E.number-lt R.zero in let s = size_suc in omega arith) (let l = E.number-lt u.0 in let s = size_suc in omega arith) (number_apart u);
+    number-lt = λ u. unbump-lt (pred E.size) k (E.number u.0)
+        (let l = E.number-lt R.zero in let s = size_suc in omega arith)
+        (let l = E.number-lt u.0 in let s = size_suc in omega arith) (number_apart u);
     member-number = λ u. unit_path _ _ (
-        let e : E.member (bump k (unbump k (E.number u.0))) ≡ u.0 = ap E.member (bump-unbump k (E.number u.0) (number_apart u)) ∙ E.member-number u.0 in
+        let e : E.member (bump k (unbump k (E.number u.0))) ≡ u.0 =
+        ap E.member (bump-unbump k (E.number u.0) (number_apart u)) ∙ E.member-number u.0 in
         unit_at-first (E.member (bump k (unbump k (E.number u.0)))) (ap nonzero e ∙ u.1) ∙ e);
     number-member = λ i l.
         ap (λ x. unbump k (E.number x)) (unit_at-first (E.member (bump k i)) (bump_nonzero i l))
@@ -125,9 +132,11 @@ module _ {D : Type 0} (R : RingOn D) (E : Enumerated D) (proper : R.one ≡ R.ze
   unfolding unit_members
   count_units P =
       ap (λ n. sum nat_monoid n (λ i. one_if (P (E.member i)))) size_suc
-      ∙ sum_take_out nat_monoid (pred E.size) k (λ i. one_if (P (E.member i))) (let l = E.number-lt R.zero in let s = size_suc in omega arith)
+      ∙ sum_take_out nat_monoid (pred E.size) k (λ i. one_if (P (E.member i)))
+      (let l = E.number-lt R.zero in let s = size_suc in omega arith)
       ∙ ap₂ (λ a b. a + b) (ap (λ x. one_if (P x)) (E.member-number R.zero))
-      (sum_congr nat_monoid (pred E.size) (λ i. one_if (P (E.member (bump k i)))) (λ i. one_if (P (unit_at (E.member (bump k i))).0))
+      (sum_congr nat_monoid (pred E.size) (λ i. one_if (P (E.member (bump k i))))
+      (λ i. one_if (P (unit_at (E.member (bump k i))).0))
       (λ i l. ap (λ x. one_if (P x)) (sym (unit_at-first (E.member (bump k i)) (bump_nonzero i l)))))
 
   abbrev pub commutes : D → D → Bool
@@ -145,7 +154,8 @@ module _ {D : Type 0} (R : RingOn D) (E : Enumerated D) (proper : R.one ≡ R.ze
       (count_congr unit_members (λ g. commutes g.0 u.0) (λ g. commute units unit_members g u)
       (λ g. bool_iff (commutes g.0 u.0) (commute units unit_members g u)
       (λ e. eq-same unit_members (units.◌·◌ g u) (units.◌·◌ u g)
-      (unit_path (units.◌·◌ g u) (units.◌·◌ u g) (units-mul g u ∙ same-eq E (g.0 ⊗ u.0) (u.0 ⊗ g.0) e ∙ sym (units-mul u g))))
+      (unit_path (units.◌·◌ g u) (units.◌·◌ u g)
+      (units-mul g u ∙ same-eq E (g.0 ⊗ u.0) (u.0 ⊗ g.0) e ∙ sym (units-mul u g))))
       (λ e. eq-same E (g.0 ⊗ u.0) (u.0 ⊗ g.0)
       (sym (units-mul g u) ∙ ap (λ t. t.0) (same-eq unit_members (units.◌·◌ g u) (units.◌·◌ u g) e) ∙ units-mul u g))))
       ∙ omega arith

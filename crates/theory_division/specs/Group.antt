@@ -50,4 +50,5 @@ module _ {G : Type 0} (H : GroupOn G) (E : Enumerated G) where
   -- the size of the group is that of its centre and the sizes of the classes outside it, each taken once
   abbrev pub ClassEquation : Type 0
   ClassEquation = E.size ≡ count E is_central
-      + sum nat_monoid E.size (λ i. one_if (is_first (E.member i) && not (is_central (E.member i))) * class_order (E.member i))
+      + sum nat_monoid E.size
+      (λ i. one_if (is_first (E.member i) && not (is_central (E.member i))) * class_order (E.member i))

@@ -19,10 +19,12 @@ pub fn members_of_a_space<A: BasedAlgebra>()
 
 /// No division ring of dimension 2 to 36 has a finite field as its centre.
 pub fn no_division_ring<A: BasedAlgebra>()
-    ensures { Enumerated A.Scalar → Central A.algebra → 2 ≤ A.dimension → A.dimension ≤ 36 → HasLeftInverses A.algebra.ring → ⊥ }
+    ensures { Enumerated A.Scalar → Central A.algebra → 2 ≤ A.dimension → A.dimension ≤ 36
+        → HasLeftInverses A.algebra.ring → ⊥ }
 {}
 
 /// In an algebra of dimension 2 to 36 with a finite field as its centre some element other than 0 has no left inverse.
 pub fn nonunit_exists<A: BasedAlgebra>()
-    ensures { Enumerated A.Scalar → Central A.algebra → 2 ≤ A.dimension → A.dimension ≤ 36 → (x : A.Vector) × Nonunit A.algebra.ring x }
+    ensures { Enumerated A.Scalar → Central A.algebra → 2 ≤ A.dimension → A.dimension ≤ 36 → (x : A.Vector)
+        × Nonunit A.algebra.ring x }
 {}

@@ -1,7 +1,8 @@
 // Theorems on finite groups.
 ghost use Rattle.std.specs.Prelude.{◌≡◌, true};
 ghost use Rattle.theory_rings.specs.Enumerated.{Enumerated};
-ghost use Rattle.theory_division.specs.Group.{GroupOn, conjugate, are_conjugate, is_central, OrbitStabilizer, ClassEquation};
+ghost use Rattle.theory_division.specs.Group.{GroupOn, conjugate, are_conjugate, is_central, OrbitStabilizer};
+ghost use Rattle.theory_division.specs.Group.{ClassEquation};
 
 /// A finite group.
 pub trait FiniteGroup {

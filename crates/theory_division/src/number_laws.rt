@@ -3,8 +3,8 @@ ghost use Rattle.std.specs.Prelude.{ℕ, ◌-◌, ◌^◌, ◌<◌, ◌≤◌};
 ghost use Rattle.std.specs.Int.{◌∣◌};
 ghost use Rattle.theory_division.specs.Cyclotomic.{CyclotomicTable, CyclotomicValue};
 
-/// The table of the cyclotomic polynomials to the 36-th is right, and their values from the second on are large and divide
-/// q^m − 1 beside each q^d − 1 with d a proper divisor of m.
+/// The table of the cyclotomic polynomials to the 36-th is right, and their values from the second on are large and
+/// divide q^m − 1 beside each q^d − 1 with d a proper divisor of m.
 pub fn cyclotomic_polynomials()
     ensures table { CyclotomicTable }
     ensures values { (m z : ℕ) → 2 ≤ m → m ≤ 36 → CyclotomicValue m z }

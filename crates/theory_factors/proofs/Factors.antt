@@ -12,12 +12,12 @@ use Rattle.theory_rings.proofs.Polynomials.Degrees.{length-degree_of_ne_zero}
 use Rattle.theory_rings.proofs.Polynomials.Uniqueness.{for_polynomials}
 use Rattle.theory_rings.proofs.Polynomials.Bezout.{field_polynomials}
 use Rattle.theory_rings.proofs.Polynomials.Irreducible.{divides_or}
-use Rattle.theory_blocks.proofs.Decisions.{some_or_all}
+use Rattle.theory_blocks.proofs.Families.Decisions.{some_or_all}
 use Rattle.theory_factors.specs.Factorisation.{HasIrreducibleFactors}
 use Rattle.theory_rings.proofs.Polynomials.Monic.{divides_trans, divides_self, ne_zero_of_degree, monic_of}
 use Rattle.theory_rings.proofs.Polynomials.Monic.{degree-monic_of, monic_of-monic, monic_of-divides, monic_of-ne-zero}
 use Rattle.theory_rings.proofs.Polynomials.Monic.{irreducible-monic_of, degrees_of_product}
-use Rattle.theory_radical.proofs.TowerFields.{remainder_numbers}
+use Rattle.theory_radical.proofs.Lifts.TowerFields.{remainder_numbers}
 
 module _ {K : Type 0} (F : FieldOn K) (E : Enumerated K) where
   abbrev R : CommRingOn K

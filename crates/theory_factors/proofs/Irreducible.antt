@@ -24,7 +24,7 @@ use Rattle.theory_factors.specs.FactorLaws.{IsCoprimeToPowers, IrreducibleIffCop
 use Rattle.theory_rings.proofs.Polynomials.Monic.{divides_trans, ne_zero_of_degree, monic_of, degree-monic_of}
 use Rattle.theory_rings.proofs.Polynomials.Monic.{monic_of-monic, monic_of-divides, irreducible-monic_of}
 use Rattle.theory_rings.proofs.Polynomials.Monic.{degrees_of_product, not_without_irreducible}
-use Rattle.theory_radical.proofs.TowerFields.{remainder_numbers, size-remainder_numbers}
+use Rattle.theory_radical.proofs.Lifts.TowerFields.{remainder_numbers, size-remainder_numbers}
 use Rattle.theory_factors.proofs.Powers.{power_less_variable, pow_lt, two_le_size, few_fixed, all_fixed}
 
 module _ {K : Type 0} (F : FieldOn K) (E : Enumerated K) where

@@ -25,7 +25,7 @@ use Rattle.theory_rings.proofs.Polynomials.Uniqueness.{for_polynomials}
 use Rattle.theory_rings.proofs.Polynomials.Bezout.{field_polynomials, degree_of_divides_one, constant_inverse, gcd}
 use Rattle.theory_rings.proofs.Fractions.Lowest.{monic_eq_of_divides}
 use Rattle.theory_radical.specs.Ideal.{product}
-use Rattle.theory_blocks.proofs.Decisions.{some_or_all}
+use Rattle.theory_blocks.proofs.Families.Decisions.{some_or_all}
 use Rattle.theory_factors.specs.FactorLaws.{power_less}
 use Rattle.theory_factors.specs.Splitting.{less, AreConstants, AreGcds, GcdsExist, IsProductOfGcds, OneGcdIsProper}
 use Rattle.theory_factors.proofs.Products.{divides_back, monic-ne-zero, product_monic, product_divides}

@@ -34,18 +34,22 @@ module _ {E : Type 0} (o : Ops E) (L : FieldLaws o) where
 
   pub sum_of-zeros : (n : ℕ) (f : ℕ → E) → ((i : ℕ) → i < n → f i ≡ o.zero) → sum_of o n f ≡ o.zero
   sum_of-zeros zero f h = refl
-  sum_of-zeros (suc n) f h = ap₂ o.add (sum_of-zeros n f (λ i l. h i (omega arith))) (h n (omega arith)) ∙ L.zero-add o.zero L.zero-elem
+  sum_of-zeros (suc n) f h = ap₂ o.add (sum_of-zeros n f (λ i l. h i (omega arith))) (h n (omega arith))
+      ∙ L.zero-add o.zero L.zero-elem
 
   -- terms that are 0 after the first n add nothing
-  pub sum_of-more : (n d : ℕ) (f : ℕ → E) → ((i : ℕ) → n ≤ i → f i ≡ o.zero) → IsElem o (sum_of o n f) → sum_of o (n + d) f ≡ sum_of o n f
+  pub sum_of-more : (n d : ℕ) (f : ℕ → E) → ((i : ℕ) → n ≤ i → f i ≡ o.zero) → IsElem o (sum_of o n f)
+      → sum_of o (n + d) f ≡ sum_of o n f
   sum_of-more n zero f h e = let p : n + 0 ≡ n = omega arith in ap (λ m. sum_of o m f) p
   sum_of-more n (suc d) f h e =
       let p : n + suc d ≡ suc (n + d) = omega arith in
       ap (λ m. sum_of o m f) p ∙ ap (o.add (sum_of o (n + d) f)) (h (n + d) (omega arith))
       ∙ ap (λ x. o.add x o.zero) (sum_of-more n d f h e) ∙ add-zero_elem (sum_of o n f) e
 
-  pub sum_of-le : (n m : ℕ) (f : ℕ → E) → ((i : ℕ) → n ≤ i → f i ≡ o.zero) → IsElem o (sum_of o n f) → n ≤ m → sum_of o m f ≡ sum_of o n f
-  sum_of-le n m f h e l = let p : m ≡ n + (m - n) = omega arith in ap (λ k. sum_of o k f) p ∙ sum_of-more n (m - n) f h e
+  pub sum_of-le : (n m : ℕ) (f : ℕ → E) → ((i : ℕ) → n ≤ i → f i ≡ o.zero) → IsElem o (sum_of o n f) → n ≤ m
+      → sum_of o m f ≡ sum_of o n f
+  sum_of-le n m f h e l = let p : m ≡ n + (m - n) = omega arith in ap (λ k. sum_of o k f) p
+      ∙ sum_of-more n (m - n) f h e
 
   module _ (x y : List E) (hx : All (IsElem o) x) (hy : All (IsElem o) y) where
     -- the terms of coefficient k of the product
@@ -70,21 +74,28 @@ module _ {E : Type 0} (o : Ops E) (L : FieldLaws o) where
     -- a product has no coefficients past the sum of the lengths, but for one
     pub convolution_of-past : (k : ℕ) → length x + length y ≤ suc k → convolution_of o (at o x) (at o y) k ≡ o.zero
     convolution_of-past k l = sum_of-zeros (suc k) (product_term k) (λ i below. ⊎_elim
-        (λ (h : i < length x). product_term-low k i (omega arith)) (λ (h : length x ≤ i). product_term-past k i h) (cases_lt i (length x)))
+        (λ (h : i < length x). product_term-low k i (omega arith)) (λ (h : length x ≤ i). product_term-past k i h)
+        (cases_lt i (length x)))
 
     -- the sum of all terms, where those from n on are 0 or there are n
-    pub convolution_of_sum : (k n : ℕ) → n ≤ suc k → (n < suc k → length x ≤ n) → sum_of o n (product_term k) ≡ convolution_of o (at o x) (at o y) k
+    pub convolution_of_sum : (k n : ℕ) → n ≤ suc k → (n < suc k → length x ≤ n)
+        → sum_of o n (product_term k) ≡ convolution_of o (at o x) (at o y) k
     convolution_of_sum k n l h = ⊎_elim
-        (λ (s : n < suc k). sym (sum_of-le n (suc k) (product_term k) (λ i b. product_term-past k i (omega (arith, h s))) (sum_of-product_term-elem n k) l))
+        (λ (s : n < suc k). sym
+        (sum_of-le n (suc k) (product_term k) (λ i b. product_term-past k i (omega (arith, h s)))
+        (sum_of-product_term-elem n k) l))
         (λ (s : suc k ≤ n). let p : n ≡ suc k = omega arith in ap (λ m. sum_of o m (product_term k)) p)
         (cases_lt n (suc k))
 
   -- a quotient of zeros and all of r
-  pub convolution_of-zeros : (q by : List E) → All (IsElem o) by → ((k : ℕ) → at o q k ≡ o.zero) → (k : ℕ) → convolution_of o (at o q) (at o by) k ≡ o.zero
+  pub convolution_of-zeros : (q by : List E) → All (IsElem o) by → ((k : ℕ) → at o q k ≡ o.zero) → (k : ℕ)
+      → convolution_of o (at o q) (at o by) k ≡ o.zero
   convolution_of-zeros q by hb z k =
       sum_of-zeros (suc k) (λ i. o.mul (at o q i) (at o by (k - i)))
       (λ i l. ap (λ x. o.mul x (at o by (k - i))) (z i) ∙ zero-mul_elem (at o by (k - i)) (at-elem o L by hb (k - i)))
 
-  pub convolution_of_congr : (f g f' g' : ℕ → E) → ((i : ℕ) → f i ≡ f' i) → ((i : ℕ) → g i ≡ g' i) → (k : ℕ) → convolution_of o f g k ≡ convolution_of o f' g' k
+  pub convolution_of_congr : (f g f' g' : ℕ → E) → ((i : ℕ) → f i ≡ f' i) → ((i : ℕ) → g i ≡ g' i) → (k : ℕ)
+      → convolution_of o f g k ≡ convolution_of o f' g' k
   convolution_of_congr f g f' g' ef eg k =
-      sum_by_ops_congr o.zero o.add (suc k) (λ i. o.mul (f i) (g (k - i))) (λ i. o.mul (f' i) (g' (k - i))) (λ i l. ap₂ o.mul (ef i) (eg (k - i)))
+      sum_by_ops_congr o.zero o.add (suc k) (λ i. o.mul (f i) (g (k - i))) (λ i. o.mul (f' i) (g' (k - i)))
+      (λ i l. ap₂ o.mul (ef i) (eg (k - i)))

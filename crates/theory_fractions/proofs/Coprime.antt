@@ -20,7 +20,8 @@ module _ {K : Type 0} (F : FieldOn K) where
   coprime-mul_unit u v k l e c =
       let b = bezout F u v c in
       coprime_of_bezout F (P.◌⊗◌ k u) (P.◌⊗◌ k v) (P.◌⊗◌ b.0 l) (P.◌⊗◌ b.1 l)
-      (by_sorted P (b.0 ∷ l ∷ k ∷ u ∷ b.1 ∷ v ∷ []) (v0 ⊠ v1 ⊠ (v2 ⊠ v3) ⊞ v4 ⊠ v1 ⊠ (v2 ⊠ var 5)) (v2 ⊠ v1 ⊠ (v0 ⊠ v3 ⊞ v4 ⊠ var 5)) refl
+      (by_sorted P (b.0 ∷ l ∷ k ∷ u ∷ b.1 ∷ v ∷ []) (v0 ⊠ v1 ⊠ (v2 ⊠ v3) ⊞ v4 ⊠ v1 ⊠ (v2 ⊠ var 5))
+      (v2 ⊠ v1 ⊠ (v0 ⊠ v3 ⊞ v4 ⊠ var 5)) refl
       ∙ ap₂ P.◌⊗◌ e b.2 ∙ P.one-mul P.one)
 
   -- one times a unit
@@ -28,8 +29,10 @@ module _ {K : Type 0} (F : FieldOn K) where
   coprime-unit_mul u v k l e c =
       let b = bezout F u v c in
       coprime_of_bezout F (P.◌⊗◌ k u) v (P.◌⊗◌ b.0 l) b.1
-      (by_sorted P (b.0 ∷ l ∷ k ∷ u ∷ b.1 ∷ v ∷ []) (v0 ⊠ v1 ⊠ (v2 ⊠ v3) ⊞ v4 ⊠ var 5) (v0 ⊠ (v2 ⊠ v1 ⊠ v3) ⊞ v4 ⊠ var 5) refl
-      ∙ ap (λ x. P.◌⊕◌ (P.◌⊗◌ b.0 (P.◌⊗◌ x u)) (P.◌⊗◌ b.1 v)) e ∙ ap (λ x. P.◌⊕◌ (P.◌⊗◌ b.0 x) (P.◌⊗◌ b.1 v)) (P.one-mul u) ∙ b.2)
+      (by_sorted P (b.0 ∷ l ∷ k ∷ u ∷ b.1 ∷ v ∷ []) (v0 ⊠ v1 ⊠ (v2 ⊠ v3) ⊞ v4 ⊠ var 5)
+      (v0 ⊠ (v2 ⊠ v1 ⊠ v3) ⊞ v4 ⊠ var 5) refl
+      ∙ ap (λ x. P.◌⊕◌ (P.◌⊗◌ b.0 (P.◌⊗◌ x u)) (P.◌⊗◌ b.1 v)) e
+      ∙ ap (λ x. P.◌⊕◌ (P.◌⊗◌ b.0 x) (P.◌⊗◌ b.1 v)) (P.one-mul u) ∙ b.2)
 
   -- a sum with a multiple of the other
   pub coprime-add_mul : (u v p : Poly F.cring) → Coprime u v → Coprime (P.◌⊕◌ u (P.◌⊗◌ p v)) v

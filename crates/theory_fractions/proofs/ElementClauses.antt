@@ -2,7 +2,8 @@
 use Rattle.std.specs.Prelude.{◌≡◌, ◌≢◌, [], ◌∷◌}
 use Rattle.std.proofs.Common.{refl, sym, ◌∙◌, ap, subst}
 use Rattle.theory_rings.specs.Ops.{Ops, IsElem, FieldLaws}
-use Rattle.theory_fractions.specs.Fraction.{Pair, IsLowestTerms, IsFractionSum, IsFractionProduct, IsFractionNegative, IsFractionInverse}
+use Rattle.theory_fractions.specs.Fraction.{Pair, IsLowestTerms, IsFractionSum, IsFractionProduct, IsFractionNegative}
+use Rattle.theory_fractions.specs.Fraction.{IsFractionInverse}
 use Rattle.theory_fractions.specs.FractionOps.{fraction_ops}
 use Rattle.theory_fractions.proofs.FractionField.{eq_zero_of_empty, fraction_laws}
 use Rattle.theory_fractions.proofs.LowestTerms.{lowest_of_fraction, fraction_of_lowest}

@@ -11,15 +11,19 @@ use Rattle.theory_rings.specs.Polynomial.{IsTrimmed, Poly, coefficient, degree, 
 use Rattle.theory_rings.specs.Fraction.{SameFraction, IsFractionField}
 use Rattle.theory_rings.proofs.Rings.RingLaws.{zero-mul}
 use Rattle.theory_rings.proofs.Rings.Embedding.{FieldEmbedding, embedded_field}
-use Rattle.theory_rings.proofs.Polynomials.PolynomialRing.{is_empty, IsTrimmed-injective, IsTrimmed-trim, get_or-trim, Poly-path, coefficient-zero, coefficient-one}
+use Rattle.theory_rings.proofs.Polynomials.PolynomialRing.{is_empty, IsTrimmed-injective, IsTrimmed-trim, get_or-trim}
+use Rattle.theory_rings.proofs.Polynomials.PolynomialRing.{Poly-path, coefficient-zero, coefficient-one}
 use Rattle.theory_rings.proofs.Polynomials.Constants.{constant-one}
 use Rattle.theory_rings.proofs.Polynomials.Degrees.{length_pos, lead-constant}
 use Rattle.theory_rings.proofs.Polynomials.Bezout.{field_polynomials, poly_one-ne-zero, degree_of_divides_one}
 use Rattle.theory_rings.proofs.Fractions.Fractions.{Fraction-path}
-use Rattle.theory_rings.proofs.Fractions.Lowest.{Lowest, IsLowest-prop, polynomial_reduction, rational_functions, is_rational_functions}
+use Rattle.theory_rings.proofs.Fractions.Lowest.{Lowest, IsLowest-prop, polynomial_reduction, rational_functions}
+use Rattle.theory_rings.proofs.Fractions.Lowest.{is_rational_functions}
 use Rattle.theory_rings.proofs.Fractions.LowestTests.{is_lowest, is_lowest-sound, is_lowest-complete}
 use Rattle.theory_fractions.specs.Fraction.{Pair}
-use Rattle.theory_fractions.specs.FractionOps.{is_trimmed, element_if, element_or_zero, polynomial_of, RationalFunction, rational_function_if, rational_function, pair_of, is_polynomial, is_fraction, fraction_ops}
+use Rattle.theory_fractions.specs.FractionOps.{is_trimmed, element_if, element_or_zero, polynomial_of, RationalFunction}
+use Rattle.theory_fractions.specs.FractionOps.{rational_function_if, rational_function, pair_of, is_polynomial}
+use Rattle.theory_fractions.specs.FractionOps.{is_fraction, fraction_ops}
 
 module _ {E : Type 0} (o : Ops E) (L : FieldLaws o) where
   abbrev pub F : FieldOn (Elem o)
@@ -62,7 +66,8 @@ module _ {E : Type 0} (o : Ops E) (L : FieldLaws o) where
   -- ---- lists of values and polynomials
 
   trim_of_trimmed : (xs : List (Elem o)) → IsTrimmed F.zero xs → trim F.is_zero xs ≡ xs
-  trim_of_trimmed xs t = IsTrimmed-injective F.zero (trim F.is_zero xs) xs (IsTrimmed-trim F.zero_test xs) t (get_or-trim F.zero_test xs)
+  trim_of_trimmed xs t =
+      IsTrimmed-injective F.zero (trim F.is_zero xs) xs (IsTrimmed-trim F.zero_test xs) t (get_or-trim F.zero_test xs)
 
   pub polynomial_of-values : (p : Poly F.cring) → polynomial_of o L (values p.0) ≡ p
   polynomial_of-values p = Poly-path F.cring (polynomial_of o L (values p.0)) p (λ k.
@@ -83,9 +88,11 @@ module _ {E : Type 0} (o : Ops E) (L : FieldLaws o) where
 
   is_polynomial-values : (p : Poly F.cring) → is_polynomial o L (values p.0) ≡ true
   is_polynomial-values p =
-      and_from (list_all o.is_elem (values p.0)) (is_trimmed o.is_zero (values p.0)) (list_all-values p.0) (is_trimmed-values p.0 p.1)
+      and_from (list_all o.is_elem (values p.0)) (is_trimmed o.is_zero (values p.0)) (list_all-values p.0)
+      (is_trimmed-values p.0 p.1)
 
-  IsTrimmed-elements_of : (xs : List E) → list_all o.is_elem xs ≡ true → is_trimmed o.is_zero xs ≡ true → IsTrimmed F.zero (elements_of xs)
+  IsTrimmed-elements_of : (xs : List E) → list_all o.is_elem xs ≡ true → is_trimmed o.is_zero xs ≡ true
+      → IsTrimmed F.zero (elements_of xs)
   IsTrimmed-elements_of [] h t = tt
   IsTrimmed-elements_of (x ∷ []) h t =
       let parts = and_parts (o.is_elem x) true h in
@@ -97,14 +104,16 @@ module _ {E : Type 0} (o : Ops E) (L : FieldLaws o) where
   pub values-polynomial_of : (xs : List E) → is_polynomial o L xs ≡ true → values (polynomial_of o L xs).0 ≡ xs
   values-polynomial_of xs h =
       let parts = and_parts (list_all o.is_elem xs) (is_trimmed o.is_zero xs) h in
-      ap values (trim_of_trimmed (elements_of xs) (IsTrimmed-elements_of xs parts.0 parts.1)) ∙ values-elements_of xs parts.0
+      ap values (trim_of_trimmed (elements_of xs) (IsTrimmed-elements_of xs parts.0 parts.1))
+      ∙ values-elements_of xs parts.0
 
   -- ---- pairs and rational functions
 
   Lowest-path : (x y : RationalFunction o L) → x.0.0 ≡ y.0.0 → x.0.1 ≡ y.0.1 → x ≡ y
   Lowest-path x y e f = Σ_prop_path (λ w. IsLowest-prop F w.0 w.1) {u = x} {v = y} (ap₂ (λ u v. (u, v)) e f)
 
-  rational_function-lowest : (w : Pair E) (x : RationalFunction o L) → polynomial_of o L w.0 ≡ x.0.0 → polynomial_of o L w.1 ≡ x.0.1
+  rational_function-lowest : (w : Pair E) (x : RationalFunction o L) → polynomial_of o L w.0 ≡ x.0.0
+      → polynomial_of o L w.1 ≡ x.0.1
       → rational_function o L w ≡ x
   unfolding rational_function
   rational_function-lowest w x e f = go (is_lowest F u v) refl
@@ -120,7 +129,8 @@ module _ {E : Type 0} (o : Ops E) (L : FieldLaws o) where
       go false h = absurd (both_ways (is_lowest F u v) h (ap₂ (is_lowest F) e f ∙ is_lowest-complete F x.0.0 x.0.1 x.1))
 
   pub rational_function-pair_of : (x : RationalFunction o L) → rational_function o L (pair_of o L x) ≡ x
-  rational_function-pair_of x = rational_function-lowest (pair_of o L x) x (polynomial_of-values x.0.0) (polynomial_of-values x.0.1)
+  rational_function-pair_of x =
+      rational_function-lowest (pair_of o L x) x (polynomial_of-values x.0.0) (polynomial_of-values x.0.1)
 
   pub is_fraction-pair_of : (x : RationalFunction o L) → is_fraction o L (pair_of o L x) ≡ true
   unfolding is_fraction
@@ -130,10 +140,12 @@ module _ {E : Type 0} (o : Ops E) (L : FieldLaws o) where
       let low : Bool = is_lowest F (polynomial_of o L u) (polynomial_of o L v) in
       and_from (is_polynomial o L u) (is_polynomial o L v && low) (is_polynomial-values x.0.0)
       (and_from (is_polynomial o L v) low (is_polynomial-values x.0.1)
-      (ap₂ (is_lowest F) (polynomial_of-values x.0.0) (polynomial_of-values x.0.1) ∙ is_lowest-complete F x.0.0 x.0.1 x.1))
+      (ap₂ (is_lowest F) (polynomial_of-values x.0.0) (polynomial_of-values x.0.1)
+      ∙ is_lowest-complete F x.0.0 x.0.1 x.1))
 
   pub is_fraction-parts : (w : Pair E) → is_fraction o L w ≡ true
-      → (is_polynomial o L w.0 ≡ true) × (is_polynomial o L w.1 ≡ true) × Lowest F (polynomial_of o L w.0) (polynomial_of o L w.1)
+      → (is_polynomial o L w.0 ≡ true) × (is_polynomial o L w.1 ≡ true)
+      × Lowest F (polynomial_of o L w.0) (polynomial_of o L w.1)
   unfolding is_fraction
   is_fraction-parts w h =
       let low : Bool = is_lowest F (polynomial_of o L w.0) (polynomial_of o L w.1) in
@@ -155,11 +167,13 @@ module _ {E : Type 0} (o : Ops E) (L : FieldLaws o) where
   -- ---- constants
 
   pub polynomial_of-nil : polynomial_of o L [] ≡ P.zero
-  polynomial_of-nil = Poly-path F.cring (polynomial_of o L []) P.zero (λ k. sym (coefficient-zero F.cring F.zero_test k))
+  polynomial_of-nil = Poly-path F.cring (polynomial_of o L []) P.zero
+      (λ k. sym (coefficient-zero F.cring F.zero_test k))
 
   pub polynomial_of-one : polynomial_of o L (o.one ∷ []) ≡ P.one
   polynomial_of-one = Poly-path F.cring (polynomial_of o L (o.one ∷ [])) P.one (λ k.
-      get_or-trim F.zero_test (elements_of (o.one ∷ [])) k ∙ ap (λ x. get_or (x ∷ []) k F.zero) (element_or_zero-value F.one)
+      get_or-trim F.zero_test (elements_of (o.one ∷ [])) k
+      ∙ ap (λ x. get_or (x ∷ []) k F.zero) (element_or_zero-value F.one)
       ∙ each k ∙ sym (coefficient-one F.cring F.zero_test k))
     where
       each : (k : ℕ) → get_or (F.one ∷ []) k F.zero ≡ constant_coefficients F.zero F.one k
@@ -171,7 +185,8 @@ module _ {E : Type 0} (o : Ops E) (L : FieldLaws o) where
   Lowest-one u = record {
     monic = record {
       nonzero = length_pos F.cring F.zero_test P.one (poly_one-ne-zero F);
-      leading = ap (λ p. coefficient F.cring p (degree p.0)) (sym (constant-one F.cring F.zero_test)) ∙ lead-constant F.cring F.zero_test F.one;
+      leading = ap (λ p. coefficient F.cring p (degree p.0)) (sym (constant-one F.cring F.zero_test))
+          ∙ lead-constant F.cring F.zero_test F.one;
     };
     coprime = λ g a b. degree_of_divides_one F g b;
   }
@@ -191,7 +206,8 @@ module _ {E : Type 0} (o : Ops E) (L : FieldLaws o) where
       let low : Bool = is_lowest F (polynomial_of o L u) (polynomial_of o L (o.one ∷ [])) in
       and_from (is_polynomial o L u) (is_polynomial o L (o.one ∷ []) && low) h
       (and_from (is_polynomial o L (o.one ∷ [])) low is_polynomial-one
-      (ap (is_lowest F (polynomial_of o L u)) polynomial_of-one ∙ is_lowest-complete F (polynomial_of o L u) P.one (Lowest-one (polynomial_of o L u))))
+      (ap (is_lowest F (polynomial_of o L u)) polynomial_of-one
+      ∙ is_lowest-complete F (polynomial_of o L u) P.one (Lowest-one (polynomial_of o L u))))
 
   -- ---- the field
 
@@ -217,7 +233,8 @@ module _ {E : Type 0} (o : Ops E) (L : FieldLaws o) where
 
   pub rational_function-one : rational_function o L (o.one ∷ [], o.one ∷ []) ≡ K.one
   rational_function-one =
-      rational_function-lowest (o.one ∷ [], o.one ∷ []) ((P.one, P.one), Lowest-one P.one) polynomial_of-one polynomial_of-one
+      rational_function-lowest (o.one ∷ [], o.one ∷ [])
+      ((P.one, P.one), Lowest-one P.one) polynomial_of-one polynomial_of-one
       ∙ sym (same_path K.one ((P.one, P.one), Lowest-one P.one) I.one_value)
 
   pub rational_function_injective : (a b : Pair E) → is_fraction o L a ≡ true → is_fraction o L b ≡ true
@@ -233,7 +250,8 @@ module _ {E : Type 0} (o : Ops E) (L : FieldLaws o) where
   eq_zero_of_empty w h e =
       rational_function_injective w ([], o.one ∷ []) h is_fraction-zero
       (rational_function_eq w h
-      ∙ eq_zero_of_numerator ((polynomial_of o L w.0, polynomial_of o L w.1), (is_fraction-parts w h).2) (ap (polynomial_of o L) e ∙ polynomial_of-nil)
+      ∙ eq_zero_of_numerator ((polynomial_of o L w.0, polynomial_of o L w.1), (is_fraction-parts w h).2)
+      (ap (polynomial_of o L) e ∙ polynomial_of-nil)
       ∙ sym rational_function-zero)
 
   empty_of_test : (xs : List E) → is_empty xs ≡ true → xs ≡ []
@@ -259,7 +277,8 @@ module _ {E : Type 0} (o : Ops E) (L : FieldLaws o) where
     map-inv = λ a h.
         ap (λ x. K.◌⊗◌ x (rational_function o L a.0)) (rational_function-pair_of (K.inv (rational_function o L a.0)))
         ∙ K.inv-mul (rational_function o L a.0)
-        (λ e. h (rational_function_injective a.0 ([], o.one ∷ []) a.1 is_fraction-zero (e ∙ sym rational_function-zero)));
+        (λ e. h (rational_function_injective a.0 ([], o.one ∷ []) a.1 is_fraction-zero
+        (e ∙ sym rational_function-zero)));
     is_zero-sound = λ a h e. eq_zero_of_empty a h (empty_of_test a.0 e);
     is_zero-zero = refl;
     one-nonzero = K.one-nonzero;

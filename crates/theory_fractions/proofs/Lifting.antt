@@ -11,7 +11,8 @@ use Rattle.theory_rings.specs.Sum.{at, sum, sum_of}
 use Rattle.theory_rings.specs.Polynomial.{trim, Poly, coefficient, convolution_of, constant_coefficients}
 use Rattle.theory_rings.specs.Division.{Divides}
 use Rattle.theory_rings.proofs.Rings.Elements.{at-elem}
-use Rattle.theory_rings.proofs.Polynomials.PolynomialRing.{Poly-path, IsTrimmed-trim, get_or-trim, coefficient-zero, coefficient-one, coefficient-add, coefficient-mul}
+use Rattle.theory_rings.proofs.Polynomials.PolynomialRing.{Poly-path, IsTrimmed-trim, get_or-trim, coefficient-zero}
+use Rattle.theory_rings.proofs.Polynomials.PolynomialRing.{coefficient-one, coefficient-add, coefficient-mul}
 use Rattle.theory_rings.proofs.Polynomials.Bezout.{field_polynomials}
 use Rattle.theory_rings.proofs.Polynomials.ElementLists.{values, at-values, convolution_of-elements}
 use Rattle.theory_fractions.specs.PolynomialLists as poly
@@ -33,7 +34,8 @@ module _ {E : Type 0} (o : Ops E) (L : FieldLaws o) where
   abbrev pub HasCoefficients : Poly F.cring → (ℕ → E) → Type 0
   HasCoefficients p f = (k : ℕ) → f k ≡ (coefficient F.cring p k).0
 
-  pub coefficients_mul : (p q : Poly F.cring) (f g : ℕ → E) → HasCoefficients p f → HasCoefficients q g → HasCoefficients (P.◌⊗◌ p q) (convolution_of o f g)
+  pub coefficients_mul : (p q : Poly F.cring) (f g : ℕ → E) → HasCoefficients p f → HasCoefficients q g
+      → HasCoefficients (P.◌⊗◌ p q) (convolution_of o f g)
   coefficients_mul p q f g hf hg k =
       convolution_of_congr o L f g (λ i. (coefficient F.cring p i).0) (λ i. (coefficient F.cring q i).0) hf hg k
       ∙ convolution_of-elements o L (coefficient F.cring p) (coefficient F.cring q) k
@@ -67,7 +69,8 @@ module _ {E : Type 0} (o : Ops E) (L : FieldLaws o) where
   unfolding lift
   has-lift xs h k =
       let nought : element o.zero ≡ F.zero = Elem-path o (element o.zero) F.zero (element-value o.zero L.zero-elem) in
-      sym (ap (λ x. x.0) (get_or-trim F.zero_test (map element xs) k ∙ ap (get_or (map element xs) k) (sym nought) ∙ get_or-map element xs k o.zero)
+      sym (ap (λ x. x.0) (get_or-trim F.zero_test (map element xs) k ∙ ap (get_or (map element xs) k) (sym nought)
+      ∙ get_or-map element xs k o.zero)
       ∙ element-value (at o xs k) (at-elem o L xs h k))
 
   -- equal coefficients, equal polynomials, and back
@@ -94,20 +97,26 @@ module _ {E : Type 0} (o : Ops E) (L : FieldLaws o) where
       go zero = refl
       go (suc k) = refl
 
-  pub has-sum : (n : ℕ) (p : ℕ → Poly F.cring) (f : ℕ → ℕ → E) → ((i : ℕ) → i < n → Has (p i) (f i)) → Has (sum P.monoid n p) (λ k. sum_of o n (λ i. f i k))
+  pub has-sum : (n : ℕ) (p : ℕ → Poly F.cring) (f : ℕ → ℕ → E) → ((i : ℕ) → i < n → Has (p i) (f i))
+      → Has (sum P.monoid n p) (λ k. sum_of o n (λ i. f i k))
   has-sum zero p f h = has-zero
   has-sum (suc n) p f h = has-add (sum P.monoid n p) (p n) (λ k. sum_of o n (λ i. f i k)) (f n)
       (has-sum n p f (λ i l. h i (omega arith))) (h n (omega arith))
 
   pub lift_nil : lift [] ≡ P.zero
-  lift_nil = eq_of_coefficients (lift []) P.zero (at o []) (λ _. o.zero) (has-lift [] (λ k d l. absurd (omega arith))) has-zero (λ k. refl)
+  lift_nil = eq_of_coefficients (lift []) P.zero (at o []) (λ _. o.zero)
+      (has-lift [] (λ k d l. absurd (omega arith))) has-zero (λ k. refl)
 
-  pub lift-mul : (a b c : List E) → IsOver o a → IsOver o b → IsOver o c → IsProduct o a b c → lift c ≡ P.◌⊗◌ (lift a) (lift b)
-  lift-mul a b c ha hb hc e = eq_of_coefficients (lift c) (P.◌⊗◌ (lift a) (lift b)) (at o c) (convolution_of o (at o a) (at o b))
+  pub lift-mul : (a b c : List E) → IsOver o a → IsOver o b → IsOver o c → IsProduct o a b c
+      → lift c ≡ P.◌⊗◌ (lift a) (lift b)
+  lift-mul a b c ha hb hc e =
+      eq_of_coefficients (lift c) (P.◌⊗◌ (lift a) (lift b)) (at o c) (convolution_of o (at o a) (at o b))
       (has-lift c hc) (has-mul (lift a) (lift b) (at o a) (at o b) (has-lift a ha) (has-lift b hb)) e
 
-  pub product_of_lift : (a b c : List E) → IsOver o a → IsOver o b → IsOver o c → lift c ≡ P.◌⊗◌ (lift a) (lift b) → IsProduct o a b c
-  product_of_lift a b c ha hb hc e = coefficients_of_eq (lift c) (P.◌⊗◌ (lift a) (lift b)) (at o c) (convolution_of o (at o a) (at o b))
+  pub product_of_lift : (a b c : List E) → IsOver o a → IsOver o b → IsOver o c → lift c ≡ P.◌⊗◌ (lift a) (lift b)
+      → IsProduct o a b c
+  product_of_lift a b c ha hb hc e =
+      coefficients_of_eq (lift c) (P.◌⊗◌ (lift a) (lift b)) (at o c) (convolution_of o (at o a) (at o b))
       (has-lift c hc) (has-mul (lift a) (lift b) (at o a) (at o b) (has-lift a ha) (has-lift b hb)) e
 
   -- each polynomial is that of a list
@@ -123,7 +132,8 @@ module _ {E : Type 0} (o : Ops E) (L : FieldLaws o) where
   has-lower p k = at-values o L p.0 k
 
   pub lift-lower : (p : Poly F.cring) → lift (lower p) ≡ p
-  lift-lower p = eq_of_coefficients (lift (lower p)) p (at o (lower p)) (at o (lower p)) (has-lift (lower p) (lower-over p)) (has-lower p) (λ k. refl)
+  lift-lower p = eq_of_coefficients (lift (lower p)) p (at o (lower p)) (at o (lower p))
+      (has-lift (lower p) (lower-over p)) (has-lower p) (λ k. refl)
 
   -- divisors
   pub lift-divides : (a b : List E) → IsOver o a → IsOver o b → poly.Divides o a b → Divides P (lift a) (lift b)

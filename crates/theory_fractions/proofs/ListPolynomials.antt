@@ -35,7 +35,8 @@ module _ {E : Type 0} (o : Ops E) (L : FieldLaws o) where
   list_all-over : (xs : List E) → IsOver o xs → list_all o.is_elem xs ≡ true
   list_all-over [] h = refl
   list_all-over (x ∷ xs) h =
-      and_from (o.is_elem x) (list_all o.is_elem xs) (All-head (IsElem o) x xs h) (list_all-over xs (All-tail (IsElem o) x xs h))
+      and_from (o.is_elem x) (list_all o.is_elem xs) (All-head (IsElem o) x xs h)
+      (list_all-over xs (All-tail (IsElem o) x xs h))
 
   over-list_all : (xs : List E) → list_all o.is_elem xs ≡ true → IsOver o xs
   over-list_all [] h = All-nil (IsElem o)
@@ -54,7 +55,8 @@ module _ {E : Type 0} (o : Ops E) (L : FieldLaws o) where
 
   trimmed-is_trimmed : (xs : List E) → is_trimmed o.is_zero xs ≡ true → IsTrimmed o.zero xs
   trimmed-is_trimmed [] t = tt
-  trimmed-is_trimmed (x ∷ []) t = λ e. both_ways (o.is_zero x) (not-true (o.is_zero x) t) (ap o.is_zero e ∙ L.is_zero-zero)
+  trimmed-is_trimmed (x ∷ []) t = λ e.
+      both_ways (o.is_zero x) (not-true (o.is_zero x) t) (ap o.is_zero e ∙ L.is_zero-zero)
   trimmed-is_trimmed (x ∷ y ∷ ys) t = trimmed-is_trimmed (y ∷ ys) t
 
   -- a list of elements that does not end with 0
@@ -64,7 +66,8 @@ module _ {E : Type 0} (o : Ops E) (L : FieldLaws o) where
 
   pub is_polynomial-from : (xs : List E) → IsPolynomial xs → is_polynomial o L xs ≡ true
   is_polynomial-from xs h =
-      and_from (list_all o.is_elem xs) (is_trimmed o.is_zero xs) (list_all-over xs h.over) (is_trimmed-trimmed xs h.over h.trimmed)
+      and_from (list_all o.is_elem xs) (is_trimmed o.is_zero xs) (list_all-over xs h.over)
+      (is_trimmed-trimmed xs h.over h.trimmed)
 
   pub is_polynomial-gives : (xs : List E) → is_polynomial o L xs ≡ true → IsPolynomial xs
   is_polynomial-gives xs h =
@@ -101,18 +104,24 @@ module _ {E : Type 0} (o : Ops E) (L : FieldLaws o) where
 
   -- ---- divisors
 
-  pub divides_polynomial_of : (g u : List E) → IsPolynomial g → IsPolynomial u → Divides o g u → DividesIn P (polynomial_of o L g) (polynomial_of o L u)
+  pub divides_polynomial_of : (g u : List E) → IsPolynomial g → IsPolynomial u → Divides o g u
+      → DividesIn P (polynomial_of o L g) (polynomial_of o L u)
   divides_polynomial_of g u hg hu d =
       let c : Poly F.cring = polynomial_of o L d.0 in (
         c,
-        eq_of_coefficients o L (polynomial_of o L u) (P.◌⊗◌ c (polynomial_of o L g)) (at o u) (convolution_of o (at o d.0) (at o g))
-            (has_polynomial_of u hu.over) (has-mul o L c (polynomial_of o L g) (at o d.0) (at o g) (has_polynomial_of d.0 d.1) (has_polynomial_of g hg.over)) d.2,
+        eq_of_coefficients o L (polynomial_of o L u) (P.◌⊗◌ c (polynomial_of o L g)) (at o u)
+            (convolution_of o (at o d.0) (at o g))
+            (has_polynomial_of u hu.over)
+            (has-mul o L c (polynomial_of o L g) (at o d.0) (at o g) (has_polynomial_of d.0 d.1)
+            (has_polynomial_of g hg.over)) d.2,
       )
 
   pub divides_values : (g p : Poly F.cring) → DividesIn P g p → Divides o (values o L g.0) (values o L p.0)
   divides_values g p d = (
     values o L d.0.0,
     values-over o L d.0.0,
-    coefficients_of_eq o L p (P.◌⊗◌ d.0 g) (at o (values o L p.0)) (convolution_of o (at o (values o L d.0.0)) (at o (values o L g.0)))
-        (at-values o L p.0) (has-mul o L d.0 g (at o (values o L d.0.0)) (at o (values o L g.0)) (at-values o L d.0.0) (at-values o L g.0)) d.1,
+    coefficients_of_eq o L p (P.◌⊗◌ d.0 g) (at o (values o L p.0))
+        (convolution_of o (at o (values o L d.0.0)) (at o (values o L g.0)))
+        (at-values o L p.0) (has-mul o L d.0 g (at o (values o L d.0.0)) (at o (values o L g.0)) (at-values o L d.0.0)
+        (at-values o L g.0)) d.1,
   )

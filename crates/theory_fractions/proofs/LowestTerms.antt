@@ -18,7 +18,9 @@ use Rattle.theory_fractions.specs.PolynomialLists.{Divides}
 use Rattle.theory_fractions.specs.Fraction.{IsCoprime, IsLowestTerms}
 use Rattle.theory_fractions.specs.FractionOps.{polynomial_of, is_polynomial, is_fraction, fraction_ops}
 use Rattle.theory_fractions.proofs.FractionField.{is_fraction-parts}
-use Rattle.theory_fractions.proofs.ListPolynomials.{IsPolynomial, is_polynomial-from, is_polynomial-gives, values_back, has_polynomial_of, length-polynomial_of, degree-polynomial_of, divides_polynomial_of, divides_values, IsPolynomial-values}
+use Rattle.theory_fractions.proofs.ListPolynomials.{IsPolynomial, is_polynomial-from, is_polynomial-gives, values_back}
+use Rattle.theory_fractions.proofs.ListPolynomials.{has_polynomial_of, length-polynomial_of, degree-polynomial_of}
+use Rattle.theory_fractions.proofs.ListPolynomials.{divides_polynomial_of, divides_values, IsPolynomial-values}
 
 module _ {E : Type 0} (o : Ops E) (L : FieldLaws o) where
   abbrev F : FieldOn (Elem o)
@@ -38,7 +40,8 @@ module _ {E : Type 0} (o : Ops E) (L : FieldLaws o) where
   degree_short (x ∷ xs) l = omega arith
 
   -- coprime polynomials, and coprime lists
-  pub coprime_lists : (u v : List E) → IsPolynomial o L u → IsPolynomial o L v → IsCoprimeIn F.cring P (polynomial_of o L u) (polynomial_of o L v) → IsCoprime o u v
+  pub coprime_lists : (u v : List E) → IsPolynomial o L u → IsPolynomial o L v
+      → IsCoprimeIn F.cring P (polynomial_of o L u) (polynomial_of o L v) → IsCoprime o u v
   coprime_lists u v hu hv c g og tg du dv =
       let hg : IsPolynomial o L g = record { over = og; trimmed = tg } in
       omega (
@@ -48,14 +51,16 @@ module _ {E : Type 0} (o : Ops E) (L : FieldLaws o) where
         c (polynomial_of o L g) (divides_polynomial_of o L g u hg hu du) (divides_polynomial_of o L g v hg hv dv),
       )
 
-  pub coprime_polynomials : (u v : List E) → IsPolynomial o L u → IsPolynomial o L v → IsCoprime o u v → IsCoprimeIn F.cring P (polynomial_of o L u) (polynomial_of o L v)
+  pub coprime_polynomials : (u v : List E) → IsPolynomial o L u → IsPolynomial o L v → IsCoprime o u v
+      → IsCoprimeIn F.cring P (polynomial_of o L u) (polynomial_of o L v)
   coprime_polynomials u v hu hv c g du dv =
       let gs : List E = values o L g.0 in
       let hg : IsPolynomial o L gs = IsPolynomial-values o L g in
       degree_short g.0 (omega (
         arith,
         length-map g.0 (λ a. a.0),
-        c gs hg.over hg.trimmed (subst (Divides o gs) (values_back o L u hu) (divides_values o L g (polynomial_of o L u) du))
+        c gs hg.over hg.trimmed
+            (subst (Divides o gs) (values_back o L u hu) (divides_values o L g (polynomial_of o L u) du))
             (subst (Divides o gs) (values_back o L v hv) (divides_values o L g (polynomial_of o L v) dv)),
       ))
 
@@ -77,7 +82,8 @@ module _ {E : Type 0} (o : Ops E) (L : FieldLaws o) where
       }
 
   -- and back
-  pub fraction_of_polynomials : (u v : List E) → IsPolynomial o L u → IsPolynomial o L v → Lowest F (polynomial_of o L u) (polynomial_of o L v)
+  pub fraction_of_polynomials : (u v : List E) → IsPolynomial o L u → IsPolynomial o L v
+      → Lowest F (polynomial_of o L u) (polynomial_of o L v)
       → is_fraction o L (u, v) ≡ true
   unfolding is_fraction
   fraction_of_polynomials u v hu hv low =
@@ -99,7 +105,8 @@ module _ {E : Type 0} (o : Ops E) (L : FieldLaws o) where
         coprime = coprime_polynomials u v hu hv h.coprime;
       }
 
-  pub lowest_of_polynomials : (u v : List E) → IsPolynomial o L u → IsPolynomial o L v → Lowest F (polynomial_of o L u) (polynomial_of o L v)
+  pub lowest_of_polynomials : (u v : List E) → IsPolynomial o L u → IsPolynomial o L v
+      → Lowest F (polynomial_of o L u) (polynomial_of o L v)
       → IsLowestTerms o u v
   lowest_of_polynomials u v hu hv low = lowest_of_fraction u v (fraction_of_polynomials u v hu hv low)
 

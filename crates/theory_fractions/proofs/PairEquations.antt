@@ -10,7 +10,8 @@ use Rattle.theory_rings.proofs.Polynomials.Bezout.{field_polynomials}
 use Rattle.theory_fractions.specs.PolynomialLists.{IsOver}
 use Rattle.theory_fractions.proofs.Lifting.{HasCoefficients}
 use Rattle.theory_fractions.proofs.Lifting.{eq_of_coefficients, coefficients_of_eq, has-add, has-mul}
-use Rattle.theory_fractions.specs.Fraction.{Pair, IsSame, IsLowestTerms, IsFractionSum, IsFractionProduct, IsFractionNegative}
+use Rattle.theory_fractions.specs.Fraction.{Pair, IsSame, IsLowestTerms, IsFractionSum, IsFractionProduct}
+use Rattle.theory_fractions.specs.Fraction.{IsFractionNegative}
 use Rattle.theory_fractions.specs.FractionOps.{polynomial_of}
 use Rattle.theory_fractions.proofs.FractionField.{polynomial_of-one}
 use Rattle.theory_fractions.proofs.ListPolynomials.{has_polynomial_of, has_neg}
@@ -49,15 +50,18 @@ module _ {E : Type 0} (o : Ops E) (L : FieldLaws o) where
   same_of_eq : (c : Pair E) → IsPairOver c → (p q : Poly F.cring) (f g : ℕ → E) → Has p f → Has q g
       → P.◌⊗◌ (num c) q ≡ P.◌⊗◌ p (den c) → IsSame o (at o c.0) (at o c.1) f g
   same_of_eq c h p q f g hf hg e = record {
-    products = coefficients_of_eq o L (P.◌⊗◌ (num c) q) (P.◌⊗◌ p (den c)) (convolution_of o (at o c.0) g) (convolution_of o f (at o c.1))
+    products = coefficients_of_eq o L (P.◌⊗◌ (num c) q) (P.◌⊗◌ p (den c)) (convolution_of o (at o c.0) g)
+        (convolution_of o f (at o c.1))
         (has-mul o L (num c) q (at o c.0) g (has_num c h) hg) (has-mul o L p (den c) f (at o c.1) hf (has_den c h)) e;
   }
 
   eq_of_same : (c : Pair E) → IsPairOver c → (p q : Poly F.cring) (f g : ℕ → E) → Has p f → Has q g
       → IsSame o (at o c.0) (at o c.1) f g → P.◌⊗◌ (num c) q ≡ P.◌⊗◌ p (den c)
   eq_of_same c h p q f g hf hg s =
-      eq_of_coefficients o L (P.◌⊗◌ (num c) q) (P.◌⊗◌ p (den c)) (convolution_of o (at o c.0) g) (convolution_of o f (at o c.1))
-      (has-mul o L (num c) q (at o c.0) g (has_num c h) hg) (has-mul o L p (den c) f (at o c.1) hf (has_den c h)) s.products
+      eq_of_coefficients o L (P.◌⊗◌ (num c) q) (P.◌⊗◌ p (den c)) (convolution_of o (at o c.0) g)
+      (convolution_of o f (at o c.1))
+      (has-mul o L (num c) q (at o c.0) g (has_num c h) hg)
+      (has-mul o L p (den c) f (at o c.1) hf (has_den c h)) s.products
 
   module _ (a b c : Pair E) (ha : IsPairOver a) (hb : IsPairOver b) (hc : IsPairOver c) where
     abbrev pub dens : Poly F.cring
@@ -74,7 +78,8 @@ module _ {E : Type 0} (o : Ops E) (L : FieldLaws o) where
 
     has_sum : Has sum_num sum_coefficients
     has_sum =
-        has-add o L (P.◌⊗◌ (num a) (den b)) (P.◌⊗◌ (num b) (den a)) (convolution_of o (at o a.0) (at o b.1)) (convolution_of o (at o b.0) (at o a.1))
+        has-add o L (P.◌⊗◌ (num a) (den b)) (P.◌⊗◌ (num b) (den a)) (convolution_of o (at o a.0) (at o b.1))
+        (convolution_of o (at o b.0) (at o a.1))
         (has-mul o L (num a) (den b) (at o a.0) (at o b.1) (has_num a ha) (has_den b hb))
         (has-mul o L (num b) (den a) (at o b.0) (at o a.1) (has_num b hb) (has_den a ha))
 
@@ -82,22 +87,28 @@ module _ {E : Type 0} (o : Ops E) (L : FieldLaws o) where
     has_product = has-mul o L (num a) (num b) (at o a.0) (at o b.0) (has_num a ha) (has_num b hb)
 
     pub sum_of_eq : P.◌⊗◌ (num c) dens ≡ P.◌⊗◌ sum_num (den c) → IsFractionSum o a b c
-    sum_of_eq e = same_of_eq c hc sum_num dens sum_coefficients (convolution_of o (at o a.1) (at o b.1)) has_sum has_dens e
+    sum_of_eq e = same_of_eq c hc sum_num dens sum_coefficients
+        (convolution_of o (at o a.1) (at o b.1)) has_sum has_dens e
 
     pub eq_of_sum : IsFractionSum o a b c → P.◌⊗◌ (num c) dens ≡ P.◌⊗◌ sum_num (den c)
-    eq_of_sum s = eq_of_same c hc sum_num dens sum_coefficients (convolution_of o (at o a.1) (at o b.1)) has_sum has_dens s
+    eq_of_sum s = eq_of_same c hc sum_num dens sum_coefficients
+        (convolution_of o (at o a.1) (at o b.1)) has_sum has_dens s
 
     pub product_of_eq : P.◌⊗◌ (num c) dens ≡ P.◌⊗◌ (P.◌⊗◌ (num a) (num b)) (den c) → IsFractionProduct o a b c
     product_of_eq e =
-        same_of_eq c hc (P.◌⊗◌ (num a) (num b)) dens (convolution_of o (at o a.0) (at o b.0)) (convolution_of o (at o a.1) (at o b.1)) has_product has_dens e
+        same_of_eq c hc (P.◌⊗◌ (num a) (num b)) dens (convolution_of o (at o a.0) (at o b.0))
+        (convolution_of o (at o a.1) (at o b.1)) has_product has_dens e
 
     pub eq_of_product : IsFractionProduct o a b c → P.◌⊗◌ (num c) dens ≡ P.◌⊗◌ (P.◌⊗◌ (num a) (num b)) (den c)
     eq_of_product s =
-        eq_of_same c hc (P.◌⊗◌ (num a) (num b)) dens (convolution_of o (at o a.0) (at o b.0)) (convolution_of o (at o a.1) (at o b.1)) has_product has_dens s
+        eq_of_same c hc (P.◌⊗◌ (num a) (num b)) dens (convolution_of o (at o a.0) (at o b.0))
+        (convolution_of o (at o a.1) (at o b.1)) has_product has_dens s
 
-  pub negative_of_eq : (a c : Pair E) → IsPairOver a → IsPairOver c → P.◌⊗◌ (num c) (den a) ≡ P.◌⊗◌ (P.neg (num a)) (den c) → IsFractionNegative o a c
+  pub negative_of_eq : (a c : Pair E) → IsPairOver a → IsPairOver c
+      → P.◌⊗◌ (num c) (den a) ≡ P.◌⊗◌ (P.neg (num a)) (den c) → IsFractionNegative o a c
   negative_of_eq a c ha hc e =
-      same_of_eq c hc (P.neg (num a)) (den a) (λ k. o.neg (at o a.0 k)) (at o a.1) (has_neg o L (num a) (at o a.0) (has_num a ha)) (has_den a ha) e
+      same_of_eq c hc (P.neg (num a)) (den a) (λ k. o.neg (at o a.0 k)) (at o a.1)
+      (has_neg o L (num a) (at o a.0) (has_num a ha)) (has_den a ha) e
 
   -- a monic denominator with one coefficient is 1
   pub one_of_constant : (v : List E) → length v ≡ 1 → at o v (degree v) ≡ o.one → v ≡ o.one ∷ []

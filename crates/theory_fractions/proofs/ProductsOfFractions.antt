@@ -12,14 +12,16 @@ use Rattle.theory_rings.proofs.Polynomials.Degrees.{ne_zero_of_length, length-de
 use Rattle.theory_rings.proofs.Polynomials.Constants.{coefficient-constant_mul}
 use Rattle.theory_rings.proofs.Polynomials.Bezout.{field_polynomials, degree_zero_inverse}
 use Rattle.theory_fractions.specs.PolynomialLists.{IsProduct}
-use Rattle.theory_fractions.specs.Fraction.{Pair, IsCoprime as IsCoprimeList, IsLowestTerms, IsFraction, IsFractionProduct, IsFractionNegative}
+use Rattle.theory_fractions.specs.Fraction.{Pair, IsCoprime as IsCoprimeList, IsLowestTerms, IsFraction}
+use Rattle.theory_fractions.specs.Fraction.{IsFractionProduct, IsFractionNegative}
 use Rattle.theory_fractions.specs.FractionOps.{polynomial_of}
 use Rattle.theory_fractions.proofs.FractionField.{polynomial_of-nil}
 use Rattle.theory_fractions.proofs.ListPolynomials.{IsPolynomial, length-polynomial_of}
 use Rattle.theory_fractions.proofs.LowestTerms.{coprime_lists, coprime_polynomials}
 use Rattle.theory_fractions.proofs.Coprime.{coprime-unit_mul}
 use Rattle.theory_fractions.proofs.Reducing.{poly-mul, eq_of_fraction, constant_poly, poly-constant_mul, constant_unit}
-use Rattle.theory_fractions.proofs.PairEquations.{pair_over, num, den, product_of_eq, eq_of_product, negative_of_eq, den_one}
+use Rattle.theory_fractions.proofs.PairEquations.{pair_over, num, den, product_of_eq, eq_of_product, negative_of_eq}
+use Rattle.theory_fractions.proofs.PairEquations.{den_one}
 use Rattle.theory_fractions.proofs.SumsOfFractions.{numerator_of, denominator_of}
 
 -- w is a · b in lowest terms
@@ -33,11 +35,13 @@ pub record IsLowestNegative {E : Type 0} (o : Ops E) (a w : Pair E) : Type 0 whe
   pub negative : IsFractionNegative o a w
 
 -- lists that are the denominator and the numerator
-pub coprime_lists_swap : {E : Type 0} (o : Ops E) (u v x y : List E) → x ≡ v → y ≡ u → IsCoprimeList o u v → IsCoprimeList o x y
+pub coprime_lists_swap : {E : Type 0} (o : Ops E) (u v x y : List E) → x ≡ v → y ≡ u → IsCoprimeList o u v
+    → IsCoprimeList o x y
 coprime_lists_swap o u v x y ex ey h =
     subst (λ z. IsCoprimeList o z y) (sym ex) (subst (IsCoprimeList o v) (sym ey) (λ g og tg dv du. h g og tg du dv))
 
-pub fraction_same : {E : Type 0} (o : Ops E) (w : Pair E) (u v u' v' : List E) → u ≡ u' → v ≡ v' → IsFraction o w u v → IsFraction o w u' v'
+pub fraction_same : {E : Type 0} (o : Ops E) (w : Pair E) (u v u' v' : List E) → u ≡ u' → v ≡ v' → IsFraction o w u v
+    → IsFraction o w u' v'
 fraction_same o w u v u' v' eu ev h = subst (λ x. IsFraction o w x v') eu (subst (IsFraction o w u) ev h)
 
 module _ {E : Type 0} (o : Ops E) (L : FieldLaws o) where
@@ -74,11 +78,13 @@ module _ {E : Type 0} (o : Ops E) (L : FieldLaws o) where
     monic = ha.monic;
     coprime = coprime_lists o L u a.1 hu (denominator_of o L a ha)
         (subst (λ x. IsCoprime F.cring P x (d a)) (sym same)
-        (coprime-unit_mul F (n a) (d a) k l e (coprime_polynomials o L a.0 a.1 (numerator_of o L a ha) (denominator_of o L a ha) ha.coprime)));
+        (coprime-unit_mul F (n a) (d a) k l e
+        (coprime_polynomials o L a.0 a.1 (numerator_of o L a ha) (denominator_of o L a ha) ha.coprime)));
   }
 
   module _ (a b : Pair E) (ha : Lowest a) (hb : Lowest b) where
-    product_from : (c : Pair E) → Lowest c → P.◌⊗◌ (n c) (P.◌⊗◌ (d a) (d b)) ≡ P.◌⊗◌ (P.◌⊗◌ (n a) (n b)) (d c) → IsFractionProduct o a b c
+    product_from : (c : Pair E) → Lowest c → P.◌⊗◌ (n c) (P.◌⊗◌ (d a) (d b)) ≡ P.◌⊗◌ (P.◌⊗◌ (n a) (n b)) (d c)
+        → IsFractionProduct o a b c
     product_from c hc e = product_of_eq o L a b c (pair_over o L a ha) (pair_over o L b hb) (pair_over o L c hc) e
 
     -- where one is 0
@@ -108,7 +114,8 @@ module _ {E : Type 0} (o : Ops E) (L : FieldLaws o) where
           let long = length-polynomial_of o L a.0 (numerator_of o L a ha) in
           let nonzero : n a ≢ P.zero = ne_zero_of_length F.cring F.zero_test (n a) (omega (arith, long)) in
           P.mul_comm (n a) (constant F.cring F.zero_test (F.inv (lead F.cring (n a))))
-          ∙ degree_zero_inverse F (n a) nonzero (omega (arith, long, length-degree_of_ne_zero F.cring F.zero_test (n a) nonzero))
+          ∙ degree_zero_inverse F (n a) nonzero
+          (omega (arith, long, length-degree_of_ne_zero F.cring F.zero_test (n a) nonzero))
 
       pub constant_lowest : Lowest (u, b.1)
       constant_lowest = lowest-unit_mul b hb u hu (n a) inverse unit_numerator same_u
@@ -126,9 +133,11 @@ module _ {E : Type 0} (o : Ops E) (L : FieldLaws o) where
           ∙ ap (λ x. P.◌⊗◌ x (d w)) (poly-mul o L a.0 b.0 u ha.numerator_over hb.numerator_over hu.over eu))
 
   -- the product does not depend on the order
-  pub product_comm : (a b c : Pair E) → Lowest a → Lowest b → Lowest c → IsFractionProduct o a b c → IsFractionProduct o b a c
+  pub product_comm : (a b c : Pair E) → Lowest a → Lowest b → Lowest c → IsFractionProduct o a b c
+      → IsFractionProduct o b a c
   product_comm a b c ha hb hc s = product_from b a hb ha c hc
-      (ap (P.◌⊗◌ (n c)) (P.mul_comm (d b) (d a)) ∙ eq_of_product o L a b c (pair_over o L a ha) (pair_over o L b hb) (pair_over o L c hc) s
+      (ap (P.◌⊗◌ (n c)) (P.mul_comm (d b) (d a))
+      ∙ eq_of_product o L a b c (pair_over o L a ha) (pair_over o L b hb) (pair_over o L c hc) s
       ∙ ap (λ x. P.◌⊗◌ x (d c)) (P.mul_comm (n a) (n b)))
 
   -- ---- the negative
@@ -150,7 +159,8 @@ module _ {E : Type 0} (o : Ops E) (L : FieldLaws o) where
     minus_one-mul : (p : Poly F.cring) → P.◌⊗◌ k p ≡ P.neg p
     minus_one-mul p = Poly-path F.cring (P.◌⊗◌ k p) (P.neg p) (λ i.
         coefficient-constant_mul F.cring F.zero_test minus_one p i
-        ∙ ring1 F.cring (λ x. (minus unit ⊠ x, minus x)) refl (coefficient F.cring p i) ∙ sym (coefficient-neg F.cring F.zero_test p i))
+        ∙ ring1 F.cring (λ x. (minus unit ⊠ x, minus x)) refl (coefficient F.cring p i)
+        ∙ sym (coefficient-neg F.cring F.zero_test p i))
 
     square : P.◌⊗◌ k k ≡ P.one
     square = constant_unit o L minus_one.0 minus_one.1 minus_one
@@ -168,13 +178,15 @@ module _ {E : Type 0} (o : Ops E) (L : FieldLaws o) where
         (ap (λ x. P.◌⊗◌ x (d a)) (same_negative ∙ minus_one-mul (n a)))
 
   -- what the code makes
-  pub lowest_product_with_constant : (a b w : Pair E) (u v : List E) → Lowest a → Lowest b → length a.0 ≡ 1 → length a.1 ≡ 1 → Is u → IsProduct o a.0 b.0 u
+  pub lowest_product_with_constant : (a b w : Pair E) (u v : List E) → Lowest a → Lowest b → length a.0 ≡ 1
+      → length a.1 ≡ 1 → Is u → IsProduct o a.0 b.0 u
       → v ≡ b.1 → w ≡ (u, v) → IsLowestProduct o a b w
   lowest_product_with_constant a b w u v ha hb hk hl hu eu ev e =
       subst (IsLowestProduct o a b) (sym (e ∙ ap (λ y. (u, y)) ev))
       record { lowest = constant_lowest a b ha hb hk hl u hu eu; product = constant_product a b ha hb hk hl u hu eu }
 
-  pub lowest_negative : (a w : Pair E) (c : E) (u v : List E) → Lowest a → c ≡ o.neg o.one → Is u → IsProduct o (c ∷ []) a.0 u → v ≡ a.1 → w ≡ (u, v)
+  pub lowest_negative : (a w : Pair E) (c : E) (u v : List E) → Lowest a → c ≡ o.neg o.one → Is u
+      → IsProduct o (c ∷ []) a.0 u → v ≡ a.1 → w ≡ (u, v)
       → IsLowestNegative o a w
   lowest_negative a w c u v ha ec hu eu ev e =
       let eu' : IsProduct o (o.neg o.one ∷ []) a.0 u = subst (λ x. IsProduct o (x ∷ []) a.0 u) ec eu in

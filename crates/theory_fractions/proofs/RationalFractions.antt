@@ -5,7 +5,8 @@ use Rattle.theory_rings.proofs.Fractions.Lowest.{rational_functions}
 use Rattle.theory_rings.specs.Elements.{elements}
 use Rattle.theory_fractions.specs.FractionOps.{RationalFunction, rational_function, fraction_ops}
 use Rattle.theory_fractions.specs.FractionLaws.{FractionsAreRational}
-use Rattle.theory_fractions.proofs.FractionField.{rational_function-one, is_fraction-pair_of, rational_function-pair_of, pair_of-rational_function}
+use Rattle.theory_fractions.proofs.FractionField.{rational_function-one, is_fraction-pair_of, rational_function-pair_of}
+use Rattle.theory_fractions.proofs.FractionField.{pair_of-rational_function}
 
 module _ {E : Type 0} (o : Ops E) (L : FieldLaws o) where
   abbrev K : FieldOn (RationalFunction o L)

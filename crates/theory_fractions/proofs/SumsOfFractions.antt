@@ -24,7 +24,8 @@ pub record IsLowestSum {E : Type 0} (o : Ops E) (a b w : Pair E) : Type 0 where
   pub sum : IsFractionSum o a b w
 
 -- products and sums of lists that are others
-pub product_same : {E : Type 0} (o : Ops E) (x y x' y' z : List E) → x ≡ x' → y ≡ y' → IsProduct o x y z → IsProduct o x' y' z
+pub product_same : {E : Type 0} (o : Ops E) (x y x' y' z : List E) → x ≡ x' → y ≡ y' → IsProduct o x y z
+    → IsProduct o x' y' z
 product_same o x y x' y' z ex ey p = subst (λ v. IsProduct o v y' z) ex (subst (λ v. IsProduct o x v z) ey p)
 
 pub sum_same : {E : Type 0} (o : Ops E) (x y x' y' z : List E) → x ≡ x' → y ≡ y' → IsSum o x y z → IsSum o x' y' z
@@ -65,7 +66,9 @@ module _ {E : Type 0} (o : Ops E) (L : FieldLaws o) where
   num-zero w e = ap (polynomial_of o L) e ∙ polynomial_of-nil o L
 
   module _ (a b : Pair E) (ha : Lowest a) (hb : Lowest b) where
-    sum_from : (c : Pair E) → Lowest c → P.◌⊗◌ (n c) (P.◌⊗◌ (d a) (d b)) ≡ P.◌⊗◌ (P.◌⊕◌ (P.◌⊗◌ (n a) (d b)) (P.◌⊗◌ (n b) (d a))) (d c) → IsFractionSum o a b c
+    sum_from : (c : Pair E) → Lowest c
+        → P.◌⊗◌ (n c) (P.◌⊗◌ (d a) (d b)) ≡ P.◌⊗◌ (P.◌⊕◌ (P.◌⊗◌ (n a) (d b)) (P.◌⊗◌ (n b) (d a))) (d c)
+        → IsFractionSum o a b c
     sum_from c hc e = sum_of_eq o L a b c (pair_over o L a ha) (pair_over o L b hb) (pair_over o L c hc) e
 
     -- where one is 0
@@ -88,7 +91,8 @@ module _ {E : Type 0} (o : Ops E) (L : FieldLaws o) where
       polynomials_sum = sum_from (u, o.one ∷ []) polynomials_lowest
           (ap₂ P.◌⊗◌ (poly-add o L a.0 b.0 u ha.numerator_over hb.numerator_over hu.over eu) (ap₂ P.◌⊗◌ one_a one_b)
           ∙ ring2 P (λ x y. ((x ⊞ y) ⊠ (unit ⊠ unit), (x ⊠ unit ⊞ y ⊠ unit) ⊠ unit)) refl (n a) (n b)
-          ∙ sym (ap₂ P.◌⊗◌ (ap₂ P.◌⊕◌ (ap (P.◌⊗◌ (n a)) one_b) (ap (P.◌⊗◌ (n b)) one_a)) (den_one o L (u, o.one ∷ []) polynomials_lowest refl)))
+          ∙ sym (ap₂ P.◌⊗◌ (ap₂ P.◌⊕◌ (ap (P.◌⊗◌ (n a)) one_b) (ap (P.◌⊗◌ (n b)) one_a))
+          (den_one o L (u, o.one ∷ []) polynomials_lowest refl)))
         where
           one_a : d a ≡ P.one
           one_a = den_one o L a ha hl
@@ -97,7 +101,8 @@ module _ {E : Type 0} (o : Ops E) (L : FieldLaws o) where
           one_b = den_one o L b hb hm
 
     -- where the second is a polynomial
-    module _ (hm : length b.1 ≡ 1) (m u : List E) (om : IsOver o m) (em : IsProduct o b.0 a.1 m) (hu : Is u) (eu : IsSum o a.0 m u) where
+    module _ (hm : length b.1 ≡ 1) (m u : List E) (om : IsOver o m) (em : IsProduct o b.0 a.1 m) (hu : Is u)
+        (eu : IsSum o a.0 m u) where
       same_m : polynomial_of o L m ≡ P.◌⊗◌ (n b) (d a)
       same_m = poly-mul o L b.0 a.1 m hb.numerator_over ha.denominator_over om em
 
@@ -114,7 +119,8 @@ module _ {E : Type 0} (o : Ops E) (L : FieldLaws o) where
         monic = ha.monic;
         coprime = coprime_lists o L u a.1 hu (denominator_of a ha)
             (subst (λ x. IsCoprime F.cring P x (d a)) (sym same_u)
-            (coprime-add_mul F (n a) (d a) (n b) (coprime_polynomials o L a.0 a.1 (numerator_of a ha) (denominator_of a ha) ha.coprime)));
+            (coprime-add_mul F (n a) (d a) (n b)
+            (coprime_polynomials o L a.0 a.1 (numerator_of a ha) (denominator_of a ha) ha.coprime)));
       }
 
       pub polynomial_sum : IsFractionSum o a b (u, a.1)
@@ -130,11 +136,13 @@ module _ {E : Type 0} (o : Ops E) (L : FieldLaws o) where
     pub denominators_nonzero : (v : List E) → Is v → IsProduct o a.1 b.1 v → v ≢ []
     denominators_nonzero v hv ev e =
         poly_mul-ne-zero F (d a) (d b) (den-ne-zero a ha) (den-ne-zero b hb)
-        (sym (poly-mul o L a.1 b.1 v ha.denominator_over hb.denominator_over hv.over ev) ∙ ap (polynomial_of o L) e ∙ polynomial_of-nil o L)
+        (sym (poly-mul o L a.1 b.1 v ha.denominator_over hb.denominator_over hv.over ev) ∙ ap (polynomial_of o L) e
+        ∙ polynomial_of-nil o L)
 
     -- a numerator over the product of the denominators
     module _ (l r u v : List E) (ol : IsOver o l) (or : IsOver o r) (ou : IsOver o u) (hv : Is v)
-        (el : IsProduct o a.0 b.1 l) (er : IsProduct o b.0 a.1 r) (eu : IsSum o l r u) (ev : IsProduct o a.1 b.1 v) where
+        (el : IsProduct o a.0 b.1 l) (er : IsProduct o b.0 a.1 r) (eu : IsSum o l r u)
+        (ev : IsProduct o a.1 b.1 v) where
       same_v : polynomial_of o L v ≡ P.◌⊗◌ (d a) (d b)
       same_v = poly-mul o L a.1 b.1 v ha.denominator_over hb.denominator_over hv.over ev
 
@@ -148,21 +156,28 @@ module _ {E : Type 0} (o : Ops E) (L : FieldLaws o) where
   -- the sum does not depend on the order
   pub sum_comm : (a b c : Pair E) → Lowest a → Lowest b → Lowest c → IsFractionSum o a b c → IsFractionSum o b a c
   sum_comm a b c ha hb hc s = sum_from b a hb ha c hc
-      (ap (P.◌⊗◌ (n c)) (P.mul_comm (d b) (d a)) ∙ eq_of_sum o L a b c (pair_over o L a ha) (pair_over o L b hb) (pair_over o L c hc) s
+      (ap (P.◌⊗◌ (n c)) (P.mul_comm (d b) (d a))
+      ∙ eq_of_sum o L a b c (pair_over o L a ha) (pair_over o L b hb) (pair_over o L c hc) s
       ∙ ap (λ x. P.◌⊗◌ x (d c)) (P.add_comm (P.◌⊗◌ (n a) (d b)) (P.◌⊗◌ (n b) (d a))))
 
   lowest_sum : (a b w w' : Pair E) → w ≡ w' → IsLowestSum o a b w' → IsLowestSum o a b w
   lowest_sum a b w w' e s = subst (IsLowestSum o a b) (sym e) s
 
   -- what the code makes, by cases
-  pub lowest_sum_of_polynomials : (a b w : Pair E) (u v : List E) → Lowest a → Lowest b → length a.1 ≡ 1 → length b.1 ≡ 1 → Is u → IsSum o a.0 b.0 u
+  pub lowest_sum_of_polynomials : (a b w : Pair E) (u v : List E) → Lowest a → Lowest b → length a.1 ≡ 1
+      → length b.1 ≡ 1 → Is u → IsSum o a.0 b.0 u
       → v ≡ o.one ∷ [] → w ≡ (u, v) → IsLowestSum o a b w
   lowest_sum_of_polynomials a b w u v ha hb hl hm hu eu ev e =
       lowest_sum a b w (u, o.one ∷ []) (e ∙ ap (λ y. (u, y)) ev)
       record { lowest = polynomials_lowest a b ha hb hl hm u hu eu; sum = polynomials_sum a b ha hb hl hm u hu eu }
 
-  pub lowest_sum_with_polynomial : (a b w : Pair E) (m u v : List E) → Lowest a → Lowest b → length b.1 ≡ 1 → IsOver o m → IsProduct o b.0 a.1 m
+  pub lowest_sum_with_polynomial : (a b w : Pair E) (m u v : List E) → Lowest a → Lowest b → length b.1 ≡ 1
+      → IsOver o m → IsProduct o b.0 a.1 m
       → Is u → IsSum o a.0 m u → v ≡ a.1 → w ≡ (u, v) → IsLowestSum o a b w
   lowest_sum_with_polynomial a b w m u v ha hb hm om em hu eu ev e =
       lowest_sum a b w (u, a.1) (e ∙ ap (λ y. (u, y)) ev)
-      record { lowest = polynomial_lowest a b ha hb hm m u om em hu eu; sum = polynomial_sum a b ha hb hm m u om em hu eu }
+      record {
+        lowest = polynomial_lowest a b ha hb hm m u om em hu eu;
+        sum =
+            polynomial_sum a b ha hb hm m u om em hu eu;
+      }

@@ -13,4 +13,5 @@ pub record IsCommonDivisor {E : Type 0} (o : Ops E) (a b g : List E) : Type 0 wh
   pub t : List E
   pub s_over : IsOver o s
   pub t_over : IsOver o t
-  pub combination : (k : ℕ) → at o g k ≡ o.add (convolution_of o (at o s) (at o a) k) (convolution_of o (at o t) (at o b) k)
+  pub combination : (k : ℕ)
+      → at o g k ≡ o.add (convolution_of o (at o s) (at o a) k) (convolution_of o (at o t) (at o b) k)

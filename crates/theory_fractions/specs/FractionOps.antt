@@ -1,5 +1,5 @@
--- The fractions in lowest terms of polynomials over a program's field, as a program's field: total functions on pairs of
--- lists of coefficients, with a test of lowest terms.
+-- The fractions in lowest terms of polynomials over a program's field, as a program's field: total functions on pairs
+-- of lists of coefficients, with a test of lowest terms.
 use Rattle.std.specs.Prelude.{◌≡◌, Bool, true, false, not, ◌&&◌, List, [], ◌∷◌, map}
 use Rattle.std.specs.List.{list_all}
 use Rattle.std.proofs.Common.{refl}
@@ -44,7 +44,9 @@ module _ {E : Type 0} (o : Ops E) (L : FieldLaws o) where
   rational_function_if u v false e = let K : FieldOn RationalFunction = rational_functions F in K.zero
 
   unfoldable pub rational_function : Pair E → RationalFunction
-  rational_function w = rational_function_if (polynomial_of w.0) (polynomial_of w.1) (is_lowest F (polynomial_of w.0) (polynomial_of w.1)) refl
+  rational_function w =
+      rational_function_if (polynomial_of w.0) (polynomial_of w.1)
+      (is_lowest F (polynomial_of w.0) (polynomial_of w.1)) refl
 
   -- numerator and denominator
   abbrev pub pair_of : RationalFunction → Pair E

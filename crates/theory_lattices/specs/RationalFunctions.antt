@@ -22,11 +22,13 @@ module _ {k : Type 0} (F : FieldOn k) where
 
   -- x is u / 1 for a polynomial u
   abbrev pub IsPolynomial : Rational → Type 0
-  IsPolynomial x = (u : Poly F.cring) × IsValue (field_polynomials F) (IsLowest F.cring (field_polynomials F)) x u (field_polynomials F).one
+  IsPolynomial x = (u : Poly F.cring)
+      × IsValue (field_polynomials F) (IsLowest F.cring (field_polynomials F)) x u (field_polynomials F).one
 
   -- u / 1
   abbrev pub of_polynomial : Poly F.cring → Rational
-  of_polynomial u = fraction_of (field_polynomials F) (IsLowest F.cring (field_polynomials F)) (polynomial_reduction F) u
+  of_polynomial u = fraction_of (field_polynomials F) (IsLowest F.cring (field_polynomials F))
+      (polynomial_reduction F) u
 
   -- the constant c
   abbrev pub of_constant : k → Rational

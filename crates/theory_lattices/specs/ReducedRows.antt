@@ -54,10 +54,11 @@ module _ {K : Type 0} {R : RingOn K} (W : DegreeOn R) where
 
   -- n rows of which some may be 0, and the leading positions of the others differ
   pub record WeakPopov (n w : ℕ) (rows : ℕ → ℕ → K) : Type 0 where
-    pub differ : (i k : ℕ) → i < n → k < n → (i ≡ k → ⊥) → (a : Lead w (rows i)) (b : Lead w (rows k)) → a.place ≡ b.place → ⊥
+    pub differ : (i k : ℕ) → i < n → k < n → (i ≡ k → ⊥) → (a : Lead w (rows i)) (b : Lead w (rows k))
+        → a.place ≡ b.place → ⊥
 
-  -- the combination leads where the row at `place` does; its degree is the sum of those of the weight and the row there, and
-  -- no other such sum is greater
+  -- the combination leads where the row at `place` does; its degree is the sum of those of the weight and the row
+  -- there, and no other such sum is greater
   pub record Predicted (n w : ℕ) (rows : ℕ → ℕ → K) (red : Reduced n w rows) (c : ℕ → K) : Type 0 where
     pub place : ℕ
     pub within : place < n
@@ -79,7 +80,8 @@ module _ {K : Type 0} {R : RingOn K} (W : DegreeOn R) where
     pub degree : red.degree row ≤ℤ h.degree
 
 -- a map that takes 0 alone to 0, and adds s to each degree
-pub record Shifts {K L : Type 0} {R : RingOn K} {S : RingOn L} (W : DegreeOn R) (X : DegreeOn S) (s : ℤ) (φ : K → L) : Type 0 where
+pub record Shifts {K L : Type 0} {R : RingOn K} {S : RingOn L} (W : DegreeOn R) (X : DegreeOn S) (s : ℤ)
+    (φ : K → L) : Type 0 where
   pub map-zero : φ R.zero ≡ S.zero
   pub map-ne-zero : (a : K) → (a ≡ R.zero → ⊥) → φ a ≡ S.zero → ⊥
   pub map-degree : (a : K) → (a ≡ R.zero → ⊥) → X.deg (φ a) ≡ W.deg a +ℤ s

@@ -33,17 +33,19 @@ pub trait DegreeSpace {
     ghost coords: { Coords space size };
 }
 
-/// Reduced rows over a basis e of an infinite lattice are a common basis of the finite lattice that they span and of the
-/// infinite one, with the opposites of their degrees.
+/// Reduced rows over a basis e of an infinite lattice are a common basis of the finite lattice that they span and of
+/// the infinite one, with the opposites of their degrees.
 pub fn common_basis<S: DegreeSpace>()
     ensures { (e : ℕ → S.Vector) → Independent S.space S.size e → ((x : S.Vector) → InSpan S.space S.size e x)
         → (rows : ℕ → ℕ → S.Scalar) (red : Reduced S.degree S.size S.size rows)
-        → CommonBasis S.field S.degree S.space S.Weight S.size (InFinite S.field S.degree S.space S.Weight S.size (λ i. comb S.space S.size (rows i) e))
-        (InInfinite S.field S.degree S.space S.Weight S.size e) (λ i. comb S.space S.size (rows i) e) (λ i. neg_ℤ (red.degree i)) }
+        → CommonBasis S.field S.degree S.space S.Weight S.size
+        (InFinite S.field S.degree S.space S.Weight S.size (λ i. comb S.space S.size (rows i) e))
+        (InInfinite S.field S.degree S.space S.Weight S.size e) (λ i. comb S.space S.size (rows i) e)
+        (λ i. neg_ℤ (red.degree i)) }
 {}
 
-/// A finite and an infinite lattice with a common basis, where the weights of the finite one are the polynomials over a field of
-/// constants.
+/// A finite and an infinite lattice with a common basis, where the weights of the finite one are the polynomials over a
+/// field of constants.
 pub trait LatticePair {
     ghost Constant: { Type 0 };
 
@@ -80,12 +82,15 @@ pub trait LatticePair {
     ghost basis: { CommonBasis field degree space Weight size Finite Infinite vec degrees };
 }
 
-/// In the intersection the weights by a common basis are the polynomials whose degree is at most that of the basis vector; so the
-/// products of powers up to these degrees with the basis vectors are a basis of it over the constants.
+/// In the intersection the weights by a common basis are the polynomials whose degree is at most that of the basis
+/// vector; so the products of powers up to these degrees with the basis vectors are a basis of it over the constants.
 pub fn intersection<L: LatticePair>()
-    ensures weights { (x : L.Vector) → L.Finite x → L.Infinite x → InBoth L.field L.degree L.space L.Weight L.size L.vec L.degrees x }
-    ensures members { (x : L.Vector) → InBoth L.field L.degree L.space L.Weight L.size L.vec L.degrees x → L.Finite x × L.Infinite x }
-    ensures basis { IntersectionBasis L.field L.degree L.Weight L.constants L.embed L.powers L.space L.size L.vec L.degrees L.Finite L.Infinite }
+    ensures weights { (x : L.Vector) → L.Finite x → L.Infinite x
+        → InBoth L.field L.degree L.space L.Weight L.size L.vec L.degrees x }
+    ensures members { (x : L.Vector) → InBoth L.field L.degree L.space L.Weight L.size L.vec L.degrees x → L.Finite x
+        × L.Infinite x }
+    ensures basis { IntersectionBasis L.field L.degree L.Weight L.constants L.embed L.powers L.space L.size L.vec
+        L.degrees L.Finite L.Infinite }
 {}
 
 /// A bilinear form on a space, and the elements that may be weights of a lattice.
@@ -137,20 +142,23 @@ pub trait IdempotentWithLattice {
     ghost squared: { algebra.◌⊗◌ idempotent idempotent ≡ idempotent };
 }
 
-/// A lattice that is closed under products, holds the idempotent and is all that pairs with it into the weights: so is its part
-/// in the corner of the idempotent, among the elements of the corner.
+/// A lattice that is closed under products, holds the idempotent and is all that pairs with it into the weights: so is
+/// its part in the corner of the idempotent, among the elements of the corner.
 pub fn corner_is_self_dual<E: IdempotentWithLattice>()
     ensures { ((x y : E.Vector) → E.trace (E.algebra.◌⊗◌ x y) ≡ E.trace (E.algebra.◌⊗◌ y x))
         → ((x y : E.Vector) → E.Lattice x → E.Lattice y → E.Lattice (E.algebra.◌⊗◌ x y)) → E.Lattice E.idempotent
         → ((x : E.Vector) → ((y : E.Vector) → E.Lattice y → E.Weight (E.trace (E.algebra.◌⊗◌ y x))) → E.Lattice x)
         → (x : E.Vector) → InCorner E.algebra E.idempotent x
-        → ((y : E.Vector) → InCorner E.algebra E.idempotent y → E.Lattice y → E.Weight (E.trace (E.algebra.◌⊗◌ y x))) → E.Lattice x }
+        → ((y : E.Vector) → InCorner E.algebra E.idempotent y → E.Lattice y → E.Weight (E.trace (E.algebra.◌⊗◌ y x)))
+        → E.Lattice x }
 {}
 
-/// Where one is a sum of products x·e·y and the centre is the scalars, the centre of the corner of e is the multiples of e.
+/// Where one is a sum of products x·e·y and the centre is the scalars, the centre of the corner of e is the multiples
+/// of e.
 pub fn centre_of_corner<E: IdempotentWithLattice>()
     ensures { (r : ℕ) (x y : ℕ → E.Vector)
-        → E.algebra.one ≡ sum E.algebra.monoid r (λ i. E.algebra.◌⊗◌ (E.algebra.◌⊗◌ (x i) E.idempotent) (y i)) → Central E.algebra
+        → E.algebra.one ≡ sum E.algebra.monoid r (λ i. E.algebra.◌⊗◌ (E.algebra.◌⊗◌ (x i) E.idempotent) (y i))
+        → Central E.algebra
         → (c : E.Vector) → InCorner E.algebra E.idempotent c
         → ((a : E.Vector) → InCorner E.algebra E.idempotent a → E.algebra.◌⊗◌ c a ≡ E.algebra.◌⊗◌ a c)
         → (k : E.Scalar) × (c ≡ E.algebra.◌•◌ k E.idempotent) }

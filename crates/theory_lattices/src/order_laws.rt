@@ -11,8 +11,8 @@ ghost use Rattle.theory_lattices.specs.CommonBasis.{CommonBasis};
 ghost use Rattle.theory_lattices.specs.Members.{PolynomialsOf};
 ghost use Rattle.theory_lattices.specs.SelfDual.{ClosedWeights, SelfDualPair, IntegralTrace, Middle, DualVectors};
 
-/// A pair of orders that are their own duals for a trace, with a common basis and its dual vectors, where the weights of the
-/// finite order are the polynomials over a field of constants.
+/// A pair of orders that are their own duals for a trace, with a common basis and its dual vectors, where the weights
+/// of the finite order are the polynomials over a field of constants.
 pub trait OrderPair {
     ghost Constant: { Type 0 };
 
@@ -61,21 +61,24 @@ pub trait OrderPair {
     ghost pairing: { DualVectors field algebra trace size vec dual };
 }
 
-/// Where the trace takes the orders into the weights and into the elements of degree at most 0, the dual vectors are a common basis
-/// too, with the opposite degrees.
+/// Where the trace takes the orders into the weights and into the elements of degree at most 0, the dual vectors are a
+/// common basis too, with the opposite degrees.
 pub fn dual_common_basis<O: OrderPair>()
-    ensures { ClosedWeights O.field O.Weight → IntegralTrace O.field O.degree O.algebra O.Weight O.Finite O.Infinite O.trace
+    ensures { ClosedWeights O.field O.Weight
+        → IntegralTrace O.field O.degree O.algebra O.Weight O.Finite O.Infinite O.trace
         → ((x : O.Vector) → InSpan (module_of O.algebra) O.size O.vec x)
-        → CommonBasis O.field O.degree (module_of O.algebra) O.Weight O.size O.Finite O.Infinite O.dual (λ i. neg_ℤ (O.degrees i)) }
+        → CommonBasis O.field O.degree (module_of O.algebra) O.Weight O.size O.Finite O.Infinite O.dual
+        (λ i. neg_ℤ (O.degrees i)) }
 {}
 
 /// Both orders hold an element that is neither nilpotent nor a unit, or all degrees of the common basis are 0.
 pub fn degree_count<O: OrderPair>()
-    ensures { ((w : O.Vector) × Middle O.field O.degree O.algebra O.Weight O.Finite O.Infinite w) ⊎ ((i : ℕ) → i < O.size → O.degrees i ≡ pos 0) }
+    ensures { ((w : O.Vector) × Middle O.field O.degree O.algebra O.Weight O.Finite O.Infinite w)
+        ⊎ ((i : ℕ) → i < O.size → O.degrees i ≡ pos 0) }
 {}
 
-/// Where the constants are finite, the centre of the algebra is the field and its dimension is 2 to 36, both orders hold an
-/// element that is neither nilpotent nor a unit.
+/// Where the constants are finite, the centre of the algebra is the field and its dimension is 2 to 36, both orders
+/// hold an element that is neither nilpotent nor a unit.
 pub fn middle_element<O: OrderPair>()
     ensures { Enumerated O.Constant → O.Finite O.algebra.one → O.Infinite O.algebra.one
         → ((x : O.Vector) → InSpan (module_of O.algebra) O.size O.vec x) → Central O.algebra → 2 ≤ O.size → O.size ≤ 36

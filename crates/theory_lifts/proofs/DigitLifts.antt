@@ -26,13 +26,13 @@ use Rattle.theory_rings.proofs.FiniteFields.RingByDigits.{elem_lt, lt_elem, digi
 use Rattle.theory_radical.specs.LiftRing.{IsLiftRing}
 use Rattle.theory_radical.specs.LiftLaws.{IsBijective}
 use Rattle.theory_radical.specs.Tower.{TowerElement, TowerMod, double_coefficient}
-use Rattle.theory_radical.proofs.IntegerLifts.{reduce, reduce-residue, integers_lift}
-use Rattle.theory_radical.proofs.LiftRings.{isomorphic_lift_rings}
-use Rattle.theory_radical.proofs.RemainderRings.{Remainder-ext, remainder-coefficient-zero, small_remainder}
-use Rattle.theory_radical.proofs.RemainderRings.{small_remainder-all}
-use Rattle.theory_radical.proofs.RemainderLifts.{IsSection, lift_poly, lift_poly-coefficient, lift_poly-reduces}
-use Rattle.theory_radical.proofs.RemainderLifts.{lift_poly_monic, remainder_down, remainder_down-coefficient}
-use Rattle.theory_radical.proofs.RemainderLifts.{remainders_lift}
+use Rattle.theory_radical.proofs.Lifts.IntegerLifts.{reduce, reduce-residue, integers_lift}
+use Rattle.theory_radical.proofs.Lifts.LiftRings.{isomorphic_lift_rings}
+use Rattle.theory_radical.proofs.Lifts.RemainderRings.{Remainder-ext, remainder-coefficient-zero, small_remainder}
+use Rattle.theory_radical.proofs.Lifts.RemainderRings.{small_remainder-all}
+use Rattle.theory_radical.proofs.Lifts.RemainderLifts.{IsSection, lift_poly, lift_poly-coefficient, lift_poly-reduces}
+use Rattle.theory_radical.proofs.Lifts.RemainderLifts.{lift_poly_monic, remainder_down, remainder_down-coefficient}
+use Rattle.theory_radical.proofs.Lifts.RemainderLifts.{remainders_lift}
 use Rattle.theory_lifts.specs.DigitLift.{HasDigitModuli}
 
 module _ (p : ℕ) (two_le : 2 ≤ p) (m : List ℕ) (d : 1 ≤ length m) (o : Ops ℕ) (D : IsFieldByDigits p m o)

@@ -14,8 +14,8 @@ use Rattle.theory_spaces.specs.Module.{AlgebraOn, module_of}
 use Rattle.theory_spaces.specs.Linear.{Basis}
 use Rattle.theory_radical.specs.LiftRing.{LiftRingOn}
 use Rattle.theory_radical.specs.Tower.{TowerMod}
-use Rattle.theory_radical.proofs.LiftRings.{isomorphic_lift_rings}
-use Rattle.theory_radical.proofs.RemainderLifts.{same_degree}
+use Rattle.theory_radical.proofs.Lifts.LiftRings.{isomorphic_lift_rings}
+use Rattle.theory_radical.proofs.Lifts.RemainderLifts.{same_degree}
 use Rattle.theory_lifts.specs.DigitLift.{LiftList, IsLiftOfLists}
 use Rattle.theory_lifts.specs.RadicalSpan.{RadicalBasis}
 use Rattle.theory_lifts.proofs.DigitLifts.{T, ZT, elem_down, elem_lift, degree-f, g_monic, g_reduces, tower, tower_down}

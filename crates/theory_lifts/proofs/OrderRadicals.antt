@@ -9,7 +9,7 @@ use Rattle.theory_spaces.specs.Module.{AlgebraOn, module_of}
 use Rattle.theory_spaces.specs.Linear.{Basis}
 use Rattle.theory_spaces.specs.Valuation.{ValuationOn}
 use Rattle.theory_orders.specs.Uniformizer.{UniformizerOn}
-use Rattle.theory_orders.proofs.Columns.{Column, columns, column_space}
+use Rattle.theory_orders.proofs.Lattices.Columns.{Column, columns, column_space}
 use Rattle.theory_residue.specs.Residue.{ResidueOn, ResidueAlgebra}
 use Rattle.theory_residue.proofs.Laws.{residue_algebra_exists, ideals_correspond}
 use Rattle.theory_residue.proofs.RadicalLaws.{radical_quotient_exists}

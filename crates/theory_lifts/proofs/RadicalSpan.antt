@@ -10,20 +10,21 @@ use Rattle.theory_rings.specs.Prime.{IsPrime}
 use Rattle.theory_spaces.specs.Module.{ModuleOn, AlgebraOn, module_of}
 use Rattle.theory_spaces.specs.Linear.{comb, InSpan, Basis, BasisOf, Extension, IsLinear, IsSubmodule}
 use Rattle.theory_spaces.specs.Subspaces.{Whole, Kernel}
-use Rattle.theory_spaces.proofs.Families.{push, push-below}
-use Rattle.theory_spaces.proofs.Modules.{comb_congr, comb_congr_right, comb_zero, comb-add, comb-scale, comb-comb}
-use Rattle.theory_spaces.proofs.Modules.{comb-push_zero, span_in}
-use Rattle.theory_spaces.proofs.Dimension.{exchange}
-use Rattle.theory_spaces.proofs.Spaces.{coords_of, extend_basis, Basis-coord}
-use Rattle.theory_spaces.proofs.Subspaces.{BasisOf-iff, whole_basis}
-use Rattle.theory_spaces.proofs.Kernels.{rank_nullity}
+use Rattle.theory_spaces.proofs.Linear.Families.{push, push-below}
+use Rattle.theory_spaces.proofs.Linear.Modules.{comb_congr, comb_congr_right, comb_zero, comb-add, comb-scale}
+use Rattle.theory_spaces.proofs.Linear.Modules.{comb-comb}
+use Rattle.theory_spaces.proofs.Linear.Modules.{comb-push_zero, span_in}
+use Rattle.theory_spaces.proofs.Linear.Dimension.{exchange}
+use Rattle.theory_spaces.proofs.Linear.Spaces.{coords_of, extend_basis, Basis-coord}
+use Rattle.theory_spaces.proofs.Linear.Subspaces.{BasisOf-iff, whole_basis}
+use Rattle.theory_spaces.proofs.Linear.Kernels.{rank_nullity}
 use Rattle.theory_radical.specs.LiftRing.{LiftRingOn, HasRoots}
 use Rattle.theory_radical.specs.Chain.{Chain}
 use Rattle.theory_radical.specs.Functional.{TraceResidue, ResidueOnChain}
-use Rattle.theory_radical.proofs.AlgebraChain.{chain_ideal, in_chain, chain_in, in-scale}
-use Rattle.theory_radical.proofs.TraceResidues.{residue_on_chain}
-use Rattle.theory_radical.proofs.NextIdeal.{iterated_root, power-iterated_root, linear_equations}
-use Rattle.theory_radical.proofs.ChainEnd.{chain_end}
+use Rattle.theory_radical.proofs.Chain.AlgebraChain.{chain_ideal, in_chain, chain_in, in-scale}
+use Rattle.theory_radical.proofs.Chain.TraceResidues.{residue_on_chain}
+use Rattle.theory_radical.proofs.Chain.NextIdeal.{iterated_root, power-iterated_root, linear_equations}
+use Rattle.theory_radical.proofs.Chain.ChainEnd.{chain_end}
 use Rattle.theory_residue.proofs.Laws.{largest_same}
 use Rattle.theory_lifts.specs.RadicalSpan.{RadicalBasis, ChainBases}
 

@@ -20,8 +20,8 @@ use Rattle.theory_rings.proofs.Polynomials.Irreducible.{remainder_field}
 use Rattle.theory_rings.proofs.FiniteFields.FiniteFields.{root_by_power}
 use Rattle.theory_rings.proofs.FiniteFields.ElementsByDigits.{enumerated_by_digits, size-by_digits}
 use Rattle.theory_radical.specs.LiftRing.{HasRoots}
-use Rattle.theory_radical.proofs.TowerFields.{remainder_numbers, size-remainder_numbers, dvd-pow}
-use Rattle.theory_radical.proofs.RemainderLifts.{degree-pos_of_nontrivial}
+use Rattle.theory_radical.proofs.Lifts.TowerFields.{remainder_numbers, size-remainder_numbers, dvd-pow}
+use Rattle.theory_radical.proofs.Lifts.RemainderLifts.{degree-pos_of_nontrivial}
 
 -- a power of a power
 pub pow_of_pow : (a d e : ℕ) → (a ^ d) ^ e ≡ a ^ (d * e)

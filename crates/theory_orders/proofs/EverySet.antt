@@ -6,22 +6,23 @@ use Rattle.theory_rings.specs.Ring.{FieldOn}
 use Rattle.theory_spaces.specs.Module.{ModuleOn, AlgebraOn, module_of}
 use Rattle.theory_spaces.specs.Linear.{Basis, Coords, IsSubmodule}
 use Rattle.theory_spaces.specs.Valuation.{ValuationOn, integers, restrict}
-use Rattle.theory_spaces.proofs.Modules.{InSpan-scale, span_in}
-use Rattle.theory_spaces.proofs.Spaces.{coords_of}
+use Rattle.theory_spaces.proofs.Linear.Modules.{InSpan-scale, span_in}
+use Rattle.theory_spaces.proofs.Linear.Spaces.{coords_of}
 use Rattle.theory_orders.specs.Uniformizer.{UniformizerOn}
 use Rattle.theory_orders.specs.Orders.{IsOrder, IsIdeal, Around, Generated, Multiple, Power, Radical}
 use Rattle.theory_orders.specs.Orders.{Within, Same, Test}
 use Rattle.theory_orders.specs.Lattices.{Lattice, IsOrderAt}
 use Rattle.theory_orders.specs.MaximalIdealLaws.{RadicalHolds, SimpleHolds, OnlyHolds}
-use Rattle.theory_orders.proofs.Ideals.{ideal_same, whole, generated_in}
-use Rattle.theory_orders.proofs.LeftOrders.{Power_map}
-use Rattle.theory_orders.proofs.Multiples.{Multiple-ideal}
-use Rattle.theory_orders.proofs.Scaling.{Lam_scale}
-use Rattle.theory_orders.proofs.LatticeTests.{lattice_test, lattice_test-in, in-lattice_test}
-use Rattle.theory_orders.proofs.SimpleQuotients.{simple_by_elements, one_or_within, size, vec, each, J_Gen, T_Gen}
-use Rattle.theory_orders.proofs.SimpleQuotients.{Gen_ideal}
-use Rattle.theory_orders.proofs.Composition.{multiple_same}
-use Rattle.theory_orders.proofs.OnlyMaximal.{not_one, within_maximal}
+use Rattle.theory_orders.proofs.Ideals.Ideals.{ideal_same, whole, generated_in}
+use Rattle.theory_orders.proofs.LeftOrder.LeftOrders.{Power_map}
+use Rattle.theory_orders.proofs.Lattices.Multiples.{Multiple-ideal}
+use Rattle.theory_orders.proofs.Lattices.Scaling.{Lam_scale}
+use Rattle.theory_orders.proofs.Lattices.LatticeTests.{lattice_test, lattice_test-in, in-lattice_test}
+use Rattle.theory_orders.proofs.Ideals.SimpleQuotients.{simple_by_elements, one_or_within, size, vec, each, J_Gen}
+use Rattle.theory_orders.proofs.Ideals.SimpleQuotients.{T_Gen}
+use Rattle.theory_orders.proofs.Ideals.SimpleQuotients.{Gen_ideal}
+use Rattle.theory_orders.proofs.Splitting.Composition.{multiple_same}
+use Rattle.theory_orders.proofs.Ideals.OnlyMaximal.{not_one, within_maximal}
 
 module _ {K V : Type 0} (F : FieldOn K) (Z : ValuationOn F) (p q : K) (U : UniformizerOn F Z p q)
     (A : AlgebraOn F.ring V) (N : ℕ) (B : Basis (module_of A) N) where
@@ -121,7 +122,8 @@ module _ {K V : Type 0} (F : FieldOn K) (Z : ValuationOn F) (p q : K) (U : Unifo
       let S = simple_by_elements F Z A N C N v m w D.order H.maximal.ideal H.maximal.simple in
       let inside : Within (T i) J = λ x h. ⊎_elim (λ j. j)
       (λ (one : T i A.one). absurd (not_one F Z p q U A N B v D (T i) t one))
-      (one_or_within A L J D.order S p H.maximal.ideal H.maximal.over H.exponent H.power.0 (T i) t.ideal t.over x h) in (
+      (one_or_within A L J D.order S p H.maximal.ideal H.maximal.over H.exponent H.power.0
+      (T i) t.ideal t.over x h) in (
         inside,
         within_maximal F Z p q U A N B v D (T i) t m w H.maximal.ideal
             (not_one F Z p q U A N B v D J H.maximal) inside,

@@ -12,21 +12,22 @@ use Rattle.theory_rings.proofs.Rings.Semirings.{semiring, mul_left_comm}
 use Rattle.theory_spaces.specs.Module.{ModuleOn, AlgebraOn, module_of}
 use Rattle.theory_spaces.specs.Linear.{InSpan, Independent, IsLinear, IsSubmodule, Basis, Coords}
 use Rattle.theory_spaces.specs.Valuation.{ValuationOn, integers, restrict, LatticeBasis}
-use Rattle.theory_spaces.proofs.Families.{join, each_join, below_suc}
-use Rattle.theory_spaces.proofs.Modules.{scale-neg, map-comb, InSpan-zero, InSpan-add, InSpan-neg, InSpan-scale}
-use Rattle.theory_spaces.proofs.Modules.{InSpan-member, InSpan_trans, InSpan-join_left, InSpan-join_right, span_in}
-use Rattle.theory_spaces.proofs.Spaces.{basis_of, coords_of}
-use Rattle.theory_spaces.proofs.Dimension.{dimension_unique}
-use Rattle.theory_spaces.proofs.Lattices.{lattice_basis}
-use Rattle.theory_spaces.proofs.PairIndex.{pair-lt, row-lt, column-lt}
+use Rattle.theory_spaces.proofs.Linear.Families.{join, each_join, below_suc}
+use Rattle.theory_spaces.proofs.Linear.Modules.{scale-neg, map-comb, InSpan-zero, InSpan-add, InSpan-neg, InSpan-scale}
+use Rattle.theory_spaces.proofs.Linear.Modules.{InSpan-member, InSpan_trans, InSpan-join_left, InSpan-join_right}
+use Rattle.theory_spaces.proofs.Linear.Modules.{span_in}
+use Rattle.theory_spaces.proofs.Linear.Spaces.{basis_of, coords_of}
+use Rattle.theory_spaces.proofs.Linear.Dimension.{dimension_unique}
+use Rattle.theory_spaces.proofs.Linear.Lattices.{lattice_basis}
+use Rattle.theory_spaces.proofs.Matrices.PairIndex.{pair-lt, row-lt, column-lt}
 use Rattle.theory_orders.specs.Uniformizer.{IsIntegral, IsUnit, UniformizerOn}
 use Rattle.theory_orders.specs.Orders.{IsIdeal, Multiple, LeftOrder, Within, Same}
 use Rattle.theory_orders.specs.Lattices.{Lattice, IsOrderAt}
-use Rattle.theory_orders.proofs.LatticeTests.{all_or_not, over_field, over_integers, integral_weights}
-use Rattle.theory_orders.proofs.SimpleQuotients.{mul_lattice}
-use Rattle.theory_orders.proofs.Ramified.{spanning}
-use Rattle.theory_orders.proofs.LeftOrders.{left_order_is_order, in_left_order, left_order_bounded}
-use Rattle.theory_orders.proofs.LeftOrderLattice.{order_same}
+use Rattle.theory_orders.proofs.Lattices.LatticeTests.{all_or_not, over_field, over_integers, integral_weights}
+use Rattle.theory_orders.proofs.Ideals.SimpleQuotients.{mul_lattice}
+use Rattle.theory_orders.proofs.Splitting.Ramified.{spanning}
+use Rattle.theory_orders.proofs.LeftOrder.LeftOrders.{left_order_is_order, in_left_order, left_order_bounded}
+use Rattle.theory_orders.proofs.LeftOrder.LeftOrderLattice.{order_same}
 
 module _ {K V : Type 0} (F : FieldOn K) (Z : ValuationOn F) (p q : K) (U : UniformizerOn F Z p q)
     (M : ModuleOn F.ring V) where
@@ -334,7 +335,11 @@ module _ {K V : Type 0} (F : FieldOn K) (Z : ValuationOn F) (p q : K) (U : Unifo
   LB = lattice_basis F Z MA n C size vec
 
   basis_same : Same (Lattice F Z A size vec) (Lattice F Z A LB.rank LB.vec)
-  basis_same = (λ x. InSpan_trans RA size LB.rank vec LB.vec x LB.spans, λ x. InSpan_trans RA LB.rank size LB.vec vec x LB.within)
+  basis_same = (
+    λ x. InSpan_trans RA size LB.rank vec LB.vec x LB.spans,
+    λ x.
+        InSpan_trans RA LB.rank size LB.vec vec x LB.within,
+  )
 
   rank-is : LB.rank ≡ n
   rank-is = dimension_unique F MA LB.rank n (basis_of MA LB.rank LB.vec LB.independent (spans_all LB.rank LB.vec (λ i l.

@@ -12,16 +12,16 @@ use Rattle.theory_spaces.specs.Module.{ModuleOn, AlgebraOn, module_of}
 use Rattle.theory_spaces.specs.Linear.{comb, Basis}
 use Rattle.theory_spaces.specs.Algebra.{Central}
 use Rattle.theory_spaces.specs.Valuation.{ValuationOn}
-use Rattle.theory_spaces.proofs.SpanTests.{some_or_all}
-use Rattle.theory_spaces.proofs.Modules.{comb_zero, comb-scale}
+use Rattle.theory_spaces.proofs.Linear.SpanTests.{some_or_all}
+use Rattle.theory_spaces.proofs.Linear.Modules.{comb_zero, comb-scale}
 use Rattle.theory_orders.specs.Uniformizer.{IsIntegral, UniformizerOn}
 use Rattle.theory_orders.specs.Orders.{Multiple}
 use Rattle.theory_orders.specs.Lattices.{Lattice, IsOrderAt}
 use Rattle.theory_orders.specs.MaximalIdealLaws.{SomeIsOnly, RadicalIsTheOnly, NothingGrowsByList}
-use Rattle.theory_orders.proofs.Multiples.{of-Multiple}
-use Rattle.theory_orders.proofs.LatticeTests.{integral_weights}
-use Rattle.theory_orders.proofs.LeftOrders.{Power_one}
-use Rattle.theory_orders.proofs.OnlyMaximal.{some_power, only_of, radical_is_one}
+use Rattle.theory_orders.proofs.Lattices.Multiples.{of-Multiple}
+use Rattle.theory_orders.proofs.Lattices.LatticeTests.{integral_weights}
+use Rattle.theory_orders.proofs.LeftOrder.LeftOrders.{Power_one}
+use Rattle.theory_orders.proofs.Ideals.OnlyMaximal.{some_power, only_of, radical_is_one}
 
 module _ {K V : Type 0} (F : FieldOn K) (Z : ValuationOn F) (p q : K) (U : UniformizerOn F Z p q)
     (A : AlgebraOn F.ring V) (N : ℕ) (os : ℕ → V) (D : IsOrderAt F Z A N os) where

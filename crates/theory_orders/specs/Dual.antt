@@ -10,7 +10,8 @@ use Rattle.theory_spaces.specs.Valuation.{ValuationOn}
 use Rattle.theory_orders.specs.Uniformizer.{IsIntegral}
 use Rattle.theory_orders.specs.Orders.{Same}
 
-module _ {K V : Type 0} (F : FieldOn K) (Z : ValuationOn F) (A : AlgebraOn F.ring V) (n : ℕ) (B : Basis (module_of A) n) where
+module _ {K V : Type 0} (F : FieldOn K) (Z : ValuationOn F) (A : AlgebraOn F.ring V) (n : ℕ)
+    (B : Basis (module_of A) n) where
   -- the elements whose products with L have integral traces
   abbrev pub Dual : (V → Type 0) → V → Type 0
   Dual L x = (y : V) → L y → IsIntegral F Z (trace A n B (A.◌⊗◌ x y))
@@ -22,4 +23,5 @@ module _ {K V : Type 0} (F : FieldOn K) (Z : ValuationOn F) (A : AlgebraOn F.rin
   pub record IsUnimodular (v : ℕ → V) : Type 0 where
     pub inverse : Matrix K
     pub integral : (i j : ℕ) → i < n → j < n → IsIntegral F Z (inverse i j)
-    pub inverts : (i j : ℕ) → i < n → j < n → mat_mul F.ring n (gram (module_of A) (trace_form A n B) v) inverse i j ≡ delta F.ring i j
+    pub inverts : (i j : ℕ) → i < n → j < n
+        → mat_mul F.ring n (gram (module_of A) (trace_form A n B) v) inverse i j ≡ delta F.ring i j

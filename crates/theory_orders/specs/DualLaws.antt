@@ -11,7 +11,8 @@ use Rattle.theory_orders.specs.Lattices.{Lattice, IsOrderAt, LatticeChain, Nothi
 use Rattle.theory_orders.specs.Dual.{Dual, IsSelfDual, IsUnimodular}
 use Rattle.theory_orders.specs.Ramified.{IsRamified}
 
-module _ {K V : Type 0} (F : FieldOn K) (Z : ValuationOn F) (A : AlgebraOn F.ring V) (n : ℕ) (B : Basis (module_of A) n) where
+module _ {K V : Type 0} (F : FieldOn K) (Z : ValuationOn F) (A : AlgebraOn F.ring V) (n : ℕ)
+    (B : Basis (module_of A) n) where
   -- the number n as a scalar is a unit of the valuation ring
   abbrev pub DimensionIsUnit : Type 0
   DimensionIsUnit = IsUnit F Z (times F.monoid n F.one)
@@ -22,16 +23,19 @@ module _ {K V : Type 0} (F : FieldOn K) (Z : ValuationOn F) (A : AlgebraOn F.rin
 
   -- the dual of the dual of a lattice of full rank is the lattice
   abbrev pub DoubleDual : Type 0
-  DoubleDual = (v : ℕ → V) → Independent (module_of A) n v → Same (Dual F Z A n B (Dual F Z A n B (Lattice F Z A n v))) (Lattice F Z A n v)
+  DoubleDual = (v : ℕ → V) → Independent (module_of A) n v
+      → Same (Dual F Z A n B (Dual F Z A n B (Lattice F Z A n v))) (Lattice F Z A n v)
 
   -- a larger lattice has a smaller dual
   abbrev pub DualShrinks : Type 0
   DualShrinks = (v w : ℕ → V) → Independent (module_of A) n v → Independent (module_of A) n w
-      → ProperlyWithin (Lattice F Z A n v) (Lattice F Z A n w) → ProperlyWithin (Dual F Z A n B (Lattice F Z A n w)) (Dual F Z A n B (Lattice F Z A n v))
+      → ProperlyWithin (Lattice F Z A n v) (Lattice F Z A n w)
+      → ProperlyWithin (Dual F Z A n B (Lattice F Z A n w)) (Dual F Z A n B (Lattice F Z A n v))
 
   -- the length of the dual over the order is less by at least two for a larger order
   abbrev pub GrowthByTwo : Type 0
-  GrowthByTwo = (v w : ℕ → V) → IsOrderAt F Z A n v → IsOrderAt F Z A n w → ProperlyWithin (Lattice F Z A n v) (Lattice F Z A n w)
+  GrowthByTwo = (v w : ℕ → V) → IsOrderAt F Z A n v → IsOrderAt F Z A n w
+      → ProperlyWithin (Lattice F Z A n v) (Lattice F Z A n w)
       → (k : ℕ) → LatticeChain F Z A k (Lattice F Z A n w) (Dual F Z A n B (Lattice F Z A n w))
       → LatticeChain F Z A (suc (suc k)) (Lattice F Z A n v) (Dual F Z A n B (Lattice F Z A n v))
 
@@ -42,15 +46,18 @@ module _ {K V : Type 0} (F : FieldOn K) (Z : ValuationOn F) (A : AlgebraOn F.rin
 
   -- an order with a unimodular trace form is its dual
   abbrev pub UnimodularSelfDual : Type 0
-  UnimodularSelfDual = (v : ℕ → V) → IsOrderAt F Z A n v → IsUnimodular F Z A n B v → IsSelfDual F Z A n B (Lattice F Z A n v)
+  UnimodularSelfDual = (v : ℕ → V) → IsOrderAt F Z A n v → IsUnimodular F Z A n B v
+      → IsSelfDual F Z A n B (Lattice F Z A n v)
 
   -- an order L for which L/p·L is simple is its dual
   abbrev pub SimpleSelfDual : K → Type 0
   SimpleSelfDual p = (v : ℕ → V) → IsOrderAt F Z A n v
-      → SimpleQuotient A (Lattice F Z A n v) (Multiple A p (Lattice F Z A n v)) → IsSelfDual F Z A n B (Lattice F Z A n v)
+      → SimpleQuotient A (Lattice F Z A n v) (Multiple A p (Lattice F Z A n v))
+      → IsSelfDual F Z A n B (Lattice F Z A n v)
 
   -- where no left order is larger, an order is its dual, or it is ramified with its radical
   abbrev pub SelfDualOrRamified : K → Type 0
   SelfDualOrRamified p = (v : ℕ → V) → IsOrderAt F Z A n v → NothingGrows F Z A p (Lattice F Z A n v)
-      → (w : ℕ → V) → Independent (module_of A) n w → Radical A p (Lattice F Z A n v) (Lattice F Z A n w) → (Lattice F Z A n w A.one → ⊥)
+      → (w : ℕ → V) → Independent (module_of A) n w → Radical A p (Lattice F Z A n v) (Lattice F Z A n w)
+      → (Lattice F Z A n w A.one → ⊥)
       → IsSelfDual F Z A n B (Lattice F Z A n v) ⊎ IsRamified F Z p A n v w

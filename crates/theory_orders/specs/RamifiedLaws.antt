@@ -25,4 +25,5 @@ module _ {K V : Type 0} (F : FieldOn K) (Z : ValuationOn F) (p : K) (A : Algebra
 
   -- the radical of a ramified place is the only maximal ideal
   abbrev pub RamifiedRadicalIsOnly : Type 0
-  RamifiedRadicalIsOnly = (v w : ℕ → V) → IsRamified F Z p A n v w → OnlyMaximalIdeal A p (Lattice F Z A n v) (Lattice F Z A n w)
+  RamifiedRadicalIsOnly = (v w : ℕ → V) → IsRamified F Z p A n v w
+      → OnlyMaximalIdeal A p (Lattice F Z A n v) (Lattice F Z A n w)

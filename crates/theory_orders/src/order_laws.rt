@@ -7,7 +7,8 @@ ghost use Rattle.theory_spaces.specs.Algebra.{Nondegenerate};
 ghost use Rattle.theory_spaces.specs.Valuation.{ValuationOn};
 ghost use Rattle.theory_orders.specs.Uniformizer.{UniformizerOn};
 ghost use Rattle.theory_orders.specs.Orders.{IsOrder, IsIdeal, Products, Power, Multiple, LeftOrder, Within};
-ghost use Rattle.theory_orders.specs.OrderLaws.{SimpleToElements, SimpleToTests, RadicalOfSimple, LeftOrderOver, LeftOrderAt};
+ghost use Rattle.theory_orders.specs.OrderLaws.{SimpleToElements, SimpleToTests, RadicalOfSimple, LeftOrderOver};
+ghost use Rattle.theory_orders.specs.OrderLaws.{LeftOrderAt};
 
 /// Two ideals of an order.
 pub trait TwoIdeals {
@@ -69,8 +70,8 @@ pub trait PlacedAlgebra {
     ghost basis: { Basis (module_of algebra) dimension };
 }
 
-/// The quotient of an order by an ideal is simple by tests just where it is simple by elements, for lattices; and an ideal
-/// over p·Λ with a power in p·Λ and a simple quotient is the radical.
+/// The quotient of an order by an ideal is simple by tests just where it is simple by elements, for lattices; and an
+/// ideal over p·Λ with a power in p·Λ and a simple quotient is the radical.
 pub fn radical_tests_and_elements<A: PlacedAlgebra>()
     ensures to_elements { SimpleToElements A.field A.valuation A.algebra }
     ensures to_tests { SimpleToTests A.field A.valuation A.algebra }

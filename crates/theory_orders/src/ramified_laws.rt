@@ -7,7 +7,8 @@ ghost use Rattle.theory_spaces.specs.Module.{AlgebraOn};
 ghost use Rattle.theory_spaces.specs.Valuation.{ValuationOn};
 ghost use Rattle.theory_orders.specs.Uniformizer.{IsIntegral, UniformizerOn};
 ghost use Rattle.theory_orders.specs.Ramified.{IsRamified};
-ghost use Rattle.theory_orders.specs.RamifiedLaws.{RamifiedExcludesIsomorphism, RamifiedOrderIsMaximal, RamifiedRadicalIsOnly};
+ghost use Rattle.theory_orders.specs.RamifiedLaws.{RamifiedExcludesIsomorphism, RamifiedOrderIsMaximal};
+ghost use Rattle.theory_orders.specs.RamifiedLaws.{RamifiedRadicalIsOnly};
 
 use crate::order_laws::PlacedAlgebra;
 
@@ -62,6 +63,7 @@ pub trait Place {
 
 /// There are ramified places: in the field with a square root of p, the integral pairs and the multiples of the root.
 pub fn ramified_place_exists<P: Place>()
-    ensures { (A : AlgebraOn P.field.ring (P.Scalar × P.Scalar)) × (v : ℕ → P.Scalar × P.Scalar) × (w : ℕ → P.Scalar × P.Scalar)
+    ensures { (A : AlgebraOn P.field.ring (P.Scalar × P.Scalar)) × (v : ℕ → P.Scalar × P.Scalar)
+        × (w : ℕ → P.Scalar × P.Scalar)
         × IsRamified P.field P.valuation P.p A 2 v w }
 {}

@@ -7,8 +7,8 @@ use Rattle.theory_rings.proofs.Rings.RingLaws.{mul-zero, zero-mul, mul-neg, neg-
 use Rattle.theory_spaces.specs.Module.{ModuleOn, AlgebraOn, module_of}
 use Rattle.theory_spaces.specs.Linear.{InSpan, IsLinear, Basis, Coords}
 use Rattle.theory_spaces.specs.Algebra.{InCorner}
-use Rattle.theory_spaces.proofs.Modules.{comb_zero, map-comb}
-use Rattle.theory_spaces.proofs.Spaces.{basis_of, span_basis}
+use Rattle.theory_spaces.proofs.Linear.Modules.{comb_zero, map-comb}
+use Rattle.theory_spaces.proofs.Linear.Spaces.{basis_of, span_basis}
 use Rattle.theory_pairs.specs.Corner.{Corner, IsCorner}
 
 -- what stands between e is in the corner

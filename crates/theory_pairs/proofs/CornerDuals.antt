@@ -5,7 +5,7 @@ use Rattle.theory_rings.specs.Ring.{RingOn, FieldOn}
 use Rattle.theory_rings.specs.Power.{power}
 use Rattle.theory_spaces.specs.Module.{AlgebraOn}
 use Rattle.theory_spaces.specs.Algebra.{InCorner, IsNilpotent}
-use Rattle.theory_spaces.proofs.Corners.{corner_dual}
+use Rattle.theory_spaces.proofs.Algebras.Corners.{corner_dual}
 use Rattle.theory_orders.specs.Orders.{Same}
 use Rattle.theory_lattices.specs.Degree.{DegreeOn, DegreeBelow}
 use Rattle.theory_lattices.specs.SelfDual.{SelfDualPair}

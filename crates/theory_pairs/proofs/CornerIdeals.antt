@@ -9,12 +9,12 @@ use Rattle.theory_spaces.specs.Module.{ModuleOn, AlgebraOn, module_of}
 use Rattle.theory_spaces.specs.Linear.{InSpan, Basis}
 use Rattle.theory_spaces.specs.Subspaces.{Whole}
 use Rattle.theory_spaces.specs.Algebra.{InCorner, IdealSpan, Central, CentralSimple}
-use Rattle.theory_spaces.proofs.Families.{below_suc}
-use Rattle.theory_spaces.proofs.Modules.{InSpan-member}
-use Rattle.theory_spaces.proofs.Corners.{corner_centre}
-use Rattle.theory_spaces.proofs.MinimalIdempotents.{one_through}
+use Rattle.theory_spaces.proofs.Linear.Families.{below_suc}
+use Rattle.theory_spaces.proofs.Linear.Modules.{InSpan-member}
+use Rattle.theory_spaces.proofs.Algebras.Corners.{corner_centre}
+use Rattle.theory_spaces.proofs.Algebras.MinimalIdempotents.{one_through}
 use Rattle.theory_orders.specs.Orders.{IsIdeal, Within}
-use Rattle.theory_blocks.proofs.Decisions.{vector_eq_zero_or}
+use Rattle.theory_blocks.proofs.Families.Decisions.{vector_eq_zero_or}
 use Rattle.theory_pairs.specs.Corner.{IsCorner, Between, IdealOf}
 use Rattle.theory_pairs.proofs.CornerAlgebras.{between_corner, ι-zero, pull, ι-pull}
 

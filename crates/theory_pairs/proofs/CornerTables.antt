@@ -7,15 +7,17 @@ use Rattle.theory_spaces.specs.Module.{ModuleOn, AlgebraOn, module_of}
 use Rattle.theory_spaces.specs.Linear.{comb, InSpan, Basis, BasisOf, IsLinear}
 use Rattle.theory_spaces.specs.Space.{SpaceOn, ProductOn}
 use Rattle.theory_spaces.specs.Algebra.{InCorner}
-use Rattle.theory_spaces.proofs.Modules.{comb_congr, comb_congr_right, comb-add, comb-scale, comb_injective, map-comb}
+use Rattle.theory_spaces.proofs.Linear.Modules.{comb_congr, comb_congr_right, comb-add, comb-scale, comb_injective}
+use Rattle.theory_spaces.proofs.Linear.Modules.{map-comb}
 use Rattle.theory_spaces.specs.Matrix.{delta}
-use Rattle.theory_spaces.proofs.Matrices.{delta_comm}
-use Rattle.theory_spaces.proofs.Modules.{left_linear, right_linear, linear_comp, linear_ext}
-use Rattle.theory_spaces.proofs.Spaces.{coords_of, span_basis}
-use Rattle.theory_spaces.proofs.Tables.{unit, space_expand, table_on, coord-table_mul, coord-unit_mul, product_left}
-use Rattle.theory_spaces.proofs.Tables.{product_right}
-use Rattle.theory_spaces.proofs.Tables.{algebra_of, coord-unit}
-use Rattle.theory_spaces.proofs.IndependentVectors.{comb-delta}
+use Rattle.theory_spaces.proofs.Matrices.Matrices.{delta_comm}
+use Rattle.theory_spaces.proofs.Linear.Modules.{left_linear, right_linear, linear_comp, linear_ext}
+use Rattle.theory_spaces.proofs.Linear.Spaces.{coords_of, span_basis}
+use Rattle.theory_spaces.proofs.Tuples.Tables.{unit, space_expand, table_on, coord-table_mul, coord-unit_mul}
+use Rattle.theory_spaces.proofs.Tuples.Tables.{product_left}
+use Rattle.theory_spaces.proofs.Tuples.Tables.{product_right}
+use Rattle.theory_spaces.proofs.Tuples.Tables.{algebra_of, coord-unit}
+use Rattle.theory_spaces.proofs.Linear.IndependentVectors.{comb-delta}
 use Rattle.theory_pairs.specs.Corner.{CornerConstants, CornerTable}
 use Rattle.theory_pairs.proofs.CornerAlgebras.{between, between_corner}
 

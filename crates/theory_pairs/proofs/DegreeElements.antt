@@ -6,17 +6,18 @@ use Rattle.std.proofs.lemmas.Bool.{cases_lt}
 use Rattle.theory_rings.specs.Ring.{FieldOn}
 use Rattle.theory_rings.specs.Homomorphism.{IsRingHom}
 use Rattle.theory_spaces.specs.Module.{AlgebraOn, module_of}
-use Rattle.theory_spaces.proofs.Families.{below_suc}
+use Rattle.theory_spaces.proofs.Linear.Families.{below_suc}
 use Rattle.theory_lattices.specs.Degree.{DegreeOn, DegreeBelow}
 use Rattle.theory_lattices.specs.CommonBasis.{CommonBasis}
 use Rattle.theory_lattices.specs.Members.{PolynomialsOf}
 use Rattle.theory_lattices.specs.SelfDual.{PowersOf, SelfDualPair, DualVectors}
-use Rattle.theory_lattices.proofs.DualCoordinates.{trace-zero, dual_one}
-use Rattle.theory_lattices.proofs.Degrees.{cases_int}
-use Rattle.theory_lattices.proofs.PowersOfDegreeOne.{powers, at}
-use Rattle.theory_lattices.proofs.DegreeCount.{Reaches, reaches-mul, vanishes, basis_reaches, dual_reaches, middle}
-use Rattle.theory_lattices.proofs.DegreeCount.{no_right_inverse}
-use Rattle.theory_lattices.proofs.MiddleElements.{low_poly, const_poly}
+use Rattle.theory_lattices.proofs.Duals.DualCoordinates.{trace-zero, dual_one}
+use Rattle.theory_lattices.proofs.Degree.Degrees.{cases_int}
+use Rattle.theory_lattices.proofs.Degree.PowersOfDegreeOne.{powers, at}
+use Rattle.theory_lattices.proofs.Duals.DegreeCount.{Reaches, reaches-mul, vanishes, basis_reaches, dual_reaches}
+use Rattle.theory_lattices.proofs.Duals.DegreeCount.{middle}
+use Rattle.theory_lattices.proofs.Duals.DegreeCount.{no_right_inverse}
+use Rattle.theory_lattices.proofs.Duals.MiddleElements.{low_poly, const_poly}
 use Rattle.theory_pairs.specs.DegreeElement.{FirstGreatest, DegreeElement}
 
 -- the first of the greatest

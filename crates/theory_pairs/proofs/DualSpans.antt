@@ -9,18 +9,18 @@ use Rattle.theory_spaces.specs.Linear.{comb, Basis}
 use Rattle.theory_spaces.specs.Matrix.{Matrix, delta}
 use Rattle.theory_spaces.specs.Form.{IsBilinear, IsNondegenerate, DualBasis, gram, transpose, flip}
 use Rattle.theory_spaces.specs.Valuation.{ValuationOn}
-use Rattle.theory_spaces.proofs.Matrices.{delta_comm}
-use Rattle.theory_spaces.proofs.Modules.{comb_injective}
-use Rattle.theory_spaces.proofs.Forms.{form-comb_left, form-comb_right, flip_bilinear, flip_nondegenerate}
-use Rattle.theory_spaces.proofs.Forms.{flip_nondegenerate_of_dual, left_dual_basis, dual_basis, dual-expand}
-use Rattle.theory_spaces.proofs.Forms.{gram_mul-gram_dual}
+use Rattle.theory_spaces.proofs.Matrices.Matrices.{delta_comm}
+use Rattle.theory_spaces.proofs.Linear.Modules.{comb_injective}
+use Rattle.theory_spaces.proofs.Forms.Forms.{form-comb_left, form-comb_right, flip_bilinear, flip_nondegenerate}
+use Rattle.theory_spaces.proofs.Forms.Forms.{flip_nondegenerate_of_dual, left_dual_basis, dual_basis, dual-expand}
+use Rattle.theory_spaces.proofs.Forms.Forms.{gram_mul-gram_dual}
 use Rattle.theory_orders.specs.Uniformizer.{IsIntegral}
 use Rattle.theory_orders.specs.Orders.{Same}
 use Rattle.theory_orders.specs.Lattices.{Lattice}
-use Rattle.theory_orders.proofs.LatticeTests.{over_integers}
+use Rattle.theory_orders.proofs.Lattices.LatticeTests.{over_integers}
 use Rattle.theory_lattices.specs.CommonBasis.{InSpanWith}
 use Rattle.theory_pairs.specs.Subring.{IsSubring}
-use Rattle.theory_lattices.proofs.DualLattices.{weights_are}
+use Rattle.theory_lattices.proofs.Duals.DualLattices.{weights_are}
 use Rattle.theory_pairs.specs.OwnDual.{DualOf, IsOwnDual, EntriesIn, InvertsGram}
 use Rattle.theory_pairs.proofs.Spans.{sum_in, span-comb, span-member}
 

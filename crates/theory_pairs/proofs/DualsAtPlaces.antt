@@ -7,7 +7,7 @@ use Rattle.theory_spaces.specs.Linear.{Basis}
 use Rattle.theory_spaces.specs.Matrix.{Matrix}
 use Rattle.theory_spaces.specs.Form.{IsBilinear, DualBasis, gram, trace_form}
 use Rattle.theory_spaces.specs.Valuation.{ValuationOn}
-use Rattle.theory_spaces.proofs.TraceForms.{trace_form_bilinear, trace_form_symmetric}
+use Rattle.theory_spaces.proofs.Forms.TraceForms.{trace_form_bilinear, trace_form_symmetric}
 use Rattle.theory_orders.specs.Uniformizer.{IsIntegral}
 use Rattle.theory_orders.specs.Orders.{Same}
 use Rattle.theory_orders.specs.Lattices.{Lattice}

@@ -6,8 +6,8 @@ use Rattle.theory_rings.specs.Ring.{FieldOn}
 use Rattle.theory_rings.proofs.Sums.Sums.{sum_congr}
 use Rattle.theory_spaces.specs.Module.{ModuleOn, AlgebraOn, module_of}
 use Rattle.theory_spaces.specs.Linear.{comb}
-use Rattle.theory_spaces.proofs.Families.{push, push-below, push-at}
-use Rattle.theory_spaces.proofs.Modules.{comb-scale}
+use Rattle.theory_spaces.proofs.Linear.Families.{push, push-below, push-at}
+use Rattle.theory_spaces.proofs.Linear.Modules.{comb-scale}
 use Rattle.theory_orders.specs.Orders.{IsOrder}
 use Rattle.theory_lattices.specs.CommonBasis.{InSpanWith}
 use Rattle.theory_pairs.specs.Subring.{IsSubring}

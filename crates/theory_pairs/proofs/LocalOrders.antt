@@ -8,8 +8,8 @@ use Rattle.theory_spaces.specs.Valuation.{ValuationOn}
 use Rattle.theory_orders.specs.Uniformizer.{IsIntegral}
 use Rattle.theory_orders.specs.Orders.{IsOrder, Same}
 use Rattle.theory_orders.specs.Lattices.{Lattice, IsOrderAt}
-use Rattle.theory_orders.proofs.LatticeTests.{over_integers, integral_weights}
-use Rattle.theory_orders.proofs.LeftOrderLattice.{order_same}
+use Rattle.theory_orders.proofs.Lattices.LatticeTests.{over_integers, integral_weights}
+use Rattle.theory_orders.proofs.LeftOrder.LeftOrderLattice.{order_same}
 use Rattle.theory_lattices.specs.CommonBasis.{InSpanWith}
 use Rattle.theory_pairs.specs.Subring.{IsSubring, IsIntersection}
 use Rattle.theory_pairs.proofs.Spans.{span-member, span_order}

@@ -13,12 +13,13 @@ use Rattle.theory_spaces.specs.Matrix.{Matrix, Mat, delta, mat_trace}
 use Rattle.theory_spaces.specs.Form.{gram}
 use Rattle.theory_spaces.specs.MatrixAlgebra.{IsMatrixAlgebra, MatrixUnits}
 use Rattle.theory_spaces.specs.MinimalIdempotent.{IsMinimalIdempotent}
-use Rattle.theory_spaces.proofs.Matrices.{Mat-ext, delta-same, delta_comm, sum-delta_mul, sum-mul_delta}
-use Rattle.theory_spaces.proofs.MatrixAlgebra.{unit_matrix, unit_matrix-entry, mul-unit_matrix, unit_matrix-mul}
-use Rattle.theory_spaces.proofs.MatrixAlgebra.{unit_matrix-mul_unit_matrix, matrix_space, matrix_basis}
-use Rattle.theory_spaces.proofs.MatrixAlgebra.{matrix_basis-vec, matrices_central}
-use Rattle.theory_spaces.proofs.Tables.{space_basis-coord}
-use Rattle.theory_spaces.proofs.PairIndex.{pair-lt, row-lt, column-lt, delta-pairs}
+use Rattle.theory_spaces.proofs.Matrices.Matrices.{Mat-ext, delta-same, delta_comm, sum-delta_mul, sum-mul_delta}
+use Rattle.theory_spaces.proofs.Matrices.MatrixAlgebra.{unit_matrix, unit_matrix-entry, mul-unit_matrix}
+use Rattle.theory_spaces.proofs.Matrices.MatrixAlgebra.{unit_matrix-mul}
+use Rattle.theory_spaces.proofs.Matrices.MatrixAlgebra.{unit_matrix-mul_unit_matrix, matrix_space, matrix_basis}
+use Rattle.theory_spaces.proofs.Matrices.MatrixAlgebra.{matrix_basis-vec, matrices_central}
+use Rattle.theory_spaces.proofs.Tuples.Tables.{space_basis-coord}
+use Rattle.theory_spaces.proofs.Matrices.PairIndex.{pair-lt, row-lt, column-lt, delta-pairs}
 use Rattle.theory_lattices.specs.Degree.{DegreeOn, DegreeBelow}
 use Rattle.theory_lattices.specs.CommonBasis.{InSpanWith}
 use Rattle.theory_pairs.specs.Subring.{IsSubring}

@@ -8,17 +8,17 @@ use Rattle.theory_rings.proofs.Sums.Sums.{sum_congr}
 use Rattle.theory_spaces.specs.Module.{ModuleOn, AlgebraOn, module_of}
 use Rattle.theory_spaces.specs.Linear.{InSpan, Independent, Basis}
 use Rattle.theory_spaces.specs.Valuation.{ValuationOn, restrict, LatticeBasis}
-use Rattle.theory_spaces.proofs.Families.{push, push-below}
-use Rattle.theory_spaces.proofs.Modules.{InSpan_trans}
-use Rattle.theory_spaces.proofs.Dimension.{exchange}
-use Rattle.theory_spaces.proofs.IndependentVectors.{Independent-at_most}
-use Rattle.theory_spaces.proofs.Spaces.{coords_of}
-use Rattle.theory_spaces.proofs.Lattices.{lattice_basis}
+use Rattle.theory_spaces.proofs.Linear.Families.{push, push-below}
+use Rattle.theory_spaces.proofs.Linear.Modules.{InSpan_trans}
+use Rattle.theory_spaces.proofs.Linear.Dimension.{exchange}
+use Rattle.theory_spaces.proofs.Linear.IndependentVectors.{Independent-at_most}
+use Rattle.theory_spaces.proofs.Linear.Spaces.{coords_of}
+use Rattle.theory_spaces.proofs.Linear.Lattices.{lattice_basis}
 use Rattle.theory_orders.specs.Uniformizer.{IsIntegral}
 use Rattle.theory_orders.specs.Orders.{IsOrder, Same}
 use Rattle.theory_orders.specs.Lattices.{Lattice, IsOrderAt}
-use Rattle.theory_orders.proofs.LatticeTests.{over_field}
-use Rattle.theory_orders.proofs.LeftOrderLattice.{order_same}
+use Rattle.theory_orders.proofs.Lattices.LatticeTests.{over_field}
+use Rattle.theory_orders.proofs.LeftOrder.LeftOrderLattice.{order_same}
 use Rattle.theory_lattices.specs.CommonBasis.{InSpanWith}
 use Rattle.theory_pairs.specs.PlaceLaws.{OrderOnLattice}
 use Rattle.theory_pairs.proofs.DualSpans.{integral_subring, lattice_is_span}

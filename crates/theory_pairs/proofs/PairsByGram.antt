@@ -10,8 +10,8 @@ use Rattle.theory_spaces.specs.Form.{IsBilinear}
 use Rattle.theory_lattices.specs.Degree.{DegreeOn, DegreeBelow}
 use Rattle.theory_lattices.specs.CommonBasis.{InSpanWith, InFinite, InInfinite}
 use Rattle.theory_lattices.specs.SelfDual.{SelfDualPair, IntegralTrace}
-use Rattle.theory_lattices.proofs.Degrees.{below-mul, below-neg, below_of_degree}
-use Rattle.theory_lattices.proofs.PowersOfDegreeOne.{has_degree-one}
+use Rattle.theory_lattices.proofs.Degree.Degrees.{below-mul, below-neg, below_of_degree}
+use Rattle.theory_lattices.proofs.Degree.PowersOfDegreeOne.{has_degree-one}
 use Rattle.theory_pairs.specs.OwnDual.{IsOwnDual, UnimodularGram, IsTraceMap}
 use Rattle.theory_pairs.specs.Subring.{IsSubring}
 use Rattle.theory_pairs.proofs.Spans.{span_mul}

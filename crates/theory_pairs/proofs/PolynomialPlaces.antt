@@ -12,7 +12,7 @@ use Rattle.theory_rings.proofs.Fractions.Fractions.{fraction_of_value}
 use Rattle.theory_rings.proofs.Fractions.Lowest.{polynomial_reduction}
 use Rattle.theory_orders.specs.Uniformizer.{IsUnit}
 use Rattle.theory_lattices.specs.RationalFunctions.{Rational, IsPolynomial, of_polynomial}
-use Rattle.theory_lattices.proofs.FractionDegrees.{of-ne-zero}
+use Rattle.theory_lattices.proofs.Degree.FractionDegrees.{of-ne-zero}
 use Rattle.theory_places.specs.PlaceLaws.{PolynomialsAmongFractions}
 use Rattle.theory_places.proofs.Rationals.{inv_value}
 use Rattle.theory_places.proofs.PlaceResidues.{polynomials}

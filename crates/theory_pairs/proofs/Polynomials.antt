@@ -8,8 +8,8 @@ use Rattle.theory_rings.proofs.Polynomials.Bezout.{field_polynomials}
 use Rattle.theory_rings.proofs.Fractions.Fractions.{IsReduction, denominator-ne-zero, value_same, fraction_of_value}
 use Rattle.theory_rings.proofs.Fractions.Lowest.{polynomial_reduction}
 use Rattle.theory_lattices.specs.RationalFunctions.{Rational, IsPolynomial, of_polynomial}
-use Rattle.theory_lattices.proofs.FractionDegrees.{of-ne-zero, rational_degree, rational_degree-is}
-use Rattle.theory_lattices.proofs.RationalMembers.{polynomials_closed}
+use Rattle.theory_lattices.proofs.Degree.FractionDegrees.{of-ne-zero, rational_degree, rational_degree-is}
+use Rattle.theory_lattices.proofs.Common.RationalMembers.{polynomials_closed}
 use Rattle.theory_pairs.specs.Subring.{IsSubring, IsDenominator, HasFractions}
 
 module _ {k : Type 0} (F : FieldOn k) (Q : FieldOn (Rational F))

@@ -9,9 +9,9 @@ use Rattle.theory_spaces.specs.Module.{ModuleOn, AlgebraOn, module_of}
 use Rattle.theory_spaces.specs.Linear.{comb}
 use Rattle.theory_spaces.specs.Matrix.{delta}
 use Rattle.theory_spaces.specs.ModuleLaws.{neg_one-scale}
-use Rattle.theory_spaces.proofs.Matrices.{delta-same, delta-other}
-use Rattle.theory_spaces.proofs.Modules.{comb_zero, comb-add, comb-scale, map-comb, left_linear, right_linear}
-use Rattle.theory_spaces.proofs.IndependentVectors.{comb-delta}
+use Rattle.theory_spaces.proofs.Matrices.Matrices.{delta-same, delta-other}
+use Rattle.theory_spaces.proofs.Linear.Modules.{comb_zero, comb-add, comb-scale, map-comb, left_linear, right_linear}
+use Rattle.theory_spaces.proofs.Linear.IndependentVectors.{comb-delta}
 use Rattle.theory_orders.specs.Orders.{IsOrder}
 use Rattle.theory_lattices.specs.CommonBasis.{InSpanWith}
 use Rattle.theory_pairs.specs.Subring.{IsSubring}

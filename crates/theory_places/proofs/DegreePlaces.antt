@@ -1,5 +1,6 @@
 -- A degree gives a discrete valuation ring: the elements of degree at most 0.
-use Rattle.std.specs.Prelude.{◌≡◌, ◌↔◌, ℕ, zero, suc, Bool, true, false, IsTrue, ◌⊎◌, ℤ, pos, negsuc, ◌+ℤ◌, neg_ℤ, ◌≤ℤ◌, ◌<ℤ◌}
+use Rattle.std.specs.Prelude.{◌≡◌, ◌↔◌, ℕ, zero, suc, Bool, true, false, IsTrue, ◌⊎◌, ℤ, pos, negsuc, ◌+ℤ◌, neg_ℤ, ◌≤ℤ◌}
+use Rattle.std.specs.Prelude.{◌<ℤ◌}
 use Rattle.std.proofs.Common.{refl, sym, ◌∙◌, ap, subst, arith, inl, inr, ⊎_elim}
 use Rattle.std.proofs.lemmas.Int.{ints}
 use Rattle.theory_rings.specs.Ring.{FieldOn}
@@ -8,8 +9,9 @@ use Rattle.theory_rings.proofs.Rings.RingLaws.{mul-zero}
 use Rattle.theory_spaces.specs.Valuation.{ValuationOn}
 use Rattle.theory_orders.specs.Uniformizer.{UniformizerOn}
 use Rattle.theory_lattices.specs.Degree.{DegreeOn, DegreeBelow, HasDegree}
-use Rattle.theory_lattices.proofs.Degrees.{cases_int, below-neg, below-mul, below_of_degree, not_below_of_degree, has_degree-mul}
-use Rattle.theory_lattices.proofs.PowersOfDegreeOne.{has_degree-one, has_degree-inv}
+use Rattle.theory_lattices.proofs.Degree.Degrees.{cases_int, below-neg, below-mul, below_of_degree, not_below_of_degree}
+use Rattle.theory_lattices.proofs.Degree.Degrees.{has_degree-mul}
+use Rattle.theory_lattices.proofs.Degree.PowersOfDegreeOne.{has_degree-one, has_degree-inv}
 
 -- the test of a decision
 module _ {A : Type 0} where

@@ -11,7 +11,7 @@ use Rattle.theory_rings.proofs.Rings.Solver.{◌⊠◌, ring3, ring4}
 use Rattle.theory_rings.proofs.Powers.Powers.{power-add, power-mul, power-one, power_only_zero}
 use Rattle.theory_spaces.specs.Valuation.{ValuationOn}
 use Rattle.theory_orders.specs.Uniformizer.{IsIntegral, IsUnit, UniformizerOn}
-use Rattle.theory_lattices.proofs.Degrees.{cases_int}
+use Rattle.theory_lattices.proofs.Degree.Degrees.{cases_int}
 use Rattle.theory_places.specs.Valuations.{HasValuation, AreValuations}
 
 module _ {K : Type 0} (F : FieldOn K) (Z : ValuationOn F) (p q : K) (U : UniformizerOn F Z p q)

@@ -10,14 +10,15 @@ use Rattle.theory_rings.proofs.Rings.RingLaws.{zero-mul, left_ne_zero_of_mul, ri
 use Rattle.theory_rings.proofs.Rings.Fields.{mul-inv}
 use Rattle.theory_rings.proofs.Rings.Solver.{◌⊠◌, ring3}
 use Rattle.theory_rings.proofs.Polynomials.Degrees.{length_pos, length-degree_of_ne_zero}
-use Rattle.theory_rings.proofs.Polynomials.Bezout.{field_polynomials, field_degree-mul, poly_mul_cancel_left, degree_of_divides_one, divides_of_coprime, coprime_comm}
+use Rattle.theory_rings.proofs.Polynomials.Bezout.{field_polynomials, field_degree-mul, poly_mul_cancel_left}
+use Rattle.theory_rings.proofs.Polynomials.Bezout.{degree_of_divides_one, divides_of_coprime, coprime_comm}
 use Rattle.theory_rings.proofs.Polynomials.Irreducible.{divides_or, irreducible-ne-zero, irreducible_prime}
 use Rattle.theory_rings.proofs.Fractions.Fractions.{fraction_of, fraction_of_value}
 use Rattle.theory_rings.proofs.Fractions.Lowest.{polynomial_reduction}
 use Rattle.theory_spaces.specs.Valuation.{ValuationOn}
 use Rattle.theory_orders.specs.Uniformizer.{UniformizerOn}
 use Rattle.theory_lattices.specs.RationalFunctions.{Rational}
-use Rattle.theory_lattices.proofs.FractionDegrees.{of-ne-zero}
+use Rattle.theory_lattices.proofs.Degree.FractionDegrees.{of-ne-zero}
 use Rattle.theory_places.specs.Places.{IsIntegralOff}
 use Rattle.theory_places.proofs.Rationals.{low, inv_value, zero_num}
 use Rattle.theory_places.proofs.DegreePlaces.{answer, answer-sound, answer-complete}

@@ -11,9 +11,11 @@ use Rattle.theory_rings.proofs.Rings.RingLaws.{zero-mul}
 use Rattle.theory_rings.proofs.Rings.Fields.{eq-zero_of_mul-eq-zero, inv-ne-zero}
 use Rattle.theory_rings.proofs.Rings.Solver.{◌⊠◌, ring3}
 use Rattle.theory_rings.proofs.Polynomials.Bezout.{field_polynomials}
-use Rattle.theory_rings.proofs.Polynomials.Remainders.{remainder, remainder-small, remainder_eq, congruent_of_remainder, Remainder-path, remainder_congruent}
+use Rattle.theory_rings.proofs.Polynomials.Remainders.{remainder, remainder-small, remainder_eq, congruent_of_remainder}
+use Rattle.theory_rings.proofs.Polynomials.Remainders.{Remainder-path, remainder_congruent}
 use Rattle.theory_rings.proofs.Polynomials.Irreducible.{irreducible_prime}
-use Rattle.theory_rings.proofs.Rings.Congruences.{congruent_of_eq, congruent_sym, congruent_trans, congruent-add, congruent-mul}
+use Rattle.theory_rings.proofs.Rings.Congruences.{congruent_of_eq, congruent_sym, congruent_trans, congruent-add}
+use Rattle.theory_rings.proofs.Rings.Congruences.{congruent-mul}
 use Rattle.theory_rings.proofs.Rings.Homomorphisms.{map-zero}
 use Rattle.theory_rings.proofs.Fractions.Fractions.{fraction_of, fraction_of_value}
 use Rattle.theory_rings.proofs.Fractions.Lowest.{polynomial_reduction}

@@ -16,7 +16,7 @@ use Rattle.theory_rings.proofs.Polynomials.Bezout.{field_polynomials}
 use Rattle.theory_rings.proofs.Polynomials.ElementLists.{values, at-values}
 use Rattle.theory_rings.proofs.Fractions.Lowest.{polynomial_reduction, rational_functions, is_rational_functions}
 use Rattle.theory_lattices.specs.RationalFunctions.{Rational, of_polynomial, power_of_x}
-use Rattle.theory_lattices.proofs.FractionDegrees.{eq_of_value}
+use Rattle.theory_lattices.proofs.Degree.FractionDegrees.{eq_of_value}
 use Rattle.theory_spaces.specs.Valuation.{ValuationOn}
 use Rattle.theory_orders.specs.Uniformizer.{IsIntegral, UniformizerOn}
 use Rattle.theory_residue.specs.Residue.{ResidueOn}
@@ -32,14 +32,21 @@ use Rattle.theory_fractions.specs.FractionOps.{polynomial_of, rational_function,
 use Rattle.theory_fractions.specs.FractionLaws.{FractionsAreRational}
 use Rattle.theory_fractions.proofs.RationalFractions.{fractions_are_rational}
 use Rattle.theory_fractions.proofs.Lifting.{values-over, coefficients_of_eq, has-mul}
-use Rattle.theory_fractions.proofs.FractionField.{polynomial_of-nil, polynomial_of-one, polynomial_of-values, is_fraction-parts, rational_function_eq}
-use Rattle.theory_fractions.proofs.ListPolynomials.{IsPolynomial, is_polynomial-gives, IsPolynomial-values, has_polynomial_of, degree-polynomial_of, divides_polynomial_of, divides_values, values_back}
-use Rattle.theory_fractions.proofs.Reducing.{fraction_of_eq, eq_of_fraction, lowest_of_monic, lowest_over_one, coprime_of_constant_left}
+use Rattle.theory_fractions.proofs.FractionField.{polynomial_of-nil, polynomial_of-one, polynomial_of-values}
+use Rattle.theory_fractions.proofs.FractionField.{is_fraction-parts, rational_function_eq}
+use Rattle.theory_fractions.proofs.ListPolynomials.{IsPolynomial, is_polynomial-gives, IsPolynomial-values}
+use Rattle.theory_fractions.proofs.ListPolynomials.{has_polynomial_of, degree-polynomial_of, divides_polynomial_of}
+use Rattle.theory_fractions.proofs.ListPolynomials.{divides_values, values_back}
+use Rattle.theory_fractions.proofs.Reducing.{fraction_of_eq, eq_of_fraction, lowest_of_monic, lowest_over_one}
+use Rattle.theory_fractions.proofs.Reducing.{coprime_of_constant_left}
 use Rattle.theory_fractions.proofs.LowestTerms.{lead_value}
 use Rattle.theory_fractions.proofs.ElementClauses.{elem_of_lowest}
 use Rattle.theory_places.specs.Places.{PlaceOf, Finite, Infinite}
 use Rattle.theory_places.specs.Places as rational
-use Rattle.theory_places.specs.FractionPlaces.{IsPolynomialList, IsIntegralOff, IsIntegralAtInfinity, IsIntegralAt, IsMonicIrreducible, IsPlace, uniformizer_at, fractions, FractionPlaceValuation, FractionPlacesAreValuationRings, FractionFiniteResidues, FractionInfiniteResidue}
+use Rattle.theory_places.specs.FractionPlaces.{IsPolynomialList, IsIntegralOff, IsIntegralAtInfinity, IsIntegralAt}
+use Rattle.theory_places.specs.FractionPlaces.{IsMonicIrreducible, IsPlace, uniformizer_at, fractions}
+use Rattle.theory_places.specs.FractionPlaces.{FractionPlaceValuation, FractionPlacesAreValuationRings}
+use Rattle.theory_places.specs.FractionPlaces.{FractionFiniteResidues, FractionInfiniteResidue}
 use Rattle.theory_places.proofs.Rationals.{inv_value}
 use Rattle.theory_places.proofs.PlaceValuations.{place_valuation, x_ne}
 use Rattle.theory_places.proofs.SwapPlaces.{variable_place}

@@ -7,9 +7,12 @@ use Rattle.theory_rings.specs.Ring.{FieldOn, CommRingOn}
 use Rattle.theory_rings.specs.Polynomial.{Poly, IsMonic, coefficient, lead, degree}
 use Rattle.theory_rings.specs.Fraction.{IsFractionField, IsLowest, IsValue}
 use Rattle.theory_rings.proofs.Rings.RingLaws.{mul-zero}
-use Rattle.theory_rings.proofs.Polynomials.PolynomialRing.{constant, coefficient-zero, coefficient-add, coefficient-mul, coefficient-constant}
-use Rattle.theory_rings.proofs.Polynomials.Degrees.{coefficient_above, convolution-top, convolution_above, lead-ne-zero, length_pos}
-use Rattle.theory_rings.proofs.Polynomials.Bezout.{field_polynomials, field_degree-mul, field_lead-mul, poly_mul-ne-zero, poly_one-ne-zero, degree-one}
+use Rattle.theory_rings.proofs.Polynomials.PolynomialRing.{constant, coefficient-zero, coefficient-add, coefficient-mul}
+use Rattle.theory_rings.proofs.Polynomials.PolynomialRing.{coefficient-constant}
+use Rattle.theory_rings.proofs.Polynomials.Degrees.{coefficient_above, convolution-top, convolution_above, lead-ne-zero}
+use Rattle.theory_rings.proofs.Polynomials.Degrees.{length_pos}
+use Rattle.theory_rings.proofs.Polynomials.Bezout.{field_polynomials, field_degree-mul, field_lead-mul}
+use Rattle.theory_rings.proofs.Polynomials.Bezout.{poly_mul-ne-zero, poly_one-ne-zero, degree-one}
 use Rattle.theory_rings.proofs.Polynomials.Constants.{constant-one}
 use Rattle.theory_rings.proofs.Polynomials.Degrees.{lead-constant, degree-constant, poly_eq_zero_or}
 use Rattle.theory_rings.proofs.Fractions.Fractions.{fraction_of_value}
@@ -18,9 +21,9 @@ use Rattle.theory_rings.proofs.Rings.ZeroTests.{eq_zero_or}
 use Rattle.theory_spaces.specs.Valuation.{ValuationOn}
 use Rattle.theory_lattices.specs.Degree.{DegreeOn, HasDegree}
 use Rattle.theory_lattices.specs.RationalFunctions.{Rational, of_constant, power_of_x}
-use Rattle.theory_lattices.proofs.FractionDegrees.{rational_degree, rational_degree-is}
-use Rattle.theory_lattices.proofs.Degrees.{has_degree-mul, below_of_degree}
-use Rattle.theory_lattices.proofs.RationalMembers.{polynomials_of}
+use Rattle.theory_lattices.proofs.Degree.FractionDegrees.{rational_degree, rational_degree-is}
+use Rattle.theory_lattices.proofs.Degree.Degrees.{has_degree-mul, below_of_degree}
+use Rattle.theory_lattices.proofs.Common.RationalMembers.{polynomials_of}
 use Rattle.theory_places.specs.Places.{Infinite, PlaceValuation}
 use Rattle.theory_residue.specs.Residue.{ResidueOn}
 use Rattle.theory_places.proofs.Rationals.{inv_inv, zero_num, zero_of_num}

@@ -7,8 +7,8 @@ use Rattle.theory_spaces.specs.Valuation.{ValuationOn}
 use Rattle.theory_orders.specs.Uniformizer.{UniformizerOn}
 use Rattle.theory_lattices.specs.Degree.{HasDegree}
 use Rattle.theory_lattices.specs.RationalFunctions.{Rational, power_of_x}
-use Rattle.theory_lattices.proofs.FractionDegrees.{rational_degree, rational_degree-is}
-use Rattle.theory_lattices.proofs.RationalMembers.{polynomials_of}
+use Rattle.theory_lattices.proofs.Degree.FractionDegrees.{rational_degree, rational_degree-is}
+use Rattle.theory_lattices.proofs.Common.RationalMembers.{polynomials_of}
 use Rattle.theory_places.proofs.DegreePlaces.{degree_valuation, degree_uniformizer, strict}
 
 module _ {k : Type 0} (F : FieldOn k) (Q : FieldOn (Rational F))

@@ -16,9 +16,9 @@ use Rattle.theory_rings.proofs.Fractions.Fractions.{reduce, reduce_value, value_
 use Rattle.theory_rings.proofs.Fractions.Lowest.{polynomial_reduction}
 use Rattle.theory_lattices.specs.Degree.{DegreeOn, HasDegree}
 use Rattle.theory_lattices.specs.RationalFunctions.{Rational, of_polynomial, power_of_x}
-use Rattle.theory_lattices.proofs.FractionDegrees.{rational_degree, rational_degree-is}
-use Rattle.theory_lattices.proofs.Degrees.{below_of_degree, has_degree-mul}
-use Rattle.theory_lattices.proofs.PowersOfDegreeOne.{has_degree-one, has_degree-inv}
+use Rattle.theory_lattices.proofs.Degree.FractionDegrees.{rational_degree, rational_degree-is}
+use Rattle.theory_lattices.proofs.Degree.Degrees.{below_of_degree, has_degree-mul}
+use Rattle.theory_lattices.proofs.Degree.PowersOfDegreeOne.{has_degree-one, has_degree-inv}
 use Rattle.theory_places.specs.Places.{Finite, Infinite, PlaceValuation}
 use Rattle.theory_places.specs.Valuations.{HasValuation}
 use Rattle.theory_places.proofs.Rationals.{low, inv_value, zero_num}

@@ -14,8 +14,10 @@ use Rattle.theory_places.proofs.FinitePlaces.{place, place-tells}
 use Rattle.theory_places.proofs.PlaceValuations.{infinite_valuation}
 use Rattle.theory_places.proofs.FiniteResidues.{finite_residue, finite_residue-of}
 use Rattle.theory_places.proofs.InfiniteResidue.{infinite_residue, infinite_residue-res, res-lift}
-use Rattle.theory_places.proofs.PolynomialFractions.{polynomial_of_denominator, denominator_of_polynomial, polynomial_of_everywhere, everywhere_of_polynomial}
-use Rattle.theory_places.proofs.SwapPlaces.{swap, swap_hom, swap_twice, swap_constant, swap_variable, swap_place, variable_place}
+use Rattle.theory_places.proofs.PolynomialFractions.{polynomial_of_denominator, denominator_of_polynomial}
+use Rattle.theory_places.proofs.PolynomialFractions.{polynomial_of_everywhere, everywhere_of_polynomial}
+use Rattle.theory_places.proofs.SwapPlaces.{swap, swap_hom, swap_twice, swap_constant, swap_variable, swap_place}
+use Rattle.theory_places.proofs.SwapPlaces.{variable_place}
 
 -- a residue map at a valuation ring is one at each with the same elements
 module _ {K E : Type 0} (F : FieldOn K) (Z Y : ValuationOn F) (q : K) (k : FieldOn E)

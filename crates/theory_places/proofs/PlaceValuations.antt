@@ -11,7 +11,7 @@ use Rattle.theory_spaces.specs.Valuation.{ValuationOn}
 use Rattle.theory_orders.specs.Uniformizer.{IsIntegral, UniformizerOn}
 use Rattle.theory_lattices.specs.Degree.{DegreeOn, DegreeBelow}
 use Rattle.theory_lattices.specs.RationalFunctions.{Rational, power_of_x}
-use Rattle.theory_lattices.proofs.FractionDegrees.{rational_degree, rational_degree-is}
+use Rattle.theory_lattices.proofs.Degree.FractionDegrees.{rational_degree, rational_degree-is}
 use Rattle.theory_places.specs.Places.{PlaceOf, Finite, Infinite, IsPlace, IsIntegralAtInfinity, PlaceValuation}
 use Rattle.theory_places.proofs.Rationals.{inv_inv, zero_num, zero_of_num}
 use Rattle.theory_places.proofs.FinitePlaces as finite

@@ -10,7 +10,8 @@ use Rattle.theory_rings.proofs.Rings.RingLaws.{left_ne_zero_of_mul, right_ne_zer
 use Rattle.theory_rings.proofs.Polynomials.PolynomialRing.{constant}
 use Rattle.theory_rings.proofs.Polynomials.Constants.{constant-one}
 use Rattle.theory_rings.proofs.Polynomials.Degrees.{eq_constant}
-use Rattle.theory_rings.proofs.Polynomials.Bezout.{field_polynomials, field_degree-mul, degree_of_divides_one, degree_zero_inverse}
+use Rattle.theory_rings.proofs.Polynomials.Bezout.{field_polynomials, field_degree-mul, degree_of_divides_one}
+use Rattle.theory_rings.proofs.Polynomials.Bezout.{degree_zero_inverse}
 use Rattle.theory_rings.proofs.Polynomials.Bezout.{divides_of_coprime, coprime_comm}
 use Rattle.theory_rings.proofs.Fractions.Lowest.{IsMonic-ne-zero, lowest_terms}
 use Rattle.theory_lattices.specs.RationalFunctions.{Rational, IsPolynomial}

@@ -13,14 +13,16 @@ use Rattle.theory_rings.proofs.Rings.Solver.{Ex, var, v0, v1, v2, v3, v4, nil, u
 use Rattle.theory_spaces.specs.Module.{ModuleOn, AlgebraOn}
 use Rattle.theory_spaces.specs.Valuation.{ValuationOn}
 use Rattle.theory_spaces.specs.Tuples.{IsTuple, Tuple, product}
-use Rattle.theory_spaces.proofs.Tuples.{IsTuple-ext, IsTuple-is_tuple, is_tuple-IsTuple, Tuple-path, tuples, tuples-zero, tuples-add, tuples-neg, tuples-scale}
-use Rattle.theory_spaces.proofs.TupleProducts.{IsTuple-product}
-use Rattle.theory_spaces.proofs.Carry.{KeptBy, carried, carry}
+use Rattle.theory_spaces.proofs.Tuples.Tuples.{IsTuple-ext, IsTuple-is_tuple, is_tuple-IsTuple, Tuple-path, tuples}
+use Rattle.theory_spaces.proofs.Tuples.Tuples.{tuples-zero, tuples-add, tuples-neg, tuples-scale}
+use Rattle.theory_spaces.proofs.Tuples.TupleProducts.{IsTuple-product}
+use Rattle.theory_spaces.proofs.Algebras.Carry.{KeptBy, carried, carry}
 use Rattle.theory_orders.specs.Uniformizer.{UniformizerOn}
 use Rattle.theory_orders.specs.Ramified.{IsRamified}
 use Rattle.theory_orders.specs.Tables.{AreTuples, RamifiedTable}
 use Rattle.theory_places.specs.Quaternions.{tuple4, quaternion_table, quaternion_order, quaternion_radical}
-use Rattle.theory_places.proofs.Quaternions.{ap₄, quaternions, order_vectors, radical_vectors, NoSquareModulo, ramified_quaternions}
+use Rattle.theory_places.proofs.Quaternions.{ap₄, quaternions, order_vectors, radical_vectors, NoSquareModulo}
+use Rattle.theory_places.proofs.Quaternions.{ramified_quaternions}
 
 -- the entry of a product, by a row of constants for each item of the first factor
 abbrev row_ex : Ex → Ex → Ex → Ex → Ex → Ex

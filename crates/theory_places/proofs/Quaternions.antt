@@ -3,16 +3,18 @@ use Rattle.std.specs.Prelude.{◌≡◌, ◌≢◌, ℕ, zero, suc, ◌<◌, IsT
 use Rattle.std.proofs.Common.{refl, sym, ◌∙◌, ap, subst, arith, inl, inr, ⊎_elim}
 use Rattle.theory_rings.specs.Ring.{FieldOn}
 use Rattle.theory_rings.proofs.Rings.RingLaws.{mul-zero}
-use Rattle.theory_rings.proofs.Rings.Solver.{Ex, var, v0, v1, v2, v3, v4, nil, unit, ◌⊞◌, ◌⊠◌, minus, by_sorted, ring2, ring3}
+use Rattle.theory_rings.proofs.Rings.Solver.{Ex, var, v0, v1, v2, v3, v4, nil, unit, ◌⊞◌, ◌⊠◌, minus, by_sorted, ring2}
+use Rattle.theory_rings.proofs.Rings.Solver.{ring3}
 use Rattle.theory_spaces.specs.Module.{AlgebraOn}
 use Rattle.theory_spaces.specs.Valuation.{ValuationOn}
 use Rattle.theory_orders.specs.Uniformizer.{UniformizerOn}
-use Rattle.theory_orders.specs.Orders.{IsOrder, IsIdeal, Around, SumOf, Generated, Multiple, Power, Product, SimpleByElements, Within}
+use Rattle.theory_orders.specs.Orders.{IsOrder, IsIdeal, Around, SumOf, Generated, Multiple, Power, Product}
+use Rattle.theory_orders.specs.Orders.{SimpleByElements, Within}
 use Rattle.theory_orders.specs.Lattices.{Lattice}
 use Rattle.theory_orders.specs.Ramified.{IsRamified}
-use Rattle.theory_orders.proofs.SumsOf.{SumOf_in, SumOf_add, SumOf_one}
-use Rattle.theory_orders.proofs.Multiples.{Multiple-add}
-use Rattle.theory_orders.proofs.SimpleQuotients.{radical_of_simple, simple_by_tests}
+use Rattle.theory_orders.proofs.Lattices.SumsOf.{SumOf_in, SumOf_add, SumOf_one}
+use Rattle.theory_orders.proofs.Lattices.Multiples.{Multiple-add}
+use Rattle.theory_orders.proofs.Ideals.SimpleQuotients.{radical_of_simple, simple_by_tests}
 
 -- equal parts
 pub ap₄ : {A B : Type 0} (f : A → A → A → A → B) {a a' b b' c c' d d' : A} → a ≡ a' → b ≡ b' → c ≡ c' → d ≡ d'

@@ -30,16 +30,19 @@ use Rattle.theory_fractions.proofs.ListPolynomials.{IsPolynomial, has_polynomial
 use Rattle.theory_fractions.proofs.Reducing.{lowest_over_one, poly-mul}
 use Rattle.theory_fractions.proofs.ElementClauses.{elem_of_lowest}
 use Rattle.theory_fractions.proofs.RationalFractions.{fractions_are_rational}
-use Rattle.theory_places.specs.Places.{PlaceOf, Finite, Infinite, IsIntegralOff, PlaceValuation, uniformizer_at as rational_uniformizer}
+use Rattle.theory_places.specs.Places.{PlaceOf, Finite, Infinite, IsIntegralOff, PlaceValuation}
+use Rattle.theory_places.specs.Places.{uniformizer_at as rational_uniformizer}
 use Rattle.theory_places.specs.FractionPlaces.{IsPlace, fractions, RamifiedPlaceExcludesSplit}
-use Rattle.theory_tables.proofs.Ramified.{ramified_excludes_split}
-use Rattle.theory_places.specs.Quaternions.{quaternion_table, quaternion_order, quaternion_radical, IsNoSquare, QuaternionsRamifiedAt, QuaternionsAreRamified, three, QuaternionsOverThree}
+use Rattle.theory_tables.proofs.Split.Ramified.{ramified_excludes_split}
+use Rattle.theory_places.specs.Quaternions.{quaternion_table, quaternion_order, quaternion_radical, IsNoSquare}
+use Rattle.theory_places.specs.Quaternions.{QuaternionsRamifiedAt, QuaternionsAreRamified, three, QuaternionsOverThree}
 use Rattle.theory_places.proofs.PlaceValuations.{place_valuation, infinite_valuation, x_ne}
 use Rattle.theory_places.proofs.PlaceResidues.{infinite_residues}
 use Rattle.theory_places.proofs.InfiniteResidue.{lift_in}
 use Rattle.theory_places.proofs.SwapPlaces.{swap, swap_hom, swap_place, swap_variable, swap_constant, variable_place}
 use Rattle.theory_places.proofs.PulledBack.{h-inv}
-use Rattle.theory_places.proofs.FractionPlaces.{place_of, is_place_of, integral_at, uniformizer_path, over_one_path, inverse_path, fraction_place, x_list, x_poly}
+use Rattle.theory_places.proofs.FractionPlaces.{place_of, is_place_of, integral_at, uniformizer_path, over_one_path}
+use Rattle.theory_places.proofs.FractionPlaces.{inverse_path, fraction_place, x_list, x_poly}
 use Rattle.theory_places.proofs.QuaternionTables.{ramified_quaternion_table}
 
 -- what is no square in the residue field is none modulo the uniformizer

@@ -12,19 +12,23 @@ use Rattle.theory_rings.proofs.Rings.RingLaws.{add-zero, zero-mul, mul-zero, lef
 use Rattle.theory_rings.proofs.Rings.Fields.{mul-inv, inv-ne-zero, mul_left_cancel, inv_mul_cancel_right}
 use Rattle.theory_rings.proofs.Rings.Solver.{◌⊠◌, unit, ring2, ring3}
 use Rattle.theory_rings.proofs.Rings.Homomorphisms.{map-zero, comp_hom}
-use Rattle.theory_rings.proofs.Polynomials.PolynomialRing.{constant, IsTrimmed-tail, Poly-path, prepend, prepend-tail, coefficient-zero, coefficient-prepend}
-use Rattle.theory_rings.proofs.Polynomials.Constants.{variable, prepend_eq, prepend-zero, constant-zero, degree-variable, coefficient-variable}
+use Rattle.theory_rings.proofs.Polynomials.PolynomialRing.{constant, IsTrimmed-tail, Poly-path, prepend, prepend-tail}
+use Rattle.theory_rings.proofs.Polynomials.PolynomialRing.{coefficient-zero, coefficient-prepend}
+use Rattle.theory_rings.proofs.Polynomials.Constants.{variable, prepend_eq, prepend-zero, constant-zero}
+use Rattle.theory_rings.proofs.Polynomials.Constants.{degree-variable, coefficient-variable}
 use Rattle.theory_rings.proofs.Polynomials.Degrees.{degree_le_length, ne_zero_of_length}
-use Rattle.theory_rings.proofs.Polynomials.Evaluation.{evaluate_hom, evaluate-constant, evaluate-variable, evaluate-prepend}
-use Rattle.theory_rings.proofs.Polynomials.Bezout.{field_polynomials, field_degree-mul, poly_mul-ne-zero, poly_one-ne-zero}
+use Rattle.theory_rings.proofs.Polynomials.Evaluation.{evaluate_hom, evaluate-constant, evaluate-variable}
+use Rattle.theory_rings.proofs.Polynomials.Evaluation.{evaluate-prepend}
+use Rattle.theory_rings.proofs.Polynomials.Bezout.{field_polynomials, field_degree-mul, poly_mul-ne-zero}
+use Rattle.theory_rings.proofs.Polynomials.Bezout.{poly_one-ne-zero}
 use Rattle.theory_rings.proofs.Polynomials.Irreducible.{divides_or}
 use Rattle.theory_rings.proofs.Fractions.Fractions.{fraction_of_value, value_unique}
 use Rattle.theory_rings.proofs.Fractions.Lowest.{polynomial_reduction}
 use Rattle.theory_spaces.specs.Valuation.{ValuationOn}
 use Rattle.theory_orders.specs.Uniformizer.{IsUnit}
 use Rattle.theory_lattices.specs.RationalFunctions.{Rational, of_polynomial, of_constant, power_of_x}
-use Rattle.theory_lattices.proofs.FractionDegrees.{of_hom, of-ne-zero, rational_degree, rational_degree-is}
-use Rattle.theory_lattices.proofs.RationalMembers.{constants_hom}
+use Rattle.theory_lattices.proofs.Degree.FractionDegrees.{of_hom, of-ne-zero, rational_degree, rational_degree-is}
+use Rattle.theory_lattices.proofs.Common.RationalMembers.{constants_hom}
 use Rattle.theory_places.specs.Places.{Finite, Infinite, IsPlace, IsIntegralOff, IsIntegralAtInfinity, PlaceValuation}
 use Rattle.theory_places.proofs.Rationals.{low}
 use Rattle.theory_places.proofs.Quotients.{quotient_same, quotient_add, quotient_mul}

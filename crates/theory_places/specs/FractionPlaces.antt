@@ -92,8 +92,8 @@ module _ {E : Type 0} (o : Ops E) (L : FieldLaws o) (M : FieldLaws (fraction_ops
   FractionInfiniteResidue = (V : FractionPlaceValuation Infinite)
       → ResidueOn fractions V.valuation (fractions.inv V.p) (elements o L)
 
-  -- the claim of a ramified place: the table has it at the valuation ring of the place, with the order spanned by os and
-  -- the radical spanned by js
+  -- the claim of a ramified place: the table has it at the valuation ring of the place, with the order spanned by os
+  -- and the radical spanned by js
   pub record RamifiedAtPlace (n : ℕ) (cs : List (Pair E)) (place : PlaceOf (List E))
       (os js : List (List (Pair E))) : Type 0 where
     pub at_place : FractionPlaceValuation place

@@ -1,7 +1,8 @@
 // The places of the fractions over a program's field.
 ghost use Rattle.theory_rings.specs.Ops.{FieldLaws};
 ghost use Rattle.theory_fractions.specs.FractionOps.{fraction_ops};
-ghost use Rattle.theory_places.specs.FractionPlaces.{FractionPlacesAreValuationRings, FractionFiniteResidues, FractionInfiniteResidue};
+ghost use Rattle.theory_places.specs.FractionPlaces.{FractionPlacesAreValuationRings, FractionFiniteResidues};
+ghost use Rattle.theory_places.specs.FractionPlaces.{FractionInfiniteResidue};
 
 use theory_fractions::fraction_laws::ProgramField;
 

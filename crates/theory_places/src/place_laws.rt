@@ -2,7 +2,8 @@
 ghost use Rattle.theory_places.specs.Places.{Infinite, PlaceValuation};
 ghost use Rattle.theory_places.specs.Valuations.{AreValuations};
 ghost use Rattle.theory_places.specs.PlaceLaws.{PlacesAreValuationRings, ValuationsByFactors, ValuationsByDegrees};
-ghost use Rattle.theory_places.specs.PlaceLaws.{PolynomialsAmongFractions, FiniteResidueFields, InfiniteResidueField, HasSwap};
+ghost use Rattle.theory_places.specs.PlaceLaws.{PolynomialsAmongFractions, FiniteResidueFields, InfiniteResidueField};
+ghost use Rattle.theory_places.specs.PlaceLaws.{HasSwap};
 
 use theory_lattices::rational_laws::RationalFunctions;
 use theory_orders::ramified_laws::Place;

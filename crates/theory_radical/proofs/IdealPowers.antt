@@ -5,9 +5,9 @@ use Rattle.std.proofs.lemmas.Bool.{cases_lt}
 use Rattle.theory_rings.specs.Ring.{RingOn}
 use Rattle.theory_rings.proofs.Sums.Sums.{sum_eq_zero, sum-mul}
 use Rattle.theory_spaces.specs.Sets.{Within, Zero, Power, ring_ops}
-use Rattle.theory_spaces.proofs.Families.{push, push-below, push-at, push-above}
+use Rattle.theory_spaces.proofs.Linear.Families.{push, push-below, push-at, push-above}
 use Rattle.theory_radical.specs.Ideal.{product, ProductsVanish}
-use Rattle.theory_radical.proofs.NilIdeals.{product_congr}
+use Rattle.theory_radical.proofs.Nilpotent.NilIdeals.{product_congr}
 
 module _ {V : Type 0} (R : RingOn V) (J : V → Type 0) where
   infixl 70 ◌⊗◌

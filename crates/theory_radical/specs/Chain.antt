@@ -14,7 +14,8 @@ use Rattle.theory_radical.specs.LiftRing.{LiftRingOn}
 abbrev pub mat_power : {K : Type 0} → RingOn K → ℕ → Matrix K → ℕ → Matrix K
 mat_power R m N k = power_by_ops (delta R) (mat_mul R m) N k
 
-module _ {K W V : Type 0} {F : FieldOn K} {p n : ℕ} (L : LiftRingOn F p n W) (A : AlgebraOn F.ring V) (m : ℕ) (B : Basis (module_of A) m) where
+module _ {K W V : Type 0} {F : FieldOn K} {p n : ℕ} (L : LiftRingOn F p n W) (A : AlgebraOn F.ring V) (m : ℕ)
+    (B : Basis (module_of A) m) where
   -- N reduces to the matrix of the multiplication by x from the left
   abbrev pub IsLift : V → Matrix W → Type 0
   IsLift x N = (i j : ℕ) → i < m → j < m → L.down (N i j) ≡ B.coord (A.◌⊗◌ x (B.vec j)) i
@@ -27,8 +28,8 @@ module _ {K W V : Type 0} {F : FieldOn K} {p n : ℕ} (L : LiftRingOn F p n W) (
   abbrev pub Vanishes : ℕ → V → Type 0
   Vanishes i x = (N : Matrix W) → IsLift x N → MultipleOf L.ring.monoid (p ^ suc i) (trace_power i N)
 
-  -- the chain begins with the whole algebra. Member i + 1 is those x of member i for which this trace is 0 for x and all
-  -- its multiples from the right
+  -- the chain begins with the whole algebra. Member i + 1 is those x of member i for which this trace is 0 for x and
+  -- all its multiples from the right
   abbrev pub Chain : ℕ → V → Type 0
   Chain zero x = Unit {0}
   Chain (suc i) x = Chain i x × ((c : V) → Vanishes i (A.◌⊗◌ x c))

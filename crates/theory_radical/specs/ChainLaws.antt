@@ -22,31 +22,37 @@ TracesOfPowers R G t = (p : ℕ) → IsPrime p → (i : ℕ) (x y : _) → Congr
 abbrev pub TracesOfMatrixPowers : {W : Type 0} → CommRingOn W → Type 0
 TracesOfMatrixPowers C = (p : ℕ) → IsPrime p → (m i : ℕ) (M N : Matrix _)
     → ((a b : ℕ) → a < m → b < m → CongruentMod C.monoid p (M a b) (N a b))
-    → CongruentMod C.monoid (p ^ suc i) (mat_trace C.ring m (mat_power C.ring m M (p ^ i))) (mat_trace C.ring m (mat_power C.ring m N (p ^ i)))
+    → CongruentMod C.monoid (p ^ suc i) (mat_trace C.ring m (mat_power C.ring m M (p ^ i)))
+    (mat_trace C.ring m (mat_power C.ring m N (p ^ i)))
 
-module _ {K W V : Type 0} {F : FieldOn K} {p n : ℕ} (L : LiftRingOn F p n W) (A : AlgebraOn F.ring V) (m : ℕ) (B : Basis (module_of A) m) where
+module _ {K W V : Type 0} {F : FieldOn K} {p n : ℕ} (L : LiftRingOn F p n W) (A : AlgebraOn F.ring V) (m : ℕ)
+    (B : Basis (module_of A) m) where
   -- each element has a lift, and modulo p^(i + 1) the trace of the p^i-th power is the same for all of them
   pub record IndependentOfLift : Type 0 where
     pub lifts : (x : V) → (N : Matrix W) × IsLift L A m B x N
     pub same : (i : ℕ) (x : V) (M N : Matrix W) → IsLift L A m B x M → IsLift L A m B x N
         → CongruentMod L.ring.monoid (p ^ suc i) (trace_power L A m B i M) (trace_power L A m B i N)
 
-  -- on member i of the chain the trace of the p^i-th power is a multiple of p^i and, modulo p^(i + 1), additive; everywhere a
-  -- scalar comes out as its p^i-th power
+  -- on member i of the chain the trace of the p^i-th power is a multiple of p^i and, modulo p^(i + 1), additive;
+  -- everywhere a scalar comes out as its p^i-th power
   pub record AdditiveOnChain : Type 0 where
-    pub multiple : (i : ℕ) (x : V) → Chain L A m B i x → (N : Matrix W) → IsLift L A m B x N → MultipleOf L.ring.monoid (p ^ i) (trace_power L A m B i N)
+    pub multiple : (i : ℕ) (x : V) → Chain L A m B i x → (N : Matrix W) → IsLift L A m B x N
+        → MultipleOf L.ring.monoid (p ^ i) (trace_power L A m B i N)
     pub additive : (i : ℕ) (x y : V) → Chain L A m B i x → Chain L A m B i y
         → (X Y Z : Matrix W) → IsLift L A m B x X → IsLift L A m B y Y → IsLift L A m B (A.◌⊕◌ x y) Z
-        → CongruentMod L.ring.monoid (p ^ suc i) (trace_power L A m B i Z) (L.ring.◌⊕◌ (trace_power L A m B i X) (trace_power L A m B i Y))
+        → CongruentMod L.ring.monoid (p ^ suc i) (trace_power L A m B i Z)
+        (L.ring.◌⊕◌ (trace_power L A m B i X) (trace_power L A m B i Y))
     pub scale : (i : ℕ) (x : V) (c : W) (X Z : Matrix W) → IsLift L A m B x X → IsLift L A m B (A.◌•◌ (L.down c) x) Z
-        → CongruentMod L.ring.monoid (p ^ suc i) (trace_power L A m B i Z) (L.ring.◌⊗◌ (power L.ring.ring c (p ^ i)) (trace_power L A m B i X))
+        → CongruentMod L.ring.monoid (p ^ suc i) (trace_power L A m B i Z)
+        (L.ring.◌⊗◌ (power L.ring.ring c (p ^ i)) (trace_power L A m B i X))
 
   -- the traces of an idempotent are its rank, a number up to m that is 0 only for 0
   pub record IdempotentRank (e : V) : Type 0 where
     pub rank : ℕ
     pub rank_le : rank ≤ m
     pub none : rank ≡ 0 → e ≡ A.zero
-    pub trace : (i : ℕ) (N : Matrix W) → IsLift L A m B e N → CongruentMod L.ring.monoid (p ^ suc i) (trace_power L A m B i N) (times L.ring.monoid rank L.ring.one)
+    pub trace : (i : ℕ) (N : Matrix W) → IsLift L A m B e N
+        → CongruentMod L.ring.monoid (p ^ suc i) (trace_power L A m B i N) (times L.ring.monoid rank L.ring.one)
 
   -- those of a nilpotent element are 0
   pub record TracesOfNilpotentsAndIdempotents : Type 0 where
@@ -64,15 +70,17 @@ module _ {K W V : Type 0} {F : FieldOn K} {p n : ℕ} (L : LiftRingOn F p n W) (
   -- a member that is nilpotent is the largest nilpotent ideal, and all later ones are the same
   pub record MayStop : Type 0 where
     pub largest : (i : ℕ) → IsNilpotentIdeal A.ring (Chain L A m B i) → IsLargestNilpotentIdeal A (Chain L A m B i)
-    pub stays : (i : ℕ) → IsNilpotentIdeal A.ring (Chain L A m B i) → (j : ℕ) (x : V) → Chain L A m B i x → Chain L A m B j x
+    pub stays : (i : ℕ) → IsNilpotentIdeal A.ring (Chain L A m B i) → (j : ℕ) (x : V) → Chain L A m B i x
+        → Chain L A m B j x
 
-  -- member n is the largest nilpotent ideal, where the dimension m is below p^n, and products of m of its elements are 0
+  -- member n is the largest nilpotent ideal, where the dimension m is below p^n, and products of m of its elements are
+  -- 0
   pub record EndsInRadical : Type 0 where
     pub largest : m < p ^ n → IsLargestNilpotentIdeal A (Chain L A m B n)
     pub products : m < p ^ n → ProductsVanish A.ring (Chain L A m B n) m
 
-  -- for i below n member i + 1 is given by equations, by linear ones where the residues have roots, and by a linear functional where
-  -- all elements of the field have p-th roots
+  -- for i below n member i + 1 is given by equations, by linear ones where the residues have roots, and by a linear
+  -- functional where all elements of the field have p-th roots
   pub record NextIsKernel : Type 0 where
     pub functional : HasRoots F.ring p → (i : ℕ) → i < n → NextFunctional L A m B i
     pub linear : (i : ℕ) → i < n → LinearEquations L A m B i

@@ -34,11 +34,12 @@ module _ {K V : Type 0} {R : RingOn K} (A : AlgebraOn R V) where
     pub mul-in : (x y : V) → J x → J y → J (A.◌⊗◌ x y)
     pub nilpotent : (x : V) → J x → IsNilpotent A.ring x
 
-  -- a nilpotent ideal that holds each nilpotent ideal. In an algebra of finite dimension an ideal is the span of finitely
-  -- many elements
+  -- a nilpotent ideal that holds each nilpotent ideal. In an algebra of finite dimension an ideal is the span of
+  -- finitely many elements
   pub record IsLargestNilpotentIdeal (J : V → Type 0) : Type 0 where
     pub nilpotent : IsNilpotentIdeal A.ring J
-    pub largest : (n : ℕ) (g : ℕ → V) → IsNilpotentIdeal A.ring (InSpan (module_of A) n g) → (x : V) → InSpan (module_of A) n g x → J x
+    pub largest : (n : ℕ) (g : ℕ → V) → IsNilpotentIdeal A.ring (InSpan (module_of A) n g) → (x : V)
+        → InSpan (module_of A) n g x → J x
 
 -- h commutes with a, and a·h is an idempotent that keeps a power of a. It is 0 only where a is nilpotent
 pub record FittingIdempotent {V : Type 0} (R : RingOn V) (a : V) : Type 0 where

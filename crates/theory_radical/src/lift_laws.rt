@@ -8,7 +8,9 @@ ghost use Rattle.theory_radical.specs.LiftRing.{LiftRingOn, HasRoots};
 ghost use Rattle.theory_radical.specs.Functional.{NextFunctional};
 ghost use Rattle.theory_radical.specs.ChainLaws.{IsRadicalChain};
 ghost use Rattle.theory_radical.specs.Tower.{TowerElement, TowerMod, Reduces, IsTowerLift};
-ghost use Rattle.theory_radical.specs.LiftLaws.{IntegersAreLiftRings, IsomorphicLiftRings, RemaindersAreLiftRings, HasMonicLifts, OneHasFullOrder, TowersAreLiftRings, TowersHaveLifts, IrreducibleTowersAreFields, TowerFieldsHaveRoots};
+ghost use Rattle.theory_radical.specs.LiftLaws.{IntegersAreLiftRings, IsomorphicLiftRings, RemaindersAreLiftRings};
+ghost use Rattle.theory_radical.specs.LiftLaws.{HasMonicLifts, OneHasFullOrder, TowersAreLiftRings, TowersHaveLifts};
+ghost use Rattle.theory_radical.specs.LiftLaws.{IrreducibleTowersAreFields, TowerFieldsHaveRoots};
 
 use theory_rings::structures::CommutativeRing;
 
@@ -17,8 +19,8 @@ pub fn integers_are_lift_rings()
     ensures { IntegersAreLiftRings }
 {}
 
-/// The remainders by a monic polynomial over a lift ring are a lift ring of those by its residue, and each monic polynomial is such
-/// a residue.
+/// The remainders by a monic polynomial over a lift ring are a lift ring of those by its residue, and each monic
+/// polynomial is such a residue.
 pub fn remainders_are_lift_rings<S: CommutativeRing, R: CommutativeRing>()
     ensures remainders { RemaindersAreLiftRings S.ring R.ring }
     ensures lifts { HasMonicLifts S.ring R.ring }
@@ -35,7 +37,8 @@ pub fn isomorphic_lift_rings<
     ensures { IsomorphicLiftRings S.ring R.ring T.ring U.ring }
 {}
 
-/// The ring (Z/p^n)[t]/(f)[x]/(g) is a lift ring of its residue (Z/p)[t]/(f)[x]/(g), and each of the latter has such a lift ring.
+/// The ring (Z/p^n)[t]/(f)[x]/(g) is a lift ring of its residue (Z/p)[t]/(f)[x]/(g), and each of the latter has such a
+/// lift ring.
 pub fn towers_are_lift_rings()
     ensures lift { TowersAreLiftRings }
     ensures exists { TowersHaveLifts }
@@ -47,8 +50,8 @@ pub fn towers_are_fields()
     ensures roots { TowerFieldsHaveRoots }
 {}
 
-/// An algebra with a basis over a field with the ring (Z/p)[t]/(f)[x]/(g), a ring over the integers modulo p^n whose moduli reduce
-/// to f and g, and a set of elements of the algebra.
+/// An algebra with a basis over a field with the ring (Z/p)[t]/(f)[x]/(g), a ring over the integers modulo p^n whose
+/// moduli reduce to f and g, and a set of elements of the algebra.
 pub trait TowerAlgebra {
     ghost p: { ℕ };
 
@@ -79,8 +82,8 @@ pub trait TowerAlgebra {
     ghost Subset: { Vector → Type 0 };
 }
 
-/// The radical of an algebra over F_p[t]/(f)[x]/(g) by the lift ring (Z/p^n)[t]/(f)[x]/(g): all that holds over an abstract lift
-/// ring, with linear functionals.
+/// The radical of an algebra over F_p[t]/(f)[x]/(g) by the lift ring (Z/p^n)[t]/(f)[x]/(g): all that holds over an
+/// abstract lift ring, with linear functionals.
 pub fn radical_by_lifted_traces<A: TowerAlgebra>()
     ensures { (L : LiftRingOn A.field A.p A.n (TowerElement A.lift))
         × IsTowerLift A.p A.n A.prime.two_le A.two_le_pow A.lift A.residue A.field L

@@ -4,12 +4,12 @@ use Rattle.std.proofs.Common.{refl, sym, ◌∙◌, ap, ap₂, subst}
 use Rattle.theory_rings.specs.Ring.{RingOn}
 use Rattle.theory_rings.proofs.Rings.RingLaws.{add-zero, add-neg, add_cancel_left, zero-mul}
 use Rattle.theory_spaces.specs.Module.{AlgebraOn}
-use Rattle.theory_spaces.proofs.Families.{push, push-below, push-at}
+use Rattle.theory_spaces.proofs.Linear.Families.{push, push-below, push-at}
 use Rattle.theory_orders.specs.Orders.{IsOrder, IsIdeal, Power, Within}
-use Rattle.theory_orders.proofs.SumsOf.{SumOf_in}
-use Rattle.theory_orders.proofs.Chains.{Chain, Chain_inside, chain_in_power, power_in_chains}
+use Rattle.theory_orders.proofs.Lattices.SumsOf.{SumOf_in}
+use Rattle.theory_orders.proofs.Splitting.Chains.{Chain, Chain_inside, chain_in_power, power_in_chains}
 use Rattle.theory_radical.specs.Ideal.{product, ProductsVanish, IsIdeal as IsRingIdeal}
-use Rattle.theory_radical.proofs.NilIdeals.{product_congr}
+use Rattle.theory_radical.proofs.Nilpotent.NilIdeals.{product_congr}
 use Rattle.theory_residue.specs.Residue.{ReductionOn, Reduced, Lifted, ReducedIdeal, LiftedIdeal, EndsCorrespond}
 
 module _ {K E V W : Type 0} {R : RingOn K} {S : RingOn E} (A : AlgebraOn R V) (L N : V → Type 0) (O : IsOrder A L)

@@ -7,16 +7,16 @@ use Rattle.theory_spaces.specs.Module.{ModuleOn, AlgebraOn, module_of}
 use Rattle.theory_spaces.specs.Linear.{InSpan, Basis, BasisOf}
 use Rattle.theory_spaces.specs.Subspaces.{Whole, Kernel}
 use Rattle.theory_spaces.specs.Valuation.{ValuationOn}
-use Rattle.theory_spaces.proofs.Modules.{left_linear}
-use Rattle.theory_spaces.proofs.Spaces.{coords_of}
-use Rattle.theory_spaces.proofs.Kernels.{rank_nullity}
-use Rattle.theory_spaces.proofs.Subspaces.{whole_submodule, whole_basis}
+use Rattle.theory_spaces.proofs.Linear.Modules.{left_linear}
+use Rattle.theory_spaces.proofs.Linear.Spaces.{coords_of}
+use Rattle.theory_spaces.proofs.Linear.Kernels.{rank_nullity}
+use Rattle.theory_spaces.proofs.Linear.Subspaces.{whole_submodule, whole_basis}
 use Rattle.theory_orders.specs.Orders.{IsIdeal, Radical, IsMaximalIdeal, Within, Same}
 use Rattle.theory_orders.specs.Lattices.{Lattice, IsOrderAt}
-use Rattle.theory_orders.proofs.Ideals.{ideal_same}
+use Rattle.theory_orders.proofs.Ideals.Ideals.{ideal_same}
 use Rattle.theory_blocks.specs.MaximalIdeals.{Annihilated, MaximalIdealsBySolutions}
-use Rattle.theory_blocks.proofs.Spans.{linear_eq_zero}
-use Rattle.theory_blocks.proofs.MaximalIdealsFinite.{maximal_ideals_are_finitely_many}
+use Rattle.theory_blocks.proofs.Families.Spans.{linear_eq_zero}
+use Rattle.theory_blocks.proofs.Ideals.MaximalIdealsFinite.{maximal_ideals_are_finitely_many}
 use Rattle.theory_residue.specs.Residue.{ResidueOn, ReductionOn, Reduced, Lifted}
 use Rattle.theory_residue.specs.Semisimple.{RadicalQuotient, MaximalIdealsCounted, MaximalIdealsAreCounted}
 use Rattle.theory_residue.proofs.Correspondence.{of_reduced, lifted_ideal, lifted_over}

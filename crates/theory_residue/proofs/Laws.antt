@@ -7,17 +7,17 @@ use Rattle.theory_spaces.specs.Linear.{InSpan, Basis}
 use Rattle.theory_spaces.specs.Subspaces.{Whole}
 use Rattle.theory_spaces.specs.Algebra.{IdealSpan}
 use Rattle.theory_spaces.specs.Valuation.{ValuationOn, restrict}
-use Rattle.theory_spaces.proofs.Modules.{InSpan-member}
-use Rattle.theory_spaces.proofs.Spaces.{coords_of, basis_of}
+use Rattle.theory_spaces.proofs.Linear.Modules.{InSpan-member}
+use Rattle.theory_spaces.proofs.Linear.Spaces.{coords_of, basis_of}
 use Rattle.theory_orders.specs.Uniformizer.{UniformizerOn}
 use Rattle.theory_orders.specs.Orders.{IsIdeal, Multiple, Radical, SimpleQuotient, IsMaximalIdeal, Within, Same, Test}
 use Rattle.theory_orders.specs.Lattices.{Lattice, IsOrderAt}
 use Rattle.theory_spaces.specs.Sets.{ring_ops}
-use Rattle.theory_spaces.proofs.SetLemmas as lemmas
-use Rattle.theory_orders.proofs.Ideals.{ideal_same}
-use Rattle.theory_orders.proofs.Multiples.{Multiple-zero}
-use Rattle.theory_orders.proofs.LatticeTests.{lattice_test, lattice_test-in, in-lattice_test}
-use Rattle.theory_orders.proofs.Ramified.{spanning}
+use Rattle.theory_spaces.proofs.Algebras.SetLemmas as lemmas
+use Rattle.theory_orders.proofs.Ideals.Ideals.{ideal_same}
+use Rattle.theory_orders.proofs.Lattices.Multiples.{Multiple-zero}
+use Rattle.theory_orders.proofs.Lattices.LatticeTests.{lattice_test, lattice_test-in, in-lattice_test}
+use Rattle.theory_orders.proofs.Splitting.Ramified.{spanning}
 use Rattle.theory_radical.specs.Ideal.{IsLargestNilpotentIdeal}
 use Rattle.theory_blocks.specs.MaximalIdeals.{IsMaximalIdeal as IsMaximalRingIdeal}
 use Rattle.theory_residue.specs.Residue.{ResidueOn, ReductionOn, Reduced, Lifted, ResidueReduction}
@@ -107,7 +107,11 @@ module _ {K E V : Type 0} (F : FieldOn K) (Z : ValuationOn F) (p q : K) (U : Uni
       )
 
       maximal_law : IsMaximalIdeal A p L J ↔ IsMaximalRingIdeal B (InSpan MB m g)
-      maximal_law = (λ h. simple_law.0 h.simple, λ h. record { maximal = record { ideal = I; simple = simple_law.1 h }; over = over })
+      maximal_law = (
+        λ h. simple_law.0 h.simple,
+        λ h.
+            record { maximal = record { ideal = I; simple = simple_law.1 h }; over = over },
+      )
 
     pub lattice_law : (m : ℕ) (u : ℕ → V) → IsIdeal A L (Lattice F Z A m u) → Within N (Lattice F Z A m u)
         → LatticeReduces F Z p k D A n B v R m u

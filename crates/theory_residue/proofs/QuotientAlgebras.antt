@@ -9,11 +9,11 @@ use Rattle.theory_spaces.specs.Linear.{comb, InSpan, Basis, BasisOf, Extension, 
 use Rattle.theory_spaces.specs.Space.{SpaceOn, ProductOn}
 use Rattle.theory_spaces.specs.Subspaces.{Whole}
 use Rattle.theory_spaces.specs.Algebra.{IdealSpan}
-use Rattle.theory_spaces.proofs.Families.{push, push-below, push-above, join, join-above}
-use Rattle.theory_spaces.proofs.Modules.{map-neg, comb_congr, comb_congr_right, comb-push_zero, InSpan_trans}
-use Rattle.theory_spaces.proofs.Spaces.{coords_of, span_basis, extend_basis, Basis-coord}
-use Rattle.theory_spaces.proofs.IndependentVectors.{Independent-at_most}
-use Rattle.theory_spaces.proofs.Tables.{space_basis, algebra_of}
+use Rattle.theory_spaces.proofs.Linear.Families.{push, push-below, push-above, join, join-above}
+use Rattle.theory_spaces.proofs.Linear.Modules.{map-neg, comb_congr, comb_congr_right, comb-push_zero, InSpan_trans}
+use Rattle.theory_spaces.proofs.Linear.Spaces.{coords_of, span_basis, extend_basis, Basis-coord}
+use Rattle.theory_spaces.proofs.Linear.IndependentVectors.{Independent-at_most}
+use Rattle.theory_spaces.proofs.Tuples.Tables.{space_basis, algebra_of}
 use Rattle.theory_radical.specs.Ideal.{IsIdeal}
 use Rattle.theory_residue.specs.Residue.{ReductionOn}
 use Rattle.theory_residue.specs.Semisimple.{QuotientAlgebra}

@@ -7,12 +7,12 @@ use Rattle.theory_spaces.specs.Linear.{InSpan, Basis}
 use Rattle.theory_spaces.specs.Space.{SpaceOn}
 use Rattle.theory_spaces.specs.Algebra.{IdealSpan}
 use Rattle.theory_spaces.specs.Valuation.{ValuationOn, restrict}
-use Rattle.theory_spaces.proofs.Modules.{InSpan-member}
-use Rattle.theory_spaces.proofs.Spaces.{coords_of}
+use Rattle.theory_spaces.proofs.Linear.Modules.{InSpan-member}
+use Rattle.theory_spaces.proofs.Linear.Spaces.{coords_of}
 use Rattle.theory_orders.specs.Uniformizer.{UniformizerOn}
 use Rattle.theory_orders.specs.Orders.{IsIdeal, Multiple, Radical, IsMaximalIdeal, Within, Same}
 use Rattle.theory_orders.specs.Lattices.{Lattice, IsOrderAt}
-use Rattle.theory_orders.proofs.SimpleQuotients.{simple_by_elements}
+use Rattle.theory_orders.proofs.Ideals.SimpleQuotients.{simple_by_elements}
 use Rattle.theory_radical.specs.Ideal.{IsLargestNilpotentIdeal}
 use Rattle.theory_blocks.specs.MaximalIdeals.{IsMaximalIdeal as IsMaximalRingIdeal}
 use Rattle.theory_residue.specs.Residue.{ResidueOn, ReductionOn, Reduced, Lifted, ResidueReduction}

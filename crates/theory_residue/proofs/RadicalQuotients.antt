@@ -6,20 +6,21 @@ use Rattle.theory_rings.proofs.Rings.RingLaws.{add-zero}
 use Rattle.theory_spaces.specs.Module.{ModuleOn, AlgebraOn, module_of}
 use Rattle.theory_spaces.specs.Linear.{comb, InSpan, Basis, IsSubmodule, IsLinear}
 use Rattle.theory_spaces.specs.Subspaces.{Whole}
-use Rattle.theory_spaces.proofs.Families.{join, each_join}
-use Rattle.theory_spaces.proofs.Modules.{map-comb, map-zero, map-neg, comb_congr_right, InSpan-zero, InSpan-add}
-use Rattle.theory_spaces.proofs.Modules.{InSpan-scale, InSpan-member, InSpan_trans, InSpan-join_left, InSpan-join_right}
-use Rattle.theory_spaces.proofs.Modules.{span_in}
+use Rattle.theory_spaces.proofs.Linear.Families.{join, each_join}
+use Rattle.theory_spaces.proofs.Linear.Modules.{map-comb, map-zero, map-neg, comb_congr_right, InSpan-zero, InSpan-add}
+use Rattle.theory_spaces.proofs.Linear.Modules.{InSpan-scale, InSpan-member, InSpan_trans, InSpan-join_left}
+use Rattle.theory_spaces.proofs.Linear.Modules.{InSpan-join_right}
+use Rattle.theory_spaces.proofs.Linear.Modules.{span_in}
 use Rattle.theory_rings.proofs.Rings.RingLaws.{add-neg}
 use Rattle.theory_orders.specs.Orders.{IsOrder, IsIdeal, Power, SimpleByElements, Generated, Within, Same}
-use Rattle.theory_orders.proofs.Ideals.{IdealSum, IdealSum_ideal, generated_in}
-use Rattle.theory_orders.proofs.Chains.{Chain, Chain_inside, chain_in_power}
+use Rattle.theory_orders.proofs.Ideals.Ideals.{IdealSum, IdealSum_ideal, generated_in}
+use Rattle.theory_orders.proofs.Splitting.Chains.{Chain, Chain_inside, chain_in_power}
 use Rattle.theory_radical.specs.Ideal.{product, ProductsVanish, IsNilpotentIdeal, IsLargestNilpotentIdeal}
 use Rattle.theory_radical.specs.Ideal.{IsIdeal as IsRingIdeal}
 use Rattle.theory_blocks.specs.MaximalIdeals.{HasNoNilpotentIdeal}
 use Rattle.theory_residue.specs.Residue.{ReductionOn, Reduced, Lifted}
-use Rattle.theory_radical.proofs.NilIdeals.{product-product}
-use Rattle.theory_spaces.proofs.GeneratedIdeals.{around, around_ideal, around-self, around_within}
+use Rattle.theory_radical.proofs.Nilpotent.NilIdeals.{product-product}
+use Rattle.theory_spaces.proofs.Algebras.GeneratedIdeals.{around, around_ideal, around-self, around_within}
 
 -- a map of an order onto an algebra, and then onto a quotient of that
 module _ {K E V W X : Type 0} {R : RingOn K} {S : RingOn E} (A : AlgebraOn R V) (L N : V → Type 0) (B : AlgebraOn S W)

@@ -7,14 +7,14 @@ use Rattle.theory_rings.proofs.Rings.RingLaws.{mul-zero}
 use Rattle.theory_spaces.specs.Module.{AlgebraOn, module_of}
 use Rattle.theory_spaces.specs.Linear.{InSpan, Basis}
 use Rattle.theory_spaces.specs.Sets.{Whole}
-use Rattle.theory_spaces.proofs.Spaces.{coords_of}
-use Rattle.theory_spaces.proofs.SpanTests.{span_test, span_test-in, in-span_test}
+use Rattle.theory_spaces.proofs.Linear.Spaces.{coords_of}
+use Rattle.theory_spaces.proofs.Linear.SpanTests.{span_test, span_test-in, in-span_test}
 use Rattle.theory_orders.specs.Orders.{IsOrder, IsIdeal, Multiple, Within, Same, Test, Radical, SimpleQuotient}
-use Rattle.theory_orders.proofs.Ideals.{ideal_same, whole}
+use Rattle.theory_orders.proofs.Ideals.Ideals.{ideal_same, whole}
 use Rattle.theory_radical.specs.Ideal.{ProductsVanish, IsNilpotentIdeal, IsLargestNilpotentIdeal}
 use Rattle.theory_radical.specs.Ideal.{IsIdeal as IsRingIdeal}
 use Rattle.theory_blocks.specs.MaximalIdeals.{IsMaximalIdeal}
-use Rattle.theory_spaces.proofs.GeneratedIdeals.{around, around_ideal, around-self, around_within}
+use Rattle.theory_spaces.proofs.Algebras.GeneratedIdeals.{around, around_ideal, around-self, around_within}
 use Rattle.theory_residue.specs.Residue.{ReductionOn, Reduced, Lifted}
 use Rattle.theory_residue.proofs.Correspondence.{of_reduced, reduced_ideal, lifted_ideal, lifted_over, vanish_of_falls}
 use Rattle.theory_residue.proofs.Correspondence.{falls_of_vanish}

@@ -7,9 +7,10 @@ use Rattle.theory_rings.proofs.Sums.Sums.{sum_congr}
 use Rattle.theory_spaces.specs.Module.{ModuleOn, AlgebraOn, module_of}
 use Rattle.theory_spaces.specs.Linear.{comb, InSpan, IsSubmodule}
 use Rattle.theory_spaces.specs.Valuation.{ValuationOn, Integer, integers, restrict}
-use Rattle.theory_spaces.proofs.Families.{join, each_join}
-use Rattle.theory_spaces.proofs.Modules.{comb_congr, scale-sum, InSpan-zero, InSpan-add, InSpan-scale, InSpan-member}
-use Rattle.theory_spaces.proofs.Modules.{InSpan-comb, InSpan_trans, InSpan-join_left, InSpan-join_right, span_in}
+use Rattle.theory_spaces.proofs.Linear.Families.{join, each_join}
+use Rattle.theory_spaces.proofs.Linear.Modules.{comb_congr, scale-sum, InSpan-zero, InSpan-add, InSpan-scale}
+use Rattle.theory_spaces.proofs.Linear.Modules.{InSpan-member}
+use Rattle.theory_spaces.proofs.Linear.Modules.{InSpan-comb, InSpan_trans, InSpan-join_left, InSpan-join_right, span_in}
 use Rattle.theory_orders.specs.Uniformizer.{IsIntegral, UniformizerOn}
 use Rattle.theory_orders.specs.Orders.{IsOrder, Multiple, Within, Same}
 use Rattle.theory_orders.specs.Lattices.{Lattice}

@@ -7,8 +7,8 @@ use Rattle.theory_spaces.specs.Module.{ModuleOn, AlgebraOn, module_of}
 use Rattle.theory_spaces.specs.Linear.{comb, Basis}
 use Rattle.theory_spaces.specs.Space.{SpaceOn, ProductOn}
 use Rattle.theory_spaces.specs.Valuation.{ValuationOn}
-use Rattle.theory_spaces.proofs.Spaces.{Basis-coord}
-use Rattle.theory_spaces.proofs.Tables.{space_basis, space_basis-coord, table_on, coord-unit_mul, algebra_of}
+use Rattle.theory_spaces.proofs.Linear.Spaces.{Basis-coord}
+use Rattle.theory_spaces.proofs.Tuples.Tables.{space_basis, space_basis-coord, table_on, coord-unit_mul, algebra_of}
 use Rattle.theory_orders.specs.Uniformizer.{UniformizerOn}
 use Rattle.theory_orders.specs.Orders.{IsOrder}
 use Rattle.theory_orders.specs.Lattices.{Lattice}

@@ -10,15 +10,15 @@ use Rattle.theory_spaces.specs.Linear.{comb, Coords, Basis}
 use Rattle.theory_spaces.specs.Matrix.{delta}
 use Rattle.theory_spaces.specs.Space.{ProductOn, sum2}
 use Rattle.theory_spaces.specs.Valuation.{ValuationOn, restrict}
-use Rattle.theory_spaces.proofs.Modules.{map-comb, comb_congr, InSpan-member, InSpan-scale}
-use Rattle.theory_spaces.proofs.IndependentVectors.{comb-delta}
-use Rattle.theory_spaces.proofs.Spaces.{coords_of, coord-comb, Basis-coord}
-use Rattle.theory_spaces.proofs.Tables.{sum2_congr, product_left, product_right}
+use Rattle.theory_spaces.proofs.Linear.Modules.{map-comb, comb_congr, InSpan-member, InSpan-scale}
+use Rattle.theory_spaces.proofs.Linear.IndependentVectors.{comb-delta}
+use Rattle.theory_spaces.proofs.Linear.Spaces.{coords_of, coord-comb, Basis-coord}
+use Rattle.theory_spaces.proofs.Tuples.Tables.{sum2_congr, product_left, product_right}
 use Rattle.theory_orders.specs.Uniformizer.{IsIntegral, UniformizerOn}
 use Rattle.theory_orders.specs.Orders.{IsOrder, Multiple}
 use Rattle.theory_orders.specs.Lattices.{Lattice}
-use Rattle.theory_orders.proofs.LatticeTests.{integral_weights, over_integers}
-use Rattle.theory_orders.proofs.Multiples.{Multiple-of}
+use Rattle.theory_orders.proofs.Lattices.LatticeTests.{integral_weights, over_integers}
+use Rattle.theory_orders.proofs.Lattices.Multiples.{Multiple-of}
 use Rattle.theory_residue.specs.Residue.{ResidueOn}
 
 -- the coordinates of a product, by those of the products of the vectors of a basis

@@ -7,8 +7,8 @@ use Rattle.theory_spaces.specs.Linear.{InSpan, Basis}
 use Rattle.theory_spaces.specs.AlgebraMap.{IsSimple}
 use Rattle.theory_spaces.specs.Valuation.{ValuationOn}
 use Rattle.theory_spaces.specs.Sets.{Whole, Zero, ring_ops}
-use Rattle.theory_spaces.proofs.SetLemmas.{simple_same}
-use Rattle.theory_spaces.proofs.SimpleTests.{simple_to_tests, simple_of_tests}
+use Rattle.theory_spaces.proofs.Algebras.SetLemmas.{simple_same}
+use Rattle.theory_spaces.proofs.Algebras.SimpleTests.{simple_to_tests, simple_of_tests}
 use Rattle.theory_orders.specs.Uniformizer.{UniformizerOn}
 use Rattle.theory_orders.specs.Orders.{IsOrder, IsIdeal, Multiple, SimpleQuotient, Within, Same, Test}
 use Rattle.theory_orders.specs.Lattices.{Lattice, IsOrderAt}
@@ -37,7 +37,8 @@ module _ {K E V W : Type 0} {R : RingOn K} (k : FieldOn E) (A : AlgebraOn R V) (
   simple_of_quotient : IsSimple B × (B.one ≡ B.zero → ⊥) → SimpleQuotient A L N
   simple_of_quotient h = simple_of_maximal A L N O B r l decides N I (λ x j. j) (record {
     ideal = reduced_ideal A L N O B r N I;
-    simple = simple_same (ring_ops B.ring) Whole (Zero (ring_ops B.ring)) Red (zeros.1, zeros.0) (simple_to_tests k B d D h);
+    simple = simple_same (ring_ops B.ring) Whole (Zero (ring_ops B.ring)) Red (zeros.1, zeros.0)
+        (simple_to_tests k B d D h);
   })
 
   quotient_of_simple : SimpleQuotient A L N → IsSimple B × (B.one ≡ B.zero → ⊥)

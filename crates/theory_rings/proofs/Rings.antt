@@ -1,4 +1,5 @@
--- Rings and fields: what follows from their laws, a solver of equations, homomorphisms, congruences, the elements of a field.
+-- Rings and fields: what follows from their laws, a solver of equations, homomorphisms, congruences, the elements of a
+-- field.
 pub mod RingLaws
 pub mod Semirings
 pub mod Solver

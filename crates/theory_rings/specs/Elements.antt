@@ -24,7 +24,8 @@ module _ {E : Type 0} (o : Ops E) (L : FieldLaws o) where
       let minus : K → K = λ a. (o.neg a.0, L.neg-elem a.0 a.1) in
       let nought : K = (o.zero, L.zero-elem) in
       let unit : K = (o.one, L.one-elem) in
-      let swap : (a b : K) → times a b ≡ times b a = λ a b. Elem-path o (times a b) (times b a) (L.mul_comm a.0 b.0 a.1 b.1) in
+      let swap : (a b : K) → times a b ≡ times b a = λ a b.
+      Elem-path o (times a b) (times b a) (L.mul_comm a.0 b.0 a.1 b.1) in
       let left : (a : K) → times unit a ≡ a = λ a. Elem-path o (times unit a) a (L.one-mul a.0 a.1) in
       let over : (a b c : K) → times a (plus b c) ≡ plus (times a b) (times a c) =
       λ a b c. Elem-path o (times a (plus b c)) (plus (times a b) (times a c)) (L.mul-add a.0 b.0 c.0 a.1 b.1 c.1) in
@@ -35,7 +36,8 @@ module _ {E : Type 0} (o : Ops E) (L : FieldLaws o) where
               monoid = record {
                 zero = nought;
                 ◌⊕◌ = plus;
-                add_assoc = λ a b c. Elem-path o (plus (plus a b) c) (plus a (plus b c)) (L.add_assoc a.0 b.0 c.0 a.1 b.1 c.1);
+                add_assoc = λ a b c. Elem-path o (plus (plus a b) c) (plus a (plus b c))
+                    (L.add_assoc a.0 b.0 c.0 a.1 b.1 c.1);
                 add_comm = λ a b. Elem-path o (plus a b) (plus b a) (L.add_comm a.0 b.0 a.1 b.1);
                 zero-add = λ a. Elem-path o (plus nought a) a (L.zero-add a.0 a.1);
               };
@@ -44,7 +46,8 @@ module _ {E : Type 0} (o : Ops E) (L : FieldLaws o) where
             };
             one = unit;
             ◌⊗◌ = times;
-            mul_assoc = λ a b c. Elem-path o (times (times a b) c) (times a (times b c)) (L.mul_assoc a.0 b.0 c.0 a.1 b.1 c.1);
+            mul_assoc = λ a b c. Elem-path o (times (times a b) c) (times a (times b c))
+                (L.mul_assoc a.0 b.0 c.0 a.1 b.1 c.1);
             one-mul = left;
             mul-one = λ a. swap a unit ∙ left a;
             mul-add = over;

@@ -1,7 +1,8 @@
--- The numbers below p ^ d, read as d digits in base p, lowest first, with a modulus given by d numbers m_0, .., m_(d − 1).
--- A number stands for the polynomial in t whose coefficients are its digits, over the integers modulo p, and the modulus
--- is t ^ d + m_(d − 1) t ^ (d − 1) + .. + m_0.
-use Rattle.std.specs.Prelude.{◌≡◌, ◌≢◌, ℕ, ◌+◌, ◌*◌, ◌%◌, ◌^◌, ◌<◌, ◌≤◌, List, [], ◌∷◌, ◌++◌, length, get_or, nat_lt, nat_eq}
+-- The numbers below p ^ d, read as d digits in base p, lowest first, with a modulus given by d numbers m_0, .., m_(d −
+-- 1). A number stands for the polynomial in t whose coefficients are its digits, over the integers modulo p, and the
+-- modulus is t ^ d + m_(d − 1) t ^ (d − 1) + .. + m_0.
+use Rattle.std.specs.Prelude.{◌≡◌, ◌≢◌, ℕ, ◌+◌, ◌*◌, ◌%◌, ◌^◌, ◌<◌, ◌≤◌, List, [], ◌∷◌, ◌++◌, length, get_or, nat_lt}
+use Rattle.std.specs.Prelude.{nat_eq}
 use Rattle.theory_rings.specs.Ring.{CommRingOn}
 use Rattle.theory_rings.specs.Ops.{Ops, FieldLaws}
 use Rattle.theory_rings.specs.Elements.{Elem}
@@ -63,8 +64,8 @@ module _ (p : ℕ) (m : List ℕ) where
     pub inv : (a : ℕ) → a < size_by_digits → o.inv a < size_by_digits
     pub mul-inv : (a : ℕ) → a < size_by_digits → a ≢ 0 → IsProductByDigits a (o.inv a) 1
 
--- The numbers below p ^ d with these operations are a ring F, and one copy of the ring Q of the remainders by the modulus M
--- among the polynomials over the integers modulo p: each number goes to the polynomial of its digits
+-- The numbers below p ^ d with these operations are a ring F, and one copy of the ring Q of the remainders by the
+-- modulus M among the polynomials over the integers modulo p: each number goes to the polynomial of its digits
 pub record DigitsAreRemainders (p : ℕ) (two_le : 2 ≤ p) (m : List ℕ) : Type 0 where
   pub F : CommRingOn (Fin (size_by_digits p m))
   pub by_digits : IsRingByDigits p m F
@@ -96,8 +97,10 @@ pub record IsFiniteField (p d : ℕ) (o : Ops ℕ) : Type 0 where
 
 -- a program's operations that are these, with inverses, are a field
 abbrev pub FieldByDigitsLaw : Type 0
-FieldByDigitsLaw = (p : ℕ) → 2 ≤ p → (m : List ℕ) → 1 ≤ length m → (o : Ops ℕ) → IsFieldByDigits p m o → IsFiniteField p (length m) o
+FieldByDigitsLaw = (p : ℕ) → 2 ≤ p → (m : List ℕ) → 1 ≤ length m → (o : Ops ℕ) → IsFieldByDigits p m o
+    → IsFiniteField p (length m) o
 
 -- the integers modulo p are the case of one digit, whatever the modulus
 abbrev pub OneDigitLaw : Type 0
-OneDigitLaw = (p c : ℕ) (inverses : List ℕ) → 2 ≤ p → IsInverseTable p inverses → IsFieldByDigits p (c ∷ []) (mod_ops p inverses)
+OneDigitLaw = (p c : ℕ) (inverses : List ℕ) → 2 ≤ p → IsInverseTable p inverses
+    → IsFieldByDigits p (c ∷ []) (mod_ops p inverses)

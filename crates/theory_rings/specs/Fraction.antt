@@ -25,9 +25,11 @@ module _ {D : Type 0} (C : CommRingOn D) (Lowest : D → D → Type 0) where
   pub record IsFractionField (E : FieldOn (Fraction Lowest)) : Type 0 where
     pub zero_value : IsValue E.zero C.zero C.one
     pub one_value : IsValue E.one C.one C.one
-    pub add_value : (x y : Fraction Lowest) (a b c d : D) → IsValue x a b → IsValue y c d → IsValue (E.◌⊕◌ x y) (a ⊗ d ⊕ c ⊗ b) (b ⊗ d)
+    pub add_value : (x y : Fraction Lowest) (a b c d : D) → IsValue x a b → IsValue y c d
+        → IsValue (E.◌⊕◌ x y) (a ⊗ d ⊕ c ⊗ b) (b ⊗ d)
     pub neg_value : (x : Fraction Lowest) (a b : D) → IsValue x a b → IsValue (E.neg x) (C.neg a) b
-    pub mul_value : (x y : Fraction Lowest) (a b c d : D) → IsValue x a b → IsValue y c d → IsValue (E.◌⊗◌ x y) (a ⊗ c) (b ⊗ d)
+    pub mul_value : (x y : Fraction Lowest) (a b c d : D) → IsValue x a b → IsValue y c d
+        → IsValue (E.◌⊗◌ x y) (a ⊗ c) (b ⊗ d)
 
 -- u / v in lowest terms: v is monic, and only constants divide both
 pub record IsLowest {K : Type 0} (R : CommRingOn K) (P : CommRingOn (Poly R)) (u v : Poly R) : Type 0 where

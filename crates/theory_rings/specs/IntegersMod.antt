@@ -1,5 +1,6 @@
 -- The integers modulo n: the numbers below n with the sum and the product modulo n are a commutative ring.
-use Rattle.std.specs.Prelude.{◌≡◌, ℕ, ◌+◌, ◌-◌, ◌*◌, ◌%◌, ◌<◌, ◌≤◌, Bool, IsTrue, true, nat_lt, nat_eq, List, slice_index}
+use Rattle.std.specs.Prelude.{◌≡◌, ℕ, ◌+◌, ◌-◌, ◌*◌, ◌%◌, ◌<◌, ◌≤◌, Bool, IsTrue, true, nat_lt, nat_eq, List}
+use Rattle.std.specs.Prelude.{slice_index}
 use Rattle.std.proofs.Common.{sym, ◌∙◌, ap, ap₂}
 use Rattle.std.proofs.Math.Bool.{Bool-set}
 use Rattle.std.proofs.Math.Nat as nat
@@ -35,7 +36,8 @@ module _ (n : ℕ) where
   value-lt a = ltb-true a.0 n a.1
 
   pub add_assoc_mod : (a b c : ℕ) → ((a + b) % n + c) % n ≡ (a + (b + c) % n) % n
-  add_assoc_mod a b c = nat.mod-add-mod (a + b) n c ∙ ap (λ x. x % n) (nat.add_assoc a b c) ∙ sym (nat.add-mod-mod a (b + c) n)
+  add_assoc_mod a b c = nat.mod-add-mod (a + b) n c ∙ ap (λ x. x % n) (nat.add_assoc a b c)
+      ∙ sym (nat.add-mod-mod a (b + c) n)
 
   pub add_comm_mod : (a b : ℕ) → (a + b) % n ≡ (b + a) % n
   add_comm_mod a b = ap (λ x. x % n) (nat.add_comm a b)
@@ -50,7 +52,8 @@ module _ (n : ℕ) where
   add-neg_mod a h = add_comm_mod a ((n - a) % n) ∙ neg-add_mod a h
 
   pub mul_assoc_mod : (a b c : ℕ) → ((a * b) % n * c) % n ≡ (a * ((b * c) % n)) % n
-  mul_assoc_mod a b c = mul-mod_first (a * b) c n ∙ ap (λ x. x % n) (nat.mul_assoc a b c) ∙ sym (mul-mod_second a (b * c) n)
+  mul_assoc_mod a b c = mul-mod_first (a * b) c n ∙ ap (λ x. x % n) (nat.mul_assoc a b c)
+      ∙ sym (mul-mod_second a (b * c) n)
 
   pub mul_comm_mod : (a b : ℕ) → (a * b) % n ≡ (b * a) % n
   mul_comm_mod a b = ap (λ x. x % n) (nat.mul_comm a b)
@@ -67,7 +70,8 @@ module _ (n : ℕ) where
       ∙ sym (nat.mod-add-mod (a * b) n ((a * c) % n) ∙ nat.add-mod-mod (a * b) (a * c) n)
 
   pub add-mul_mod : (a b c : ℕ) → ((a + b) % n * c) % n ≡ ((a * c) % n + (b * c) % n) % n
-  add-mul_mod a b c = mul_comm_mod ((a + b) % n) c ∙ mul-add_mod c a b ∙ ap₂ (λ x y. (x + y) % n) (mul_comm_mod c a) (mul_comm_mod c b)
+  add-mul_mod a b c = mul_comm_mod ((a + b) % n) c ∙ mul-add_mod c a b
+      ∙ ap₂ (λ x y. (x + y) % n) (mul_comm_mod c a) (mul_comm_mod c b)
 
 module _ (n : ℕ) (two_le : 2 ≤ n) where
   pub mod-elem : (a : ℕ) → IsTrue (nat_lt (a % n) n)

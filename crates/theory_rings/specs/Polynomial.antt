@@ -79,4 +79,5 @@ module _ {K : Type 0} (R : CommRingOn K) where
     pub coefficient-one : (k : ℕ) → coefficient P.one k ≡ constant_coefficients R.zero R.one k
     pub coefficient-add : (a b : Poly) (k : ℕ) → coefficient (P.◌⊕◌ a b) k ≡ R.◌⊕◌ (coefficient a k) (coefficient b k)
     pub coefficient-neg : (a : Poly) (k : ℕ) → coefficient (P.neg a) k ≡ R.neg (coefficient a k)
-    pub coefficient-mul : (a b : Poly) (k : ℕ) → coefficient (P.◌⊗◌ a b) k ≡ convolution R.ring (coefficient a) (coefficient b) k
+    pub coefficient-mul : (a b : Poly) (k : ℕ)
+        → coefficient (P.◌⊗◌ a b) k ≡ convolution R.ring (coefficient a) (coefficient b) k

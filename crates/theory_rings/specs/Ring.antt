@@ -37,7 +37,24 @@ pub record RingOn (K : Type 0) : Type 0 where
 pub record CommRingOn (K : Type 0) : Type 0 where
   infixl 70 ◌⊗◌
   pub ring : RingOn K
-  pub open ring use {additive, monoid, zero, ◌⊕◌, neg, add_assoc, add_comm, zero-add, neg-add, one, ◌⊗◌, mul_assoc, one-mul, mul-one, mul-add, add-mul}
+  pub open ring use {
+    additive,
+    monoid,
+    zero,
+    ◌⊕◌,
+    neg,
+    add_assoc,
+    add_comm,
+    zero-add,
+    neg-add,
+    one,
+    ◌⊗◌,
+    mul_assoc,
+    one-mul,
+    mul-one,
+    mul-add,
+    add-mul,
+  }
   pub mul_comm : (a b : K) → a ⊗ b ≡ b ⊗ a
 
 -- a test that is true at 0 and at no other value
@@ -49,7 +66,26 @@ pub record ZeroTest {K : Type 0} (zero : K) (is_zero : K → Bool) : Type 0 wher
 pub record FieldOn (K : Type 0) : Type 0 where
   infixl 70 ◌⊗◌
   pub cring : CommRingOn K
-  pub open cring use {ring, additive, monoid, zero, ◌⊕◌, neg, add_assoc, add_comm, zero-add, neg-add, one, ◌⊗◌, mul_assoc, one-mul, mul-one, mul-add, add-mul, mul_comm}
+  pub open cring use {
+    ring,
+    additive,
+    monoid,
+    zero,
+    ◌⊕◌,
+    neg,
+    add_assoc,
+    add_comm,
+    zero-add,
+    neg-add,
+    one,
+    ◌⊗◌,
+    mul_assoc,
+    one-mul,
+    mul-one,
+    mul-add,
+    add-mul,
+    mul_comm,
+  }
   pub inv : K → K
   pub is_zero : K → Bool
   pub zero_test : ZeroTest zero is_zero

@@ -1,4 +1,5 @@
-// The laws of numbers modulo n, of primes and of numbers by their digits: each is the contract of a function that does nothing.
+// The laws of numbers modulo n, of primes and of numbers by their digits: each is the contract of a function that does
+// nothing.
 ghost use Rattle.theory_rings.specs.IntegersMod.{IntegersModLaw, FieldModLaw};
 ghost use Rattle.theory_rings.specs.Prime.{PrimeLaw, FermatLaw};
 ghost use Rattle.theory_rings.specs.Digits.{DigitsLaw};

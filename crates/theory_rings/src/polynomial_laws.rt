@@ -1,5 +1,7 @@
 // The laws of polynomials: each is the contract of a function that does nothing.
-ghost use Rattle.theory_rings.specs.PolynomialLaws.{HasPolynomialRing, HasDivision, HasRemainderRings, EvaluationIsHom, HasGcd, IrreducibleIsPrime, HasRemainderFields, HasLowestTerms, HasRationalFunctions};
+ghost use Rattle.theory_rings.specs.PolynomialLaws.{HasPolynomialRing, HasDivision, HasRemainderRings, EvaluationIsHom};
+ghost use Rattle.theory_rings.specs.PolynomialLaws.{HasGcd, IrreducibleIsPrime, HasRemainderFields, HasLowestTerms};
+ghost use Rattle.theory_rings.specs.PolynomialLaws.{HasRationalFunctions};
 
 use crate::structures::{CommutativeRing, FieldStructure};
 

@@ -19,7 +19,24 @@ pub record ModuleOn {K : Type 0} (R : RingOn K) (V : Type 0) : Type 0 where
 pub record AlgebraOn {K : Type 0} (R : RingOn K) (V : Type 0) : Type 0 where
   infixl 70 ◌•◌
   pub ring : RingOn V
-  pub open ring use {additive, monoid, zero, ◌⊕◌, neg, add_assoc, add_comm, zero-add, neg-add, one, ◌⊗◌, mul_assoc, one-mul, mul-one, mul-add, add-mul}
+  pub open ring use {
+    additive,
+    monoid,
+    zero,
+    ◌⊕◌,
+    neg,
+    add_assoc,
+    add_comm,
+    zero-add,
+    neg-add,
+    one,
+    ◌⊗◌,
+    mul_assoc,
+    one-mul,
+    mul-one,
+    mul-add,
+    add-mul,
+  }
   pub ◌•◌ : K → V → V
   pub scale-add : (a : K) (x y : V) → a • (x ⊕ y) ≡ (a • x) ⊕ (a • y)
   pub add-scale : (a b : K) (x : V) → (R.◌⊕◌ a b) • x ≡ (a • x) ⊕ (b • x)

@@ -38,11 +38,13 @@ module _ {V : Type 0} (G : AddCommGroupOn V) (S : SubgroupOn G) where
 
   pub near-add_left : (a b c : V) → Near b c → Near (a ⊕ b) (a ⊕ c)
   near-add_left a b c h = to_test (b ⊕ neg c) ((a ⊕ b) ⊕ neg (a ⊕ c))
-      (sym (ap (λ x. (a ⊕ b) ⊕ x) (neg_add G a c) ∙ add_add_add_comm G.monoid a b (neg a) (neg c) ∙ ap (λ x. x ⊕ (b ⊕ neg c)) (add-neg G a) ∙ G.zero-add (b ⊕ neg c))) h
+      (sym (ap (λ x. (a ⊕ b) ⊕ x) (neg_add G a c) ∙ add_add_add_comm G.monoid a b (neg a) (neg c)
+      ∙ ap (λ x. x ⊕ (b ⊕ neg c)) (add-neg G a) ∙ G.zero-add (b ⊕ neg c))) h
 
   pub near-add_right : (a b c : V) → Near b c → Near (b ⊕ a) (c ⊕ a)
   near-add_right a b c h =
-      to_test ((a ⊕ b) ⊕ neg (a ⊕ c)) ((b ⊕ a) ⊕ neg (c ⊕ a)) (ap₂ (λ x y. x ⊕ neg y) (G.add_comm a b) (G.add_comm a c)) (near-add_left a b c h)
+      to_test ((a ⊕ b) ⊕ neg (a ⊕ c)) ((b ⊕ a) ⊕ neg (c ⊕ a))
+      (ap₂ (λ x y. x ⊕ neg y) (G.add_comm a b) (G.add_comm a c)) (near-add_left a b c h)
 
   pub near-neg : (b c : V) → Near b c → Near (neg b) (neg c)
   near-neg b c h = to_test (neg (b ⊕ neg c)) (neg b ⊕ neg (neg c)) (neg_add G b (neg c)) (S.test-neg (b ⊕ neg c) h)
@@ -54,7 +56,8 @@ module _ {V : Type 0} (G : AddCommGroupOn V) (S : SubgroupOn G) where
   classes_set = Quot-set {r = Near}
 
   abbrev pub plus : Classes → Classes → Classes
-  plus = lift (Π_set (λ _. classes_set)) (λ a. lift classes_set (λ b. cls (a ⊕ b)) (λ b c h. near-cls (a ⊕ b) (a ⊕ c) (near-add_left a b c h)))
+  plus = lift (Π_set (λ _. classes_set))
+      (λ a. lift classes_set (λ b. cls (a ⊕ b)) (λ b c h. near-cls (a ⊕ b) (a ⊕ c) (near-add_left a b c h)))
       (λ b c h. fun_ext (ind (λ q. classes_set _ _) (λ a. near-cls (b ⊕ a) (c ⊕ a) (near-add_right a b c h))))
 
   abbrev pub minus : Classes → Classes
@@ -66,8 +69,11 @@ module _ {V : Type 0} (G : AddCommGroupOn V) (S : SubgroupOn G) where
     monoid = record {
       zero = cls G.zero;
       ◌⊕◌ = plus;
-      add_assoc = ind (λ p. Π_prop (λ q. Π_prop (λ r. classes_set _ _))) (λ a. ind (λ q. Π_prop (λ r. classes_set _ _)) (λ b. ind (λ r. classes_set _ _) (λ c. ap cls (G.add_assoc a b c))));
-      add_comm = ind (λ p. Π_prop (λ q. classes_set _ _)) (λ a. ind (λ q. classes_set _ _) (λ b. ap cls (G.add_comm a b)));
+      add_assoc = ind (λ p. Π_prop (λ q. Π_prop (λ r. classes_set _ _)))
+          (λ a. ind (λ q. Π_prop (λ r. classes_set _ _))
+          (λ b. ind (λ r. classes_set _ _) (λ c. ap cls (G.add_assoc a b c))));
+      add_comm = ind (λ p. Π_prop (λ q. classes_set _ _))
+          (λ a. ind (λ q. classes_set _ _) (λ b. ap cls (G.add_comm a b)));
       zero-add = ind (λ q. classes_set _ _) (λ a. ap cls (G.zero-add a));
     };
     neg = minus;
@@ -90,7 +96,8 @@ module _ {K V : Type 0} {R : RingOn K} (M : ModuleOn R V) (S : SubmoduleOn M) wh
     test = S.test;
     test-zero = S.closed.zero-in;
     test-add = S.closed.add-in;
-    test-neg = λ a h. let P : V → Type 0 = λ x. IsTrue (S.test x) in subst P (neg_one-scale M a) (S.closed.scale-in (R.neg R.one) a h);
+    test-neg = λ a h. let P : V
+        → Type 0 = λ x. IsTrue (S.test x) in subst P (neg_one-scale M a) (S.closed.scale-in (R.neg R.one) a h);
   }
 
   abbrev pub ModuleClasses : Type 0
@@ -104,14 +111,16 @@ module _ {K V : Type 0} {R : RingOn K} (M : ModuleOn R V) (S : SubmoduleOn M) wh
       (M.scale-add a b (neg c) ∙ ap (λ x. a • b ⊕ x) (scale-neg M a c)) (S.closed.scale-in a (b ⊕ neg c) h)
 
   abbrev pub scaled : K → ModuleClasses → ModuleClasses
-  scaled a = lift (classes_set M.additive subgroup_of) (λ x. module_cls (a • x)) (λ b c h. near-cls M.additive subgroup_of (a • b) (a • c) (near-scale a b c h))
+  scaled a = lift (classes_set M.additive subgroup_of) (λ x. module_cls (a • x))
+      (λ b c h. near-cls M.additive subgroup_of (a • b) (a • c) (near-scale a b c h))
 
   -- the module of the classes
   abbrev pub quotient_module : ModuleOn R ModuleClasses
   quotient_module = record {
     additive = quotient M.additive subgroup_of;
     ◌•◌ = scaled;
-    scale-add = λ a. ind (λ p. Π_prop (λ q. classes_set M.additive subgroup_of _ _)) (λ x. ind (λ q. classes_set M.additive subgroup_of _ _) (λ y. ap module_cls (M.scale-add a x y)));
+    scale-add = λ a. ind (λ p. Π_prop (λ q. classes_set M.additive subgroup_of _ _))
+        (λ x. ind (λ q. classes_set M.additive subgroup_of _ _) (λ y. ap module_cls (M.scale-add a x y)));
     add-scale = λ a b. ind (λ q. classes_set M.additive subgroup_of _ _) (λ x. ap module_cls (M.add-scale a b x));
     mul-scale = λ a b. ind (λ q. classes_set M.additive subgroup_of _ _) (λ x. ap module_cls (M.mul-scale a b x));
     one-scale = ind (λ q. classes_set M.additive subgroup_of _ _) (λ x. ap module_cls (M.one-scale x));

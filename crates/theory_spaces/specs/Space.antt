@@ -28,5 +28,6 @@ abbrev pub sum2 : {K : Type 0} (R : RingOn K) → ℕ → (ℕ → ℕ → K) �
 sum2 R n f = sum R.monoid n (λ i. sum R.monoid n (λ j. f i j))
 
 -- the product whose coordinate k is the sum of x i · y j · g i j k
-abbrev pub table_product : {K V : Type 0} {R : RingOn K} (M : ModuleOn R V) (n : ℕ) → SpaceOn M n → (ℕ → ℕ → ℕ → K) → V → V → V
+abbrev pub table_product : {K V : Type 0} {R : RingOn K} (M : ModuleOn R V) (n : ℕ) → SpaceOn M n → (ℕ → ℕ → ℕ → K)
+    → V → V → V
 table_product {R} M n S g x y = S.make (λ k. sum2 R n (λ i j. R.◌⊗◌ (R.◌⊗◌ (S.coord x i) (S.coord y j)) (g i j k)))

@@ -49,7 +49,8 @@ product o n cs a b =
 -- the products of the constants are associative: (e i · e j) · e k is e i · (e j · e k) for all vectors of the basis
 abbrev pub AssociativeTable : {E : Type 0} → Ops E → ℕ → List E → Type 0
 AssociativeTable o n cs = (i j k : ℕ) → i < n → j < n → k < n
-    → product o n cs (product o n cs (basis o n i) (basis o n j)) (basis o n k) ≡ product o n cs (basis o n i) (product o n cs (basis o n j) (basis o n k))
+    → product o n cs (product o n cs (basis o n i) (basis o n j)) (basis o n k) ≡ product o n cs (basis o n i)
+    (product o n cs (basis o n j) (basis o n k))
 
 -- one is a tuple by which the products with the vectors of the basis are these
 pub record IsTableOne {E : Type 0} (o : Ops E) (n : ℕ) (cs one : List E) : Type 0 where
@@ -58,7 +59,8 @@ pub record IsTableOne {E : Type 0} (o : Ops E) (n : ℕ) (cs one : List E) : Typ
   pub mul-one : (i : ℕ) → i < n → product o n cs (basis o n i) one ≡ basis o n i
 
 -- the operations of an algebra on the tuples are those on lists
-pub record IsTableAlgebra {E : Type 0} (o : Ops E) (L : FieldLaws o) (n : ℕ) (cs : List E) (A : AlgebraOn (elements o L).ring (Tuple o n)) : Type 0 where
+pub record IsTableAlgebra {E : Type 0} (o : Ops E) (L : FieldLaws o) (n : ℕ) (cs : List E)
+    (A : AlgebraOn (elements o L).ring (Tuple o n)) : Type 0 where
   pub zero-is : A.zero.0 ≡ tuple_zero o n
   pub add-is : (a b : Tuple o n) → (A.◌⊕◌ a b).0 ≡ tuple_add o n a.0 b.0
   pub neg-is : (a : Tuple o n) → (A.neg a).0 ≡ tuple_neg o n a.0

@@ -63,7 +63,8 @@ module _ {K : Type 0} (F : FieldOn K) (W : ValuationOn F) where
   }
 
 -- independent vectors whose combinations with integral weights are those of v 0, .., v (n − 1)
-pub record LatticeBasis {K V : Type 0} (F : FieldOn K) (W : ValuationOn F) (M : ModuleOn F.ring V) (n : ℕ) (v : ℕ → V) : Type 0 where
+pub record LatticeBasis {K V : Type 0} (F : FieldOn K) (W : ValuationOn F) (M : ModuleOn F.ring V) (n : ℕ)
+    (v : ℕ → V) : Type 0 where
   pub rank : ℕ
   pub vec : ℕ → V
   pub independent : Independent M rank vec

@@ -4,7 +4,9 @@ ghost use Rattle.theory_rings.specs.Ring.{FieldOn};
 ghost use Rattle.theory_spaces.specs.Module.{ModuleOn, module_of};
 ghost use Rattle.theory_spaces.specs.Linear.{comb, InSpan, Independent, Basis, BasisOf};
 ghost use Rattle.theory_spaces.specs.Matrix.{delta, mat_mul};
-ghost use Rattle.theory_spaces.specs.Form.{IsBilinear, IsSymmetric, IsAssociative, IsNondegenerate, NondegenerateOrNot, flip, gram, transpose, InRadical, Orthogonal, DualBasis, OrthogonalBasis, trace_form};
+ghost use Rattle.theory_spaces.specs.Form.{IsBilinear, IsSymmetric, IsAssociative, IsNondegenerate, NondegenerateOrNot};
+ghost use Rattle.theory_spaces.specs.Form.{flip, gram, transpose, InRadical, Orthogonal, DualBasis, OrthogonalBasis};
+ghost use Rattle.theory_spaces.specs.Form.{trace_form};
 
 use crate::algebra_laws::BasedAlgebra;
 
@@ -32,28 +34,31 @@ pub trait FormOn {
 /// inverse to each other.
 pub fn dual_basis<B: FormOn>()
     ensures exists { IsNondegenerate B.space B.form → DualBasis B.space B.form B.dimension B.basis }
-    ensures unique { (D E : DualBasis B.space B.form B.dimension B.basis) (j : ℕ) → j < B.dimension → D.basis.vec j ≡ E.basis.vec j }
+    ensures unique { (D E : DualBasis B.space B.form B.dimension B.basis) (j : ℕ) → j < B.dimension
+        → D.basis.vec j ≡ E.basis.vec j }
     ensures coordinates { (D : DualBasis B.space B.form B.dimension B.basis) (x : B.Vector)
         → x ≡ comb B.space B.dimension (λ i. B.form x (D.basis.vec i)) B.basis.vec }
     ensures dual_coordinates { (D : DualBasis B.space B.form B.dimension B.basis) (x : B.Vector)
         → x ≡ comb B.space B.dimension (λ i. B.form (B.basis.vec i) x) D.basis.vec }
     ensures gram { (D : DualBasis B.space B.form B.dimension B.basis) (i j : ℕ) → i < B.dimension → j < B.dimension
-        → mat_mul B.field.ring B.dimension (gram B.space B.form B.basis.vec) (transpose (gram B.space B.form D.basis.vec)) i j
+        → mat_mul B.field.ring B.dimension (gram B.space B.form B.basis.vec)
+        (transpose (gram B.space B.form D.basis.vec)) i j
         ≡ delta B.field.ring i j }
     ensures only_nondegenerate { DualBasis B.space B.form B.dimension B.basis → IsNondegenerate B.space B.form }
 {}
 
-/// Under a nondegenerate form the dimensions of a subspace and of what is orthogonal to it sum to that of the space, and
-/// what is orthogonal to all the latter is the subspace again.
+/// Under a nondegenerate form the dimensions of a subspace and of what is orthogonal to it sum to that of the space,
+/// and what is orthogonal to all the latter is the subspace again.
 pub fn dimension_of_orthogonal<B: FormOn>()
     ensures dimension { IsNondegenerate B.space B.form → (k : ℕ) (u : ℕ → B.Vector) → Independent B.space k u
         → OrthogonalBasis B.space B.form (InSpan B.space k u) k B.dimension }
     ensures twice { IsNondegenerate B.space B.form → (k : ℕ) (u : ℕ → B.Vector) → Independent B.space k u
-        → (y : B.Vector) → Orthogonal B.space (flip B.form) (Orthogonal B.space B.form (InSpan B.space k u)) y → InSpan B.space k u y }
+        → (y : B.Vector) → Orthogonal B.space (flip B.form) (Orthogonal B.space B.form (InSpan B.space k u)) y
+        → InSpan B.space k u y }
 {}
 
-/// The vectors that are orthogonal to everything have a basis, so whether there are others than 0 can be told. A form is
-/// nondegenerate from both sides or from none.
+/// The vectors that are orthogonal to everything have a basis, so whether there are others than 0 can be told. A form
+/// is nondegenerate from both sides or from none.
 pub fn radical_of_form<B: FormOn>()
     ensures basis { (r : ℕ) × BasisOf B.space r (InRadical B.space B.form) }
     ensures decided { NondegenerateOrNot B.space B.form }

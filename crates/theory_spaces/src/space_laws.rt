@@ -2,7 +2,8 @@
 ghost use Rattle.std.specs.Prelude.{◌≡◌, ℕ, ◌+◌, ◌<◌, IsTrue};
 ghost use Rattle.theory_rings.specs.Ring.{FieldOn};
 ghost use Rattle.theory_spaces.specs.Module.{ModuleOn};
-ghost use Rattle.theory_spaces.specs.Linear.{Exchange, Coords, Basis, BasisOf, Independent, Extension, IsSubmodule, IsLinear};
+ghost use Rattle.theory_spaces.specs.Linear.{Exchange, Coords, Basis, BasisOf, Independent, Extension, IsSubmodule};
+ghost use Rattle.theory_spaces.specs.Linear.{IsLinear};
 ghost use Rattle.theory_spaces.specs.Subspaces.{RankNullity, SumAndMeet, QuotientBasis};
 ghost use Rattle.theory_spaces.specs.Quotient.{SubmoduleOn};
 ghost use Rattle.theory_spaces.specs.Valuation.{ValuationOn, LatticeBasis};
@@ -30,7 +31,8 @@ pub fn dimension_is_unique<S: Space>()
 
 /// Independent vectors are the first of a basis.
 pub fn independent_vectors_extend<S: Space>()
-    ensures { (n : ℕ) → Basis S.space n → (k : ℕ) (u : ℕ → S.Vector) → Independent S.space k u → Extension S.space k u n }
+    ensures { (n : ℕ) → Basis S.space n → (k : ℕ) (u : ℕ → S.Vector) → Independent S.space k u
+        → Extension S.space k u n }
 {}
 
 /// The quotient of a space of dimension n by a tested subspace of dimension k has the dimension that is left.
@@ -97,7 +99,8 @@ pub trait TwoSubspaces {
 
 /// The dimensions of the sum and the meet sum to those of the two.
 pub fn dimensions_of_sum_and_meet<T: TwoSubspaces>()
-    ensures { (k l : ℕ) → BasisOf T.space k T.Left → BasisOf T.space l T.Right → SumAndMeet T.space T.Left T.Right (k + l) }
+    ensures { (k l : ℕ) → BasisOf T.space k T.Left → BasisOf T.space l T.Right
+        → SumAndMeet T.space T.Left T.Right (k + l) }
 {}
 
 /// A space of finitely many coordinates over a field with a valuation ring.

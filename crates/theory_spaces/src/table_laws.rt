@@ -16,6 +16,7 @@ pub fn associative_by_basis<E>()
 
 /// An associative table with a one makes the tuples an algebra with a basis.
 pub fn table_is_algebra<E>()
-    ensures { (o : Ops E) (L : FieldLaws o) (n : ℕ) (cs one : List E) → All (IsElem o) cs → AssociativeTable o n cs → IsTableOne o n cs one
+    ensures { (o : Ops E) (L : FieldLaws o) (n : ℕ) (cs one : List E) → All (IsElem o) cs → AssociativeTable o n cs
+        → IsTableOne o n cs one
         → (A : AlgebraOn (elements o L).ring (Tuple o n)) × IsTableAlgebra o L n cs A × Basis (module_of A) n }
 {}

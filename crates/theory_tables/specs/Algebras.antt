@@ -43,8 +43,8 @@ module _ {E : Type 0} (o : Ops E) (m : ℕ) (cs : List E) where
   abbrev pub SpansAll : List (List E) → Type 0
   SpansAll rows = (v : List E) → IsTuple o m v → InSpan o m rows v
 
-  -- an associative algebra with identity, whose centre is the multiples of the identity, and in which each ideal is 0 or
-  -- everything
+  -- an associative algebra with identity, whose centre is the multiples of the identity, and in which each ideal is 0
+  -- or everything
   pub record IsCentralSimple : Type 0 where
     pub associative : AssociativeTable o m cs
     pub centre : HasSmallCentre

@@ -25,7 +25,8 @@ pub record IsInvertible {E : Type 0} (o : Ops E) (h : ℕ) (m : List (List E)) :
 
 -- rows is the reduced row echelon form of the h by w matrix a, with these pivots; transform·a = rows, and transform is
 -- invertible
-pub record IsEchelon {E : Type 0} (o : Ops E) (h w : ℕ) (a rows : List (List E)) (pivots : List ℕ) (transform : List (List E)) : Type 0 where
+pub record IsEchelon {E : Type 0} (o : Ops E) (h w : ℕ) (a rows : List (List E)) (pivots : List ℕ)
+    (transform : List (List E)) : Type 0 where
   pub rows_shape : IsMatrix o w rows
   pub rows_height : length rows ≡ h
   pub transform_shape : IsMatrix o h transform

@@ -1,5 +1,5 @@
--- Examples of algebras by their structure constants: that of the 2 by 2 matrices, which is split, and a field with a square
--- root of p, which is ramified at p.
+-- Examples of algebras by their structure constants: that of the 2 by 2 matrices, which is split, and a field with a
+-- square root of p, which is ramified at p.
 use Rattle.std.specs.Prelude.{List, [], ◌∷◌, ◌++◌}
 use Rattle.theory_rings.specs.Ops.{Ops}
 
@@ -22,7 +22,8 @@ module _ {E : Type 0} (o : Ops E) where
   abbrev pub row_22 : List E
   row_22 = o.zero ∷ (o.zero ∷ (o.zero ∷ (o.one ∷ [])))
 
-  -- the 64 constants, with c·b_2 for b_1·b_2: the products of b_1 with b_1, b_2, b_3 and b_4, then those of b_2, b_3 and b_4
+  -- the 64 constants, with c·b_2 for b_1·b_2: the products of b_1 with b_1, b_2, b_3 and b_4, then those of b_2, b_3
+  -- and b_4
   abbrev pub matrix_table_with : E → List E
   matrix_table_with c =
       row_11 ++ (row_12 c ++ (row_zero ++ (row_zero
@@ -48,8 +49,8 @@ module _ {E : Type 0} (o : Ops E) where
       square o.one o.zero o.zero o.zero ∷ (square o.zero o.one o.zero o.zero
       ∷ (square o.zero o.zero o.one o.zero ∷ (square o.zero o.zero o.zero o.one ∷ [])))
 
--- the field with a square root of p: the basis 1 and w with w·w = p. The integral combinations of 1 and w are an order, and
--- those of p and w its radical
+-- the field with a square root of p: the basis 1 and w with w·w = p. The integral combinations of 1 and w are an order,
+-- and those of p and w its radical
 abbrev pub pair : {E : Type 0} → E → E → List E
 pair a b = a ∷ (b ∷ [])
 

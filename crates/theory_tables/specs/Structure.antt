@@ -28,7 +28,8 @@ module _ {E : Type 0} (o : Ops E) (A : Structure E) where
 
   -- (b_i·b_j)·b_k and b_i·(b_j·b_k) are the same
   abbrev pub AssociatesAt : ℕ → ℕ → ℕ → Type 0
-  AssociatesAt i j k = product_of (product_of (basis_of i) (basis_of j)) (basis_of k) ≡ product_of (basis_of i) (product_of (basis_of j) (basis_of k))
+  AssociatesAt i j k = product_of (product_of (basis_of i) (basis_of j)) (basis_of k) ≡ product_of (basis_of i)
+      (product_of (basis_of j) (basis_of k))
 
   -- at all triples of basis elements
   abbrev pub IsAssociative : Type 0
@@ -36,7 +37,8 @@ module _ {E : Type 0} (o : Ops E) (A : Structure E) where
 
   -- every three elements associate
   abbrev pub AllAssociate : Type 0
-  AllAssociate = (a b c : List E) → IsElement a → IsElement b → IsElement c → product_of (product_of a b) c ≡ product_of a (product_of b c)
+  AllAssociate = (a b c : List E) → IsElement a → IsElement b → IsElement c
+      → product_of (product_of a b) c ≡ product_of a (product_of b c)
 
 -- an algebra that is associative at its basis is so everywhere
 abbrev pub AssociativeEverywhere : {E : Type 0} → Ops E → Type 0

@@ -14,7 +14,8 @@ pub record Rows (E : Type 0) : Type 0 where
 module _ {E : Type 0} (o : Ops E) where
   -- v is a combination of the rows, with w columns
   abbrev pub InSpan : ℕ → List (List E) → List E → Type 0
-  InSpan w rows v = (c : List E) × IsTuple o (length rows) c × ((j : ℕ) → j < w → at o v j ≡ sum_of o (length rows) (λ i. o.mul (at o c i) (entry o rows i j)))
+  InSpan w rows v = (c : List E) × IsTuple o (length rows) c
+      × ((j : ℕ) → j < w → at o v j ≡ sum_of o (length rows) (λ i. o.mul (at o c i) (entry o rows i j)))
 
   -- two matrices with w columns have the same combinations
   abbrev pub SameSpan : ℕ → List (List E) → List (List E) → Type 0
@@ -64,7 +65,8 @@ module _ {E : Type 0} (o : Ops E) where
 
   -- subspaces with the same vectors have the same basis in reduced row echelon form
   abbrev pub SameSubspaceSameRows : Type 0
-  SameSubspaceSameRows = (w : ℕ) (a b : List (List E)) → IsReducedBasis w a → IsReducedBasis w b → SameSpan w a b → a ≡ b
+  SameSubspaceSameRows = (w : ℕ) (a b : List (List E)) → IsReducedBasis w a → IsReducedBasis w b → SameSpan w a b
+      → a ≡ b
 
   -- a basis in reduced row echelon form is independent
   abbrev pub ReducedBasisIsIndependent : Type 0

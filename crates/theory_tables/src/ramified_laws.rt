@@ -20,9 +20,10 @@ pub fn ramified_excludes_split<F: PlacedTuples>()
         → SplitClaim F.ops m cs n maps units → ⊥ }
 {}
 
-/// Where p isn't a unit, the field with a square root w of p has a ramified place: the order is the integral combinations
-/// of 1 and w, and its radical those of p and w.
+/// Where p isn't a unit, the field with a square root w of p has a ramified place: the order is the integral
+/// combinations of 1 and w, and its radical those of p and w.
 pub fn ramified_claim_exists<F: PlacedTuples>()
     ensures root { (IsTrue (F.valuation.integral F.q) → ⊥)
-        → RamifiedTable F.ops F.laws 2 (root_table F.ops F.p.0) F.valuation F.p (root_order F.ops F.p.0) (root_radical F.ops F.p.0) }
+        → RamifiedTable F.ops F.laws 2 (root_table F.ops F.p.0) F.valuation F.p (root_order F.ops F.p.0)
+        (root_radical F.ops F.p.0) }
 {}

@@ -1,5 +1,5 @@
-// Split algebras are central simple, and a claim of a splitting is one. Examples of the claims: the algebra of the 2 by 2
-// matrices is split, maps that are 0 split nothing, and a table with one constant changed isn't associative.
+// Split algebras are central simple, and a claim of a splitting is one. Examples of the claims: the algebra of the 2 by
+// 2 matrices is split, maps that are 0 split nothing, and a table with one constant changed isn't associative.
 ghost use Rattle.std.specs.Prelude.{◌≡◌, ◌≢◌, ◌≤◌, ◌*◌, ℕ, List};
 ghost use Rattle.theory_rings.specs.Ops.{Ops, IsElem, FieldLaws};
 ghost use Rattle.theory_tables.specs.Laws.{SplitIsCentralSimple};
@@ -14,12 +14,13 @@ pub fn split_is_central_simple<E>()
 
 /// A claim of a splitting of an algebra of dimension n² by matrices of size n is one.
 pub fn split_claim_splits<E>()
-    ensures splits { (o : Ops E) → FieldLaws o → (m n : ℕ) (cs : List E) (maps : List (List (List E))) (units : List (List E)) → m ≡ n * n
+    ensures splits { (o : Ops E) → FieldLaws o
+        → (m n : ℕ) (cs : List E) (maps : List (List (List E))) (units : List (List E)) → m ≡ n * n
         → SplitClaim o m cs n maps units → IsSplitBy o m cs n maps }
 {}
 
-/// The algebra of the 2 by 2 matrices, with the basis E_11, E_12, E_21 and E_22, is split by these matrices, in the words
-/// of the definition and of a claim.
+/// The algebra of the 2 by 2 matrices, with the basis E_11, E_12, E_21 and E_22, is split by these matrices, in the
+/// words of the definition and of a claim.
 pub fn matrices_are_split<E>()
     ensures split { (o : Ops E) → FieldLaws o → IsSplitBy o 4 (matrix_table o) 2 (unit_maps o) }
     ensures claim { (o : Ops E) → FieldLaws o → SplitClaim o 4 (matrix_table o) 2 (unit_maps o) (matrix_basis o) }
@@ -27,14 +28,16 @@ pub fn matrices_are_split<E>()
 
 /// No claim that an algebra is split holds with maps that are 0.
 pub fn zero_maps_split_nothing<E>()
-    ensures nothing { (o : Ops E) → FieldLaws o → (m n : ℕ) (cs : List E) (maps : List (List (List E))) (units : List (List E)) → 1 ≤ n
+    ensures nothing { (o : Ops E) → FieldLaws o
+        → (m n : ℕ) (cs : List E) (maps : List (List (List E))) (units : List (List E)) → 1 ≤ n
         → ((k r s : ℕ) → map_entry o maps k r s ≡ o.zero) → SplitClaim o m cs n maps units → ⊥ }
 {}
 
 /// With c·b_2 for the product b_1·b_2 of the 2 by 2 matrices, where c·c isn't c, the two products of b_1, b_1 and b_2
 /// differ. So it is with 2, where that isn't 0.
 pub fn changed_constant_breaks_a_triple<E>()
-    ensures any { (o : Ops E) → FieldLaws o → (c : E) → IsElem o c → o.mul c c ≢ c → TripleClaim o 4 (matrix_table_with o c) 1 1 2 }
+    ensures any { (o : Ops E) → FieldLaws o → (c : E) → IsElem o c → o.mul c c ≢ c
+        → TripleClaim o 4 (matrix_table_with o c) 1 1 2 }
     ensures two { (o : Ops E) → FieldLaws o → o.add o.one o.one ≢ o.zero
         → TripleClaim o 4 (matrix_table_with o (o.add o.one o.one)) 1 1 2 }
 {}

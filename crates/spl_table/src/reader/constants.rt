@@ -61,7 +61,8 @@ pub fn constant_of(
     value: &FractionWords,
 ) -> Result<Fraction, NoMemory>
     requires form { IsFractionText (text_of value.now) }
-    requires elements { AllByRecursion (AllByRecursion (λ c. c < size_of (field_of k.now))) (lists_of (text_of value.now)) }
+    requires elements { AllByRecursion (AllByRecursion (λ c. c < size_of (field_of k.now)))
+        (lists_of (text_of value.now)) }
     requires denominator { IsOverZero (text_of value.now) → ⊥ }
     ensures elem { IfOk result (IsElem (fractions_over (field_of k.now))) }
     ensures value { IfOk result (IsConstant (small_ops (field_of k.now)) (Some (text_of value.now))) }
@@ -82,7 +83,8 @@ pub fn push_zeros(
     count: usize,
 ) -> Result<(), NoMemory>
     requires { length constants.old ≤ count }
-    ensures items { OnOk result (constants.new ≡ constants.old ++ replicate (count - length constants.old) ([], 1 ∷ [])) }
+    ensures items { OnOk result
+        (constants.new ≡ constants.old ++ replicate (count - length constants.old) ([], 1 ∷ [])) }
     ensures over { All (IsElem (fractions_over (field_of k.now))) constants.old
         → OnOk result (All (IsElem (fractions_over (field_of k.now))) constants.new) }
 {

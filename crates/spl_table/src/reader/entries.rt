@@ -1,5 +1,6 @@
 // The entries of a table text, up to the line `end`.
-ghost use Rattle.std.specs.Prelude.{◌≡◌, ℕ, ◌≤◌, ◌-◌, ◌*◌, ◌++◌, ◌∷◌, [], length, replicate, All, IfOk, IfErr, Some, OnOk};
+ghost use Rattle.std.specs.Prelude.{◌≡◌, ℕ, ◌≤◌, ◌-◌, ◌*◌, ◌++◌, ◌∷◌, [], length, replicate, All, IfOk, IfErr, Some};
+ghost use Rattle.std.specs.Prelude.{OnOk};
 ghost use Rattle.theory_rings.specs.Ops.{IsElem};
 ghost use Rattle.spl_field.specs.SmallField.{small_ops};
 ghost use Rattle.spl_text.specs.Text.{IsFractionText};
@@ -43,7 +44,8 @@ fn push_entry(
     requires denominator { IsOverZero (text_of entry.value) → ⊥ }
     requires free { length constants.old ≤ place_of (n * n) (entry_of entry) }
     ensures items { OnOk result ((w : Pair ℕ) × IsConstant (small_ops (field_of k.now)) (Some (text_of entry.value)) w
-        × (constants.new ≡ constants.old ++ replicate (place_of (n * n) (entry_of entry) - length constants.old) ([], 1 ∷ []) ++ w ∷ [])) }
+        × (constants.new ≡ constants.old ++ replicate (place_of (n * n) (entry_of entry) - length constants.old)
+        ([], 1 ∷ []) ++ w ∷ [])) }
     ensures over { All (IsElem (fractions_over (field_of k.now))) constants.old
         → OnOk result (All (IsElem (fractions_over (field_of k.now))) constants.new) }
 {
@@ -61,7 +63,9 @@ pub fn read_entries<'a>(
     bytes: &'a [u8],
 ) -> Result<Entries<'a>, TableFault>
     requires { n ≤ 5 }
-    ensures entries { IfOk result (λ r. AreEntries (small_ops (field_of k.now)) (head_of (field_of k.now) n) bytes.now r.rest.now r.number r.constants) }
+    ensures entries { IfOk result
+        (λ r. AreEntries (small_ops (field_of k.now))
+        (head_of (field_of k.now) n) bytes.now r.rest.now r.number r.constants) }
     ensures over { IfOk result (λ r. All (IsElem (fractions_over (field_of k.now))) r.constants) }
     ensures few { IfOk result (λ r. r.number ≤ 15629) }
     ensures fault { IfErr result (λ e. IfRefused e (IsFaultAfter (head_of (field_of k.now) n) bytes.now)) }

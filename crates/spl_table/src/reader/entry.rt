@@ -1,11 +1,14 @@
 // An entry of a table text.
-ghost use Rattle.std.specs.Prelude.{◌≡◌, ◌≢◌, ◌↔◌, ℕ, ◌*◌, ◌<◌, ◌≤◌, ◌++◌, Option, IfOk, IfErr, IsTrue, List, MatchOption, codes};
+ghost use Rattle.std.specs.Prelude.{◌≡◌, ◌≢◌, ◌↔◌, ℕ, ◌*◌, ◌<◌, ◌≤◌, ◌++◌, Option, IfOk, IfErr, IsTrue, List};
+ghost use Rattle.std.specs.Prelude.{MatchOption, codes};
 ghost use Rattle.std.specs.List.{AllByRecursion};
 ghost use Rattle.spl_text.specs.Text.{Lacks, line};
 ghost use Rattle.spl_text.specs.FractionWords.{text_of};
-ghost use Rattle.spl_table.specs.TableText.{Entry, IsEntry, IsInRange, IsOverZero, HasSmallDegrees, IsRightEntry, lists_of};
+ghost use Rattle.spl_table.specs.TableText.{Entry, IsEntry, IsInRange, IsOverZero, HasSmallDegrees, IsRightEntry};
+ghost use Rattle.spl_table.specs.TableText.{lists_of};
 ghost use Rattle.spl_table.specs.Refusal.{LineFault};
-ghost use Rattle.spl_table.specs.Reading.{IfRefused, entry_text, entry_of, head_of, place_of, IsPrevious, IsEntryFaultOf};
+ghost use Rattle.spl_table.specs.Reading.{IfRefused, entry_text, entry_of, head_of, place_of, IsPrevious};
+ghost use Rattle.spl_table.specs.Reading.{IsEntryFaultOf};
 
 use crate::refusal::{Kind, TableFault};
 use spl_field::field::NoMemory;
@@ -150,7 +153,8 @@ pub fn read_entry(
     ensures right { (previous : Option Entry) → IsPrevious (head_of f.now n) next previous
         → IfOk result (λ w. IsRightEntry (head_of f.now n) previous (entry_of w)) }
     ensures fault { (previous : Option Entry) (after : List ℕ) → IsPrevious (head_of f.now n) next previous
-        → IfErr result (λ e. IfRefused e (λ at kind. (at ≡ number) × LineFault (head_of f.now n) previous (line text.now ++ after) kind)) }
+        → IfErr result (λ e. IfRefused e
+        (λ at kind. (at ≡ number) × LineFault (head_of f.now n) previous (line text.now ++ after) kind)) }
 {
     let Some(entry) = entry_words(alloc, text)? else {
         return Err(TableFault::at(number, Kind::EntryForm));

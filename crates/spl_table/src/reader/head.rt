@@ -1,5 +1,6 @@
 // The lines of a table text before its entries.
-ghost use Rattle.std.specs.Prelude.{◌≡◌, ◌≢◌, ℕ, ◌%◌, ◌<◌, ◌≤◌, List, length, slice_index, IfOk, IfErr, OnOk, MatchOption};
+ghost use Rattle.std.specs.Prelude.{◌≡◌, ◌≢◌, ℕ, ◌%◌, ◌<◌, ◌≤◌, List, length, slice_index, IfOk, IfErr, OnOk};
+ghost use Rattle.std.specs.Prelude.{MatchOption};
 ghost use Rattle.spl_field.specs.FieldByDigits.{IsAdmitted};
 ghost use Rattle.spl_field.specs.SmallField.{characteristic, modulus_of};
 ghost use Rattle.spl_fraction.specs.Fractions.{field_of};
@@ -64,7 +65,8 @@ fn field_of(alloc: Global, words: &FieldWords) -> Result<SmallField, TableFault>
     ensures p { IfOk result (λ f. characteristic f ≡ words.now.characteristic) }
     ensures modulus { IfOk result (λ f. modulus_of f ≡ words.now.modulus) }
     ensures admitted { OnOk result (IsAdmitted words.now.characteristic words.now.modulus) }
-    ensures fault { IfErr result (λ e. IfRefused e (λ at kind. (at ≡ 2) × IsNoField words.now.characteristic words.now.modulus kind)) }
+    ensures fault { IfErr result
+        (λ e. IfRefused e (λ at kind. (at ≡ 2) × IsNoField words.now.characteristic words.now.modulus kind)) }
 {
     let Ok(p) = u16::try_from(words.characteristic) else {
         return Err(TableFault::at(2, Kind::FieldSize));
@@ -106,7 +108,8 @@ pub fn read_fractions(alloc: Global, line: &[u8]) -> Result<Fractions, TableFaul
 
 /// The number of the line `degree N`, where it is of this form.
 fn degree_word(line: &[u8]) -> Option<u32>
-    ensures { MatchOption result ((n : ℕ) → IsNumber n → line.now ≢ degree_text n) (λ n. IsNumber n × (line.now ≡ degree_text n)) }
+    ensures { MatchOption result ((n : ℕ) → IsNumber n → line.now ≢ degree_text n)
+        (λ n. IsNumber n × (line.now ≡ degree_text n)) }
 {
     let rest = strip_prefix(line, b"degree ")?;
     number_of(rest)

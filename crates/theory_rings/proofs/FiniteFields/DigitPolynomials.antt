@@ -10,10 +10,15 @@ use Rattle.theory_rings.specs.Digits.{digit, of_digits}
 use Rattle.theory_rings.specs.Polynomial.{Poly, coefficient, convolution, constant_coefficients}
 use Rattle.theory_rings.specs.FieldByDigits.{product_coefficient}
 use Rattle.theory_rings.proofs.Sums.Sums.{sum_congr}
-use Rattle.theory_rings.proofs.Numbers.IntegersMod.{residue-value, residue-zero, residue-one, residue-mul, residue-sum, residue_zero_test}
-use Rattle.theory_rings.proofs.Numbers.Digits.{digit-zero, digit-suc, digit-suc_of_lt, zero-digit, digit_lt, digit_past, digit_injective, digit-of_digits, of_digits_lt, lt_pow_self}
+use Rattle.theory_rings.proofs.Numbers.IntegersMod.{residue-value, residue-zero, residue-one, residue-mul, residue-sum}
+use Rattle.theory_rings.proofs.Numbers.IntegersMod.{residue_zero_test}
+use Rattle.theory_rings.proofs.Numbers.Digits.{digit-zero, digit-suc, digit-suc_of_lt, zero-digit, digit_lt, digit_past}
+use Rattle.theory_rings.proofs.Numbers.Digits.{digit_injective, digit-of_digits, of_digits_lt, lt_pow_self}
 use Rattle.theory_rings.proofs.Polynomials.Degrees.{length_le}
-use Rattle.theory_rings.proofs.Polynomials.PolynomialRing.{Poly-path, coefficient_past, polynomial, coefficient-polynomial, polynomials, coefficient-zero, coefficient-one, constant, coefficient-constant, series_prepend, prepend, coefficient-prepend}
+use Rattle.theory_rings.proofs.Polynomials.PolynomialRing.{Poly-path, coefficient_past, polynomial}
+use Rattle.theory_rings.proofs.Polynomials.PolynomialRing.{coefficient-polynomial, polynomials, coefficient-zero}
+use Rattle.theory_rings.proofs.Polynomials.PolynomialRing.{coefficient-one, constant, coefficient-constant}
+use Rattle.theory_rings.proofs.Polynomials.PolynomialRing.{series_prepend, prepend, coefficient-prepend}
 
 module _ (p : ℕ) (two_le : 2 ≤ p) where
   pos : 0 < p
@@ -46,7 +51,8 @@ module _ (p : ℕ) (two_le : 2 ≤ p) where
 
   pub coefficient-polynomial_of : (a k : ℕ) → coefficient R (polynomial_of a) k ≡ residue p two_le (digit p a k)
   unfolding polynomial_of
-  coefficient-polynomial_of a k = coefficient-residues a (digit p a) (λ k l. digit_past p pos a a k (lt_pow_self p a two_le) l) k
+  coefficient-polynomial_of a k =
+      coefficient-residues a (digit p a) (λ k l. digit_past p pos a a k (lt_pow_self p a two_le) l) k
 
   -- the number whose digits are the coefficients of f
   pub number_of : DigitPoly → ℕ
@@ -91,7 +97,8 @@ module _ (p : ℕ) (two_le : 2 ≤ p) where
   -- the numbers below p ^ d are the polynomials of degree below d
   pub length-polynomial_of : (d a : ℕ) → a < p ^ d → length (polynomial_of a).0 ≤ d
   length-polynomial_of d a l = length_le R (polynomial_of a) d
-      (λ k h. coefficient-polynomial_of a k ∙ ap (residue p two_le) (digit_past p pos d a k l h) ∙ residue-zero p two_le)
+      (λ k h. coefficient-polynomial_of a k ∙ ap (residue p two_le) (digit_past p pos d a k l h)
+      ∙ residue-zero p two_le)
 
   pub number_of_lt : (d : ℕ) (f : DigitPoly) → length f.0 ≤ d → number_of f < p ^ d
   number_of_lt d f l = let h = number_of_lt_length f in let g = pow-le-pow_right pos l in omega arith
@@ -114,9 +121,12 @@ module _ (p : ℕ) (two_le : 2 ≤ p) where
       ∙ sym (coefficient-zero R (residue_zero_test p two_le) k))
 
   -- a number below p is a constant
-  pub polynomial_of-constant : (a : ℕ) → a < p → polynomial_of a ≡ constant R (residue_zero_test p two_le) (residue p two_le a)
-  polynomial_of-constant a l = Poly-path R (polynomial_of a) (constant R (residue_zero_test p two_le) (residue p two_le a))
-      (λ k. coefficient-polynomial_of a k ∙ each k ∙ sym (coefficient-constant R (residue_zero_test p two_le) (residue p two_le a) k))
+  pub polynomial_of-constant : (a : ℕ) → a < p
+      → polynomial_of a ≡ constant R (residue_zero_test p two_le) (residue p two_le a)
+  polynomial_of-constant a l =
+      Poly-path R (polynomial_of a) (constant R (residue_zero_test p two_le) (residue p two_le a))
+      (λ k. coefficient-polynomial_of a k ∙ each k
+      ∙ sym (coefficient-constant R (residue_zero_test p two_le) (residue p two_le a) k))
     where
       each : (k : ℕ) → residue p two_le (digit p a k) ≡ constant_coefficients R.zero (residue p two_le a) k
       each zero = ap (residue p two_le) (digit-zero p a ∙ mod-eq_of_lt l)
@@ -130,14 +140,19 @@ module _ (p : ℕ) (two_le : 2 ≤ p) where
       ∙ sym (coefficient-one R (residue_zero_test p two_le) k))
 
   -- p · b + c is c + t · b
-  pub polynomial_of-prepend : (b c : ℕ) → c < p → polynomial_of (p * b + c) ≡ prepend R (residue_zero_test p two_le) (residue p two_le c) (polynomial_of b)
+  pub polynomial_of-prepend : (b c : ℕ) → c < p
+      → polynomial_of (p * b + c) ≡ prepend R (residue_zero_test p two_le) (residue p two_le c) (polynomial_of b)
   polynomial_of-prepend b c l =
-      Poly-path R (polynomial_of (p * b + c)) (prepend R (residue_zero_test p two_le) (residue p two_le c) (polynomial_of b))
+      Poly-path R (polynomial_of (p * b + c))
+      (prepend R (residue_zero_test p two_le) (residue p two_le c) (polynomial_of b))
       (λ k. coefficient-polynomial_of (p * b + c) k ∙ each k
       ∙ sym (coefficient-prepend R (residue_zero_test p two_le) (residue p two_le c) (polynomial_of b) k))
     where
-      each : (k : ℕ) → residue p two_le (digit p (p * b + c) k) ≡ series_prepend (residue p two_le c) (coefficient R (polynomial_of b)) k
+      each : (k : ℕ) → residue p two_le (digit p (p * b + c) k) ≡ series_prepend (residue p two_le c)
+          (coefficient R (polynomial_of b)) k
       each zero = ap (residue p two_le) (digit-zero p (p * b + c) ∙ mul-add-mod_self_left p b c ∙ mod-eq_of_lt l)
       each (suc k) =
-          ap (residue p two_le) (digit-suc p (p * b + c) k ∙ ap (λ x. digit p x k) (mul-add-div (omega arith) b c ∙ ap (λ x. b + x) (div-eq_of_lt l) ∙ omega arith))
+          ap (residue p two_le)
+          (digit-suc p (p * b + c) k
+          ∙ ap (λ x. digit p x k) (mul-add-div (omega arith) b c ∙ ap (λ x. b + x) (div-eq_of_lt l) ∙ omega arith))
           ∙ sym (coefficient-polynomial_of b k)

@@ -1,9 +1,11 @@
--- The field of the numbers below p ^ d: its elements are numbered, its p is prime and is 0 in it. The integers modulo p are
--- the case of one digit.
-use Rattle.std.specs.Prelude.{◌≡◌, ℕ, zero, suc, ◌+◌, ◌-◌, ◌*◌, ◌%◌, ◌^◌, ◌<◌, ◌≤◌, Bool, true, false, List, [], ◌∷◌, length, nat_lt, slice_index}
+-- The field of the numbers below p ^ d: its elements are numbered, its p is prime and is 0 in it. The integers modulo p
+-- are the case of one digit.
+use Rattle.std.specs.Prelude.{◌≡◌, ℕ, zero, suc, ◌+◌, ◌-◌, ◌*◌, ◌%◌, ◌^◌, ◌<◌, ◌≤◌, Bool, true, false, List, [], ◌∷◌}
+use Rattle.std.specs.Prelude.{length, nat_lt, slice_index}
 use Rattle.std.specs.Int.{◌∣◌}
 use Rattle.std.proofs.Common.{refl, sym, ◌∙◌, ap, ap₂, subst, arith, ⊎_elim, inl, inr}
-use Rattle.std.proofs.Math.Nat.{zero-mod, mod-add-mod, mod_self, mod-eq-zero_of_dvd, dvd_of_mod-eq-zero, lt_of_lt_of_le, pow-suc, pow-zero, one-mul}
+use Rattle.std.proofs.Math.Nat.{zero-mod, mod-add-mod, mod_self, mod-eq-zero_of_dvd, dvd_of_mod-eq-zero, lt_of_lt_of_le}
+use Rattle.std.proofs.Math.Nat.{pow-suc, pow-zero, one-mul}
 use Rattle.std.proofs.Math.Bool.{true≢false}
 use Rattle.std.proofs.lemmas.Nat.{mod_below, mul-mod}
 use Rattle.theory_rings.specs.Ring.{FieldOn}
@@ -13,7 +15,8 @@ use Rattle.theory_rings.specs.IntegersMod.{mod_ops, IsInverseTable, add-neg_mod}
 use Rattle.theory_rings.specs.Prime.{IsPrime}
 use Rattle.theory_rings.specs.Power.{times_of}
 use Rattle.theory_rings.specs.Enumerated.{Enumerated}
-use Rattle.theory_rings.specs.FieldByDigits.{size_by_digits, IsSumByDigits, IsProductByDigits, IsFieldByDigits, FieldByDigitsLaw, OneDigitLaw}
+use Rattle.theory_rings.specs.FieldByDigits.{size_by_digits, IsSumByDigits, IsProductByDigits, IsFieldByDigits}
+use Rattle.theory_rings.specs.FieldByDigits.{FieldByDigitsLaw, OneDigitLaw}
 use Rattle.theory_rings.proofs.Rings.Fields.{eq-zero_of_mul-eq-zero}
 use Rattle.theory_rings.proofs.Numbers.Primes.{IsPrime_of_dvd-mul}
 use Rattle.theory_rings.proofs.Numbers.Digits.{le_pow_self}
@@ -22,7 +25,8 @@ use Rattle.theory_rings.proofs.FiniteFields.ProductSteps.{product-constants}
 use Rattle.theory_rings.proofs.FiniteFields.RingByDigits.{elem_lt, lt_elem, field_by_digits_laws}
 
 -- a program's field of the numbers below n
-module _ (o : Ops ℕ) (L : FieldLaws o) (n : ℕ) (below : (a : ℕ) → IsElem o a → a < n) (elem : (a : ℕ) → a < n → IsElem o a) where
+module _ (o : Ops ℕ) (L : FieldLaws o) (n : ℕ) (below : (a : ℕ) → IsElem o a → a < n)
+    (elem : (a : ℕ) → a < n → IsElem o a) where
   abbrev number_member : (i : ℕ) (b : Bool) → o.is_elem i ≡ b → Elem o
   number_member i true e = (i, e)
   number_member i false e = (o.zero, L.zero-elem)
@@ -38,7 +42,8 @@ module _ (o : Ops ℕ) (L : FieldLaws o) (n : ℕ) (below : (a : ℕ) → IsElem
     member = λ i. number_member i (o.is_elem i) refl;
     number = λ x. x.0;
     number-lt = λ x. below x.0 x.1;
-    member-number = λ x. Elem-path o (number_member x.0 (o.is_elem x.0) refl) x (value-number_member x.0 (o.is_elem x.0) refl x.1);
+    member-number = λ x. Elem-path o (number_member x.0 (o.is_elem x.0) refl) x
+        (value-number_member x.0 (o.is_elem x.0) refl x.1);
     number-member = λ i l. value-number_member i (o.is_elem i) refl (elem i l);
   }
 
@@ -127,11 +132,14 @@ module _ (p : ℕ) (two_le : 2 ≤ p) (c : ℕ) (inverses : List ℕ) (T : IsInv
     add = λ a b la lb. sum-constants p two_le (c ∷ []) a b (omega arith) (small a la) (small b lb);
     neg = λ a la. small_mod (p - a);
     add-neg = λ a la. subst (IsSumByDigits p (c ∷ []) a ((p - a) % p)) (add-neg_mod p a (small a la))
-        (sum-constants p two_le (c ∷ []) a ((p - a) % p) (omega arith) (small a la) (small ((p - a) % p) (small_mod (p - a))));
+        (sum-constants p two_le (c ∷ []) a ((p - a) % p) (omega arith) (small a la)
+        (small ((p - a) % p) (small_mod (p - a))));
     mul = λ a b la lb. product-constants p two_le (c ∷ []) a b (omega arith) (small a la) (small b lb);
     inv = λ a la. subst (λ n. slice_index inverses a < n) (sym size_one) (T.below a (small a la));
-    mul-inv = λ a la n. subst (IsProductByDigits p (c ∷ []) a (slice_index inverses a)) (T.inverse a (omega arith) (small a la))
-        (product-constants p two_le (c ∷ []) a (slice_index inverses a) (omega arith) (small a la) (T.below a (small a la)));
+    mul-inv = λ a la n. subst (IsProductByDigits p (c ∷ []) a (slice_index inverses a))
+        (T.inverse a (omega arith) (small a la))
+        (product-constants p two_le (c ∷ []) a (slice_index inverses a) (omega arith) (small a la)
+        (T.below a (small a la)));
   }
 
 pub field_by_digits_law : FieldByDigitsLaw

@@ -10,7 +10,8 @@ module _ {X : Type 0} (E : Enumerated X) where
   tuple t i = E.member (digit E.size t i)
 
   -- numbers below n ^ k with the same tuple are one
-  pub tuple_injective : 0 < E.size → (k t u : ℕ) → t < E.size ^ k → u < E.size ^ k → ((i : ℕ) → i < k → tuple t i ≡ tuple u i) → t ≡ u
+  pub tuple_injective : 0 < E.size → (k t u : ℕ) → t < E.size ^ k → u < E.size ^ k
+      → ((i : ℕ) → i < k → tuple t i ≡ tuple u i) → t ≡ u
   tuple_injective pos k t u lt lu h = digit_injective E.size k t u lt lu
       (λ i l. sym (E.number-member (digit E.size t i) (digit_lt E.size pos t i)) ∙ ap E.number (h i l)
       ∙ E.number-member (digit E.size u i) (digit_lt E.size pos u i))
@@ -24,4 +25,5 @@ module _ {X : Type 0} (E : Enumerated X) where
 
   pub tuple-number_of_tuple : 0 < E.size → (k : ℕ) (w : ℕ → X) (i : ℕ) → i < k → tuple (number_of_tuple k w) i ≡ w i
   tuple-number_of_tuple pos k w i l =
-      ap E.member (digit-of_digits E.size pos k (λ i. E.number (w i)) (λ i l. E.number-lt (w i)) i l) ∙ E.member-number (w i)
+      ap E.member (digit-of_digits E.size pos k (λ i. E.number (w i)) (λ i l. E.number-lt (w i)) i l)
+      ∙ E.member-number (w i)

@@ -10,15 +10,22 @@ use Rattle.theory_rings.specs.IntegersMod.{integers_mod, Fin, residue, add-neg_m
 use Rattle.theory_rings.specs.Digits.{digit, of_digits}
 use Rattle.theory_rings.specs.Polynomial.{coefficient, lead, degree, IsMonic}
 use Rattle.theory_rings.specs.Division.{IsDivision}
-use Rattle.theory_rings.specs.FieldByDigits.{product_coefficient, modulus_coefficient, size_by_digits, IsSumByDigits, IsProductByDigits}
-use Rattle.theory_rings.proofs.Numbers.IntegersMod.{residue_eq, residue-zero, residue-one, residue-add, residue_zero_test}
-use Rattle.theory_rings.proofs.Numbers.Digits.{digit-zero, digit-suc_of_lt, zero-digit, digit_lt, le_pow_self, digit_past, digit_injective, digit-of_digits, of_digits_lt}
+use Rattle.theory_rings.specs.FieldByDigits.{product_coefficient, modulus_coefficient, size_by_digits, IsSumByDigits}
+use Rattle.theory_rings.specs.FieldByDigits.{IsProductByDigits}
+use Rattle.theory_rings.proofs.Numbers.IntegersMod.{residue_eq, residue-zero, residue-one, residue-add}
+use Rattle.theory_rings.proofs.Numbers.IntegersMod.{residue_zero_test}
+use Rattle.theory_rings.proofs.Numbers.Digits.{digit-zero, digit-suc_of_lt, zero-digit, digit_lt, le_pow_self}
+use Rattle.theory_rings.proofs.Numbers.Digits.{digit_past, digit_injective, digit-of_digits, of_digits_lt}
 use Rattle.theory_rings.proofs.Polynomials.PolynomialRing.{Poly-path, coefficient-add, coefficient-mul}
 use Rattle.theory_rings.proofs.Polynomials.Series.{convolution_congr}
 use Rattle.theory_rings.proofs.Polynomials.Degrees.{length_le, lt_length, length-degree}
 use Rattle.theory_rings.proofs.Polynomials.Division.{division_unique}
 use Rattle.theory_rings.proofs.Polynomials.Remainders.{quo, rem, rem-division}
-use Rattle.theory_rings.proofs.FiniteFields.DigitPolynomials.{length-polynomial_of, number_of, number_of_lt, polynomial_of-number_of, polynomial_of-injective, DigitPoly, digit_polynomials, residues_polynomial, coefficient-residues, polynomial_of, coefficient-polynomial_of, residue-product_coefficient}
+use Rattle.theory_rings.proofs.FiniteFields.DigitPolynomials.{length-polynomial_of, number_of, number_of_lt}
+use Rattle.theory_rings.proofs.FiniteFields.DigitPolynomials.{polynomial_of-number_of, polynomial_of-injective}
+use Rattle.theory_rings.proofs.FiniteFields.DigitPolynomials.{DigitPoly, digit_polynomials, residues_polynomial}
+use Rattle.theory_rings.proofs.FiniteFields.DigitPolynomials.{coefficient-residues, polynomial_of}
+use Rattle.theory_rings.proofs.FiniteFields.DigitPolynomials.{coefficient-polynomial_of, residue-product_coefficient}
 
 module _ (p : ℕ) (two_le : 2 ≤ p) (m : List ℕ) where
   infixl 65 ◌⊕◌
@@ -41,7 +48,8 @@ module _ (p : ℕ) (two_le : 2 ≤ p) (m : List ℕ) where
       (λ k l. get_or_past (m ++ 1 ∷ []) k 0 (omega (arith, length-append m (1 ∷ [])))) k
 
   pub coefficient-polynomial_of-add : (a b k : ℕ)
-      → coefficient R (polynomial_of p two_le a ⊕ polynomial_of p two_le b) k ≡ residue p two_le (digit p a k + digit p b k)
+      → coefficient R (polynomial_of p two_le a ⊕ polynomial_of p two_le b) k ≡ residue p two_le
+      (digit p a k + digit p b k)
   coefficient-polynomial_of-add a b k =
       coefficient-add R (residue_zero_test p two_le) (polynomial_of p two_le a) (polynomial_of p two_le b) k
       ∙ ap₂ R.◌⊕◌ (coefficient-polynomial_of p two_le a k) (coefficient-polynomial_of p two_le b k)
@@ -52,7 +60,9 @@ module _ (p : ℕ) (two_le : 2 ≤ p) (m : List ℕ) where
       → polynomial_of p two_le c ≡ polynomial_of p two_le a ⊕ polynomial_of p two_le b
   polynomial_of-sum a b c la lb s =
       Poly-path R (polynomial_of p two_le c) (polynomial_of p two_le a ⊕ polynomial_of p two_le b)
-      (λ k. coefficient-polynomial_of p two_le c k ∙ residue_eq p two_le (digit p c k) (digit p a k + digit p b k) (⊎_elim (within k) (past k) (cases_lt k (length m)))
+      (λ k. coefficient-polynomial_of p two_le c k
+      ∙ residue_eq p two_le (digit p c k) (digit p a k + digit p b k)
+      (⊎_elim (within k) (past k) (cases_lt k (length m)))
       ∙ sym (coefficient-polynomial_of-add a b k))
     where
       within : (k : ℕ) → k < length m → digit p c k % p ≡ (digit p a k + digit p b k) % p
@@ -61,7 +71,8 @@ module _ (p : ℕ) (two_le : 2 ≤ p) (m : List ℕ) where
       past : (k : ℕ) → length m ≤ k → digit p c k % p ≡ (digit p a k + digit p b k) % p
       past k l =
           ap (λ x. x % p) (digit_past p (omega arith) (length m) c k s.below l
-          ∙ sym (ap₂ (λ x y. x + y) (digit_past p (omega arith) (length m) a k la l) (digit_past p (omega arith) (length m) b k lb l)))
+          ∙ sym (ap₂ (λ x y. x + y) (digit_past p (omega arith) (length m) a k la l)
+          (digit_past p (omega arith) (length m) b k lb l)))
 
   coefficient-product : (a b k : ℕ)
       → coefficient R (polynomial_of p two_le a ⊗ polynomial_of p two_le b) k
@@ -89,7 +100,8 @@ module _ (p : ℕ) (two_le : 2 ≤ p) (m : List ℕ) where
 
   -- the product by digits is a remainder of the product of the polynomials
   pub polynomial_of-product : (a b c : ℕ) (s : IsProductByDigits p m a b c)
-      → polynomial_of p two_le a ⊗ polynomial_of p two_le b ≡ polynomial_of p two_le s.quotient ⊗ modulus ⊕ polynomial_of p two_le c
+      → polynomial_of p two_le a ⊗ polynomial_of p two_le b
+      ≡ polynomial_of p two_le s.quotient ⊗ modulus ⊕ polynomial_of p two_le c
   polynomial_of-product a b c s =
       Poly-path R (polynomial_of p two_le a ⊗ polynomial_of p two_le b)
       (polynomial_of p two_le s.quotient ⊗ modulus ⊕ polynomial_of p two_le c)
@@ -99,24 +111,29 @@ module _ (p : ℕ) (two_le : 2 ≤ p) (m : List ℕ) where
       ∙ sym (coefficient-multiple s.quotient c k))
 
   pub product_from : (a b c u : ℕ) → c < q
-      → polynomial_of p two_le a ⊗ polynomial_of p two_le b ≡ polynomial_of p two_le u ⊗ modulus ⊕ polynomial_of p two_le c
+      → polynomial_of p two_le a ⊗ polynomial_of p two_le b
+      ≡ polynomial_of p two_le u ⊗ modulus ⊕ polynomial_of p two_le c
       → IsProductByDigits p m a b c
   product_from a b c u l e = record {
     below = l;
     quotient = u;
-    each = λ k. ap (λ x. x.0) (sym (coefficient-product a b k) ∙ ap (λ f. coefficient R f k) e ∙ coefficient-multiple u c k);
+    each = λ k. ap (λ x. x.0)
+        (sym (coefficient-product a b k) ∙ ap (λ f. coefficient R f k) e ∙ coefficient-multiple u c k);
   }
 
   pub product_from_polynomial : (a b c : ℕ) (f : DigitPoly p two_le) → c < q
-      → polynomial_of p two_le a ⊗ polynomial_of p two_le b ≡ f ⊗ modulus ⊕ polynomial_of p two_le c → IsProductByDigits p m a b c
+      → polynomial_of p two_le a ⊗ polynomial_of p two_le b ≡ f ⊗ modulus ⊕ polynomial_of p two_le c
+      → IsProductByDigits p m a b c
   product_from_polynomial a b c f l e =
-      product_from a b c (number_of p two_le f) l (e ∙ ap (λ x. x ⊗ modulus ⊕ polynomial_of p two_le c) (sym (polynomial_of-number_of p two_le f)))
+      product_from a b c (number_of p two_le f) l
+      (e ∙ ap (λ x. x ⊗ modulus ⊕ polynomial_of p two_le c) (sym (polynomial_of-number_of p two_le f)))
 
   one-ne-zero : R.one ≢ R.zero
   one-ne-zero e = let h : R.one.0 ≡ R.zero.0 = ap (λ x. x.0) e in omega arith
 
   coefficient-modulus_top : coefficient R modulus (length m) ≡ R.one
-  coefficient-modulus_top = coefficient-modulus (length m) ∙ ap (residue p two_le) (get_or_push m 1 0 (length m) refl) ∙ residue-one p two_le
+  coefficient-modulus_top = coefficient-modulus (length m) ∙ ap (residue p two_le) (get_or_push m 1 0 (length m) refl)
+      ∙ residue-one p two_le
 
   pub length-modulus : length modulus.0 ≡ suc (length m)
   length-modulus = omega (arith, high, low)
@@ -125,7 +142,8 @@ module _ (p : ℕ) (two_le : 2 ≤ p) (m : List ℕ) where
       low = lt_length R modulus (length m) (λ e. one-ne-zero (sym coefficient-modulus_top ∙ e))
 
       high : length modulus.0 ≤ suc (length m)
-      high = length_le R modulus (suc (length m)) (λ k l. coefficient-modulus k ∙ ap (residue p two_le) (past k l) ∙ residue-zero p two_le)
+      high = length_le R modulus (suc (length m))
+          (λ k l. coefficient-modulus k ∙ ap (residue p two_le) (past k l) ∙ residue-zero p two_le)
         where
           past : (k : ℕ) → suc (length m) ≤ k → modulus_coefficient m k ≡ 0
           past k l = get_or_past (m ++ 1 ∷ []) k 0 (omega (arith, length-append m (1 ∷ [])))
@@ -151,9 +169,11 @@ module _ (p : ℕ) (two_le : 2 ≤ p) (m : List ℕ) where
   -- two numbers have one product
   pub product_unique : (a b c c' : ℕ) → IsProductByDigits p m a b c → IsProductByDigits p m a b c' → c ≡ c'
   product_unique a b c c' s s' = polynomial_of-injective p two_le c c'
-      (division_unique R (residue_zero_test p two_le) modulus R.one (R.mul-one (lead R modulus) ∙ modulus_monic.leading) modulus_monic.nonzero
+      (division_unique R (residue_zero_test p two_le) modulus R.one
+      (R.mul-one (lead R modulus) ∙ modulus_monic.leading) modulus_monic.nonzero
       (polynomial_of p two_le a ⊗ polynomial_of p two_le b)
-      (polynomial_of p two_le s.quotient) (polynomial_of p two_le c) (polynomial_of p two_le s'.quotient) (polynomial_of p two_le c')
+      (polynomial_of p two_le s.quotient) (polynomial_of p two_le c) (polynomial_of p two_le s'.quotient)
+      (polynomial_of p two_le c')
       (product_division a b c s) (product_division a b c' s')).1
 
   pub product_exists : (a b : ℕ) → (c : ℕ) × IsProductByDigits p m a b c
@@ -165,8 +185,10 @@ module _ (p : ℕ) (two_le : 2 ≤ p) (m : List ℕ) where
       let small : length r.0 < length modulus.0 = D.smaller in
       let c : ℕ = number_of p two_le r in (
         c,
-        product_from_polynomial a b c (quo R Z modulus modulus_monic f) (number_of_lt p two_le (length m) r (omega (arith, length-modulus)))
-            (D.whole ∙ ap (λ y. quo R Z modulus modulus_monic f ⊗ modulus ⊕ y) (sym (polynomial_of-number_of p two_le r))),
+        product_from_polynomial a b c (quo R Z modulus modulus_monic f)
+            (number_of_lt p two_le (length m) r (omega (arith, length-modulus)))
+            (D.whole ∙ ap (λ y. quo R Z modulus modulus_monic f ⊗ modulus ⊕ y)
+            (sym (polynomial_of-number_of p two_le r))),
       )
 
   -- the sum, made of its digits

@@ -36,7 +36,8 @@ module _ {K : Type 0} (F : FieldOn K) where
   is_zero-mul : (a x : K) → a ≢ F.zero → F.is_zero (a ⊗ x) ≡ F.is_zero x
   is_zero-mul a x h = ⊎_elim
       (λ (e : x ≡ F.zero). ap F.is_zero (ap (λ u. a ⊗ u) e ∙ mul-zero ring a ∙ sym e))
-      (λ (n : x ≢ F.zero). is_zero-false F.zero_test (a ⊗ x) (field_mul-ne-zero F a x h n) ∙ sym (is_zero-false F.zero_test x n))
+      (λ (n : x ≢ F.zero). is_zero-false F.zero_test (a ⊗ x) (field_mul-ne-zero F a x h n)
+      ∙ sym (is_zero-false F.zero_test x n))
       (eq_zero_or F.zero_test x)
 
   -- a, but 1 at x = 0
@@ -70,7 +71,8 @@ module _ {K : Type 0} (F : FieldOn K) where
     -- multiplication by a permutes them
     moved : (a : K) → a ≢ F.zero → sum M E.size (λ i. or_one (a ⊗ E.member i) (a ⊗ E.member i)) ≡ all
     moved a h =
-        sum_congr M E.size (λ i. or_one (a ⊗ E.member i) (a ⊗ E.member i)) (λ i. or_one (E.member (place i)) (E.member (place i)))
+        sum_congr M E.size (λ i. or_one (a ⊗ E.member i) (a ⊗ E.member i))
+        (λ i. or_one (E.member (place i)) (E.member (place i)))
         (λ i l. ap (λ x. or_one x x) (sym (E.member-number (a ⊗ E.member i))))
         ∙ sum_reindex M E.size place (λ i. or_one (E.member i) (E.member i)) (λ i l. E.number-lt (a ⊗ E.member i)) apart
       where
@@ -90,7 +92,8 @@ module _ {K : Type 0} (F : FieldOn K) where
         (product_ne_zero E.size (λ i. or_one (E.member i) (E.member i)) (λ i l. or_one_ne_zero (E.member i)))
         (F.mul_comm all (sum M E.size (λ i. or_one (E.member i) a))
         ∙ sym (sum-add M E.size (λ i. or_one (E.member i) a) (λ i. or_one (E.member i) (E.member i)))
-        ∙ sum_congr M E.size (λ i. or_one (E.member i) a ⊗ or_one (E.member i) (E.member i)) (λ i. or_one (a ⊗ E.member i) (a ⊗ E.member i))
+        ∙ sum_congr M E.size (λ i. or_one (E.member i) a ⊗ or_one (E.member i) (E.member i))
+        (λ i. or_one (a ⊗ E.member i) (a ⊗ E.member i))
         (λ i l. sym (or_one-mul a (E.member i) h))
         ∙ moved a h ∙ sym (F.mul-one all))
 
@@ -98,7 +101,8 @@ module _ {K : Type 0} (F : FieldOn K) where
     count_factors n a e =
         sum_take_out M n origin (λ i. or_one (E.member i) a) (subst (λ k. origin < k) e (E.number-lt F.zero))
         ∙ ap₂ (λ x y. x ⊗ y) (or_one-zero (E.member origin) a (E.member-number F.zero))
-        (sum_congr M n (λ i. or_one (E.member (bump origin i)) a) (λ _. a) (λ i l. or_one-nonzero (E.member (bump origin i)) a (other i l))
+        (sum_congr M n (λ i. or_one (E.member (bump origin i)) a) (λ _. a)
+        (λ i l. or_one-nonzero (E.member (bump origin i)) a (other i l))
         ∙ product_const n a)
         ∙ F.one-mul (power ring a n)
       where
@@ -107,7 +111,8 @@ module _ {K : Type 0} (F : FieldOn K) where
 
         other : (i : ℕ) → i < n → E.member (bump origin i) ≢ F.zero
         other i l z = bump-apart origin i
-            (sym (E.number-member (bump origin i) (subst (λ k. bump origin i < k) (sym e) (bump-lt origin i n l))) ∙ ap E.number z)
+            (sym (E.number-member (bump origin i) (subst (λ k. bump origin i < k) (sym e) (bump-lt origin i n l)))
+            ∙ ap E.number z)
 
     size_suc : (n : ℕ) → E.size ≡ n → (k : ℕ) × (n ≡ suc k)
     size_suc zero e = absurd (let l = E.number-lt F.zero in omega arith)
@@ -116,10 +121,12 @@ module _ {K : Type 0} (F : FieldOn K) where
     -- the power to the number of elements
     pub power_size : PowerOfSize F E
     power_size a = let s = size_suc E.size refl in ⊎_elim
-        (λ (z : a ≡ F.zero). ap (λ x. power ring x E.size) z ∙ power-zero ring E.size (let e = s.1 in omega arith) ∙ sym z)
+        (λ (z : a ≡ F.zero). ap (λ x. power ring x E.size) z ∙ power-zero ring E.size (let e = s.1 in omega arith)
+        ∙ sym z)
         (λ (n : a ≢ F.zero).
         ap (power ring a) s.1 ∙ power_last ring a s.0
-        ∙ ap (λ x. x ⊗ a) (sym (count_factors s.0 a s.1) ∙ ap (λ k. sum M k (λ i. or_one (E.member i) a)) (sym s.1) ∙ factors a n)
+        ∙ ap (λ x. x ⊗ a) (sym (count_factors s.0 a s.1) ∙ ap (λ k. sum M k (λ i. or_one (E.member i) a)) (sym s.1)
+        ∙ factors a n)
         ∙ F.one-mul a)
         (eq_zero_or F.zero_test a)
 

@@ -1,5 +1,5 @@
--- The numbers below p ^ d by their digits are the ring of the remainders by the modulus, whatever the modulus; where each
--- but 0 has an inverse they are a field.
+-- The numbers below p ^ d by their digits are the ring of the remainders by the modulus, whatever the modulus; where
+-- each but 0 has an inverse they are a field.
 use Rattle.std.specs.Prelude.{◌≡◌, ◌≢◌, ℕ, suc, ◌+◌, ◌%◌, ◌<◌, ◌≤◌, List, length}
 use Rattle.std.proofs.Common.{refl, sym, ◌∙◌, ap, subst, arith}
 use Rattle.std.proofs.Math.Bridge.{le_prop}
@@ -13,15 +13,24 @@ use Rattle.theory_rings.specs.IntegersMod.{integers_mod, Fin, Fin-path, value-lt
 use Rattle.theory_rings.specs.Digits.{digit, of_digits}
 use Rattle.theory_rings.specs.Polynomial.{coefficient}
 use Rattle.theory_rings.specs.Remainder.{Remainder}
-use Rattle.theory_rings.specs.FieldByDigits.{size_by_digits, IsSumByDigits, IsProductByDigits, IsRingByDigits, IsFieldByDigits, DigitsAreRemainders, DigitsAreRemaindersLaw}
+use Rattle.theory_rings.specs.FieldByDigits.{size_by_digits, IsSumByDigits, IsProductByDigits, IsRingByDigits}
+use Rattle.theory_rings.specs.FieldByDigits.{IsFieldByDigits, DigitsAreRemainders, DigitsAreRemaindersLaw}
 use Rattle.theory_rings.proofs.Rings.RingLaws.{neg_unique}
 use Rattle.theory_rings.proofs.Numbers.IntegersMod.{residue_zero_test}
 use Rattle.theory_rings.proofs.Numbers.Digits.{le_pow_self}
 use Rattle.theory_rings.proofs.Rings.Embedding.{RingEmbedding, embedded_comm_ring, FieldEmbedding, embedded_field}
 use Rattle.theory_rings.proofs.Polynomials.PolynomialRing.{is_polynomial_ring}
-use Rattle.theory_rings.proofs.Polynomials.Remainders.{remainders, remainder_eq, remainder_of_small, remainders-zero_poly, remainders-one_poly, remainders-add_poly, remainders-mul, is_remainder_ring}
-use Rattle.theory_rings.proofs.FiniteFields.DigitPolynomials.{DigitPoly, digit_polynomials, polynomial_of, coefficient-polynomial_of, number_of, number_of_lt, polynomial_of-number_of, polynomial_of-injective, length-polynomial_of, polynomial_of-zero, polynomial_of-one}
-use Rattle.theory_rings.proofs.FiniteFields.FieldByDigits.{modulus, coefficient-modulus, length-modulus, degree-modulus, modulus_monic, polynomial_of-sum, polynomial_of-product, sum_by_digits, sum_unique, product_exists, product_unique}
+use Rattle.theory_rings.proofs.Polynomials.Remainders.{remainders, remainder_eq, remainder_of_small}
+use Rattle.theory_rings.proofs.Polynomials.Remainders.{remainders-zero_poly, remainders-one_poly, remainders-add_poly}
+use Rattle.theory_rings.proofs.Polynomials.Remainders.{remainders-mul, is_remainder_ring}
+use Rattle.theory_rings.proofs.FiniteFields.DigitPolynomials.{DigitPoly, digit_polynomials, polynomial_of}
+use Rattle.theory_rings.proofs.FiniteFields.DigitPolynomials.{coefficient-polynomial_of, number_of, number_of_lt}
+use Rattle.theory_rings.proofs.FiniteFields.DigitPolynomials.{polynomial_of-number_of, polynomial_of-injective}
+use Rattle.theory_rings.proofs.FiniteFields.DigitPolynomials.{length-polynomial_of, polynomial_of-zero}
+use Rattle.theory_rings.proofs.FiniteFields.DigitPolynomials.{polynomial_of-one}
+use Rattle.theory_rings.proofs.FiniteFields.FieldByDigits.{modulus, coefficient-modulus, length-modulus, degree-modulus}
+use Rattle.theory_rings.proofs.FiniteFields.FieldByDigits.{modulus_monic, polynomial_of-sum, polynomial_of-product}
+use Rattle.theory_rings.proofs.FiniteFields.FieldByDigits.{sum_by_digits, sum_unique, product_exists, product_unique}
 
 module _ (p : ℕ) (two_le : 2 ≤ p) (m : List ℕ) where
   abbrev R : CommRingOn (Fin p)
@@ -47,7 +56,10 @@ module _ (p : ℕ) (two_le : 2 ≤ p) (m : List ℕ) where
 
   -- the remainder whose coefficients are the digits of a
   pub remainder_of : (a : ℕ) → a < q → RemainderByDigits
-  remainder_of a l = (polynomial_of p two_le a, omega (arith, length-modulus p two_le m, length-polynomial_of p two_le (length m) a l))
+  remainder_of a l = (
+    polynomial_of p two_le a,
+    omega (arith, length-modulus p two_le m, length-polynomial_of p two_le (length m) a l),
+  )
 
   pub remainder_of-polynomial : (a : ℕ) (l : a < q) → (remainder_of a l).0 ≡ polynomial_of p two_le a
   unfolding remainder_of
@@ -69,9 +81,12 @@ module _ (p : ℕ) (two_le : 2 ≤ p) (m : List ℕ) where
   unfolding number_of_remainder
   number_of_remainder_lt f = number_of_lt p two_le (length m) f.0 (omega (arith, length-modulus p two_le m, f.1))
 
-  pub remainder_of-number : (f : RemainderByDigits) → remainder_of (number_of_remainder f) (number_of_remainder_lt f) ≡ f
+  pub remainder_of-number : (f : RemainderByDigits)
+      → remainder_of (number_of_remainder f) (number_of_remainder_lt f) ≡ f
   unfolding number_of_remainder remainder_of
-  remainder_of-number f = same_remainder (remainder_of (number_of_remainder f) (number_of_remainder_lt f)) f (polynomial_of-number_of p two_le f.0)
+  remainder_of-number f =
+      same_remainder (remainder_of (number_of_remainder f) (number_of_remainder_lt f)) f
+      (polynomial_of-number_of p two_le f.0)
 
   -- sums and products go to those of remainders
   pub remainder_of-sum : (a b c : ℕ) (la : a < q) (lb : b < q) (lc : c < q) → IsSumByDigits p m a b c
@@ -89,8 +104,11 @@ module _ (p : ℕ) (two_le : 2 ≤ p) (m : List ℕ) where
       let B : DigitPoly p two_le = polynomial_of p two_le b in
       let C : DigitPoly p two_le = polynomial_of p two_le c in
       sym (remainder_of_small R Z M (modulus_monic p two_le m) C (remainder_of c lc).1)
-      ∙ sym (remainder_eq R Z M (modulus_monic p two_le m) (P.◌⊗◌ A B) C
-      (polynomial_of p two_le s.quotient, polynomial_of-product p two_le m a b c s ∙ P.add_comm (P.◌⊗◌ (polynomial_of p two_le s.quotient) M) C))
+      ∙ sym (remainder_eq R Z M (modulus_monic p two_le m) (P.◌⊗◌ A B) C (
+        polynomial_of p two_le s.quotient,
+        polynomial_of-product p two_le m a b c s
+            ∙ P.add_comm (P.◌⊗◌ (polynomial_of p two_le s.quotient) M) C,
+      ))
       ∙ sym (remainders-mul R Z M (modulus_monic p two_le m) (remainder_of a la) (remainder_of b lb))
 
   pub remainder_of-zero : (l : 0 < q) → remainder_of 0 l ≡ Q.zero
@@ -108,7 +126,8 @@ module _ (p : ℕ) (two_le : 2 ≤ p) (m : List ℕ) where
     pub remainder_of-one : (l : 1 < q) → remainder_of 1 l ≡ Q.one
     unfolding remainder_of
     remainder_of-one l = same_remainder (remainder_of 1 l) Q.one
-        (polynomial_of-one p two_le ∙ sym (remainders-one_poly R Z M (modulus_monic p two_le m) (omega (arith, degree-modulus p two_le m))))
+        (polynomial_of-one p two_le
+        ∙ sym (remainders-one_poly R Z M (modulus_monic p two_le m) (omega (arith, degree-modulus p two_le m))))
 
     -- as a map of types
     pub to_remainder : Fin q → RemainderByDigits
@@ -122,14 +141,16 @@ module _ (p : ℕ) (two_le : 2 ≤ p) (m : List ℕ) where
     to-from_remainder f =
         same_remainder (to_remainder (from_remainder f)) f
         (remainder_of-polynomial (number_of_remainder f) (value-lt q (from_remainder f))
-        ∙ sym (remainder_of-polynomial (number_of_remainder f) (number_of_remainder_lt f)) ∙ ap (λ g. g.0) (remainder_of-number f))
+        ∙ sym (remainder_of-polynomial (number_of_remainder f) (number_of_remainder_lt f))
+        ∙ ap (λ g. g.0) (remainder_of-number f))
 
     to_remainder-injective : (a b : Fin q) → to_remainder a ≡ to_remainder b → a ≡ b
     unfolding to_remainder
     to_remainder-injective a b e = Fin-path q a b (remainder_of-injective a.0 b.0 (value-lt q a) (value-lt q b) e)
 
     pub from-to_remainder : (a : Fin q) → from_remainder (to_remainder a) ≡ a
-    from-to_remainder a = to_remainder-injective (from_remainder (to_remainder a)) a (to-from_remainder (to_remainder a))
+    from-to_remainder a =
+        to_remainder-injective (from_remainder (to_remainder a)) a (to-from_remainder (to_remainder a))
 
     sum_of : Fin q → Fin q → Fin q
     sum_of a b = let s = sum_by_digits p two_le m a.0 b.0 in
@@ -140,11 +161,15 @@ module _ (p : ℕ) (two_le : 2 ≤ p) (m : List ℕ) where
 
     to_remainder-sum : (a b : Fin q) → to_remainder (sum_of a b) ≡ Q.◌⊕◌ (to_remainder a) (to_remainder b)
     unfolding to_remainder sum_of
-    to_remainder-sum a b = remainder_of-sum a.0 b.0 (sum_of a b).0 (value-lt q a) (value-lt q b) (value-lt q (sum_of a b)) (sum_by_digits p two_le m a.0 b.0)
+    to_remainder-sum a b =
+        remainder_of-sum a.0 b.0 (sum_of a b).0 (value-lt q a) (value-lt q b) (value-lt q (sum_of a b))
+        (sum_by_digits p two_le m a.0 b.0)
 
     to_remainder-product : (a b : Fin q) → to_remainder (product_of a b) ≡ Q.◌⊗◌ (to_remainder a) (to_remainder b)
     unfolding to_remainder product_of
-    to_remainder-product a b = remainder_of-product a.0 b.0 (product_of a b).0 (value-lt q a) (value-lt q b) (value-lt q (product_of a b)) (product_exists p two_le m a.0 b.0).1
+    to_remainder-product a b =
+        remainder_of-product a.0 b.0 (product_of a b).0 (value-lt q a) (value-lt q b) (value-lt q (product_of a b))
+        (product_exists p two_le m a.0 b.0).1
 
     digits_embedding : RingEmbedding (Fin q) Q.ring
     unfolding to_remainder
@@ -175,7 +200,8 @@ module _ (p : ℕ) (two_le : 2 ≤ p) (m : List ℕ) where
       add = λ a b. (sum_by_digits p two_le m a.0 b.0);
       add_only = λ a b c s. sum_unique p two_le m a.0 b.0 c (sum_of a b).0 s (sum_by_digits p two_le m a.0 b.0);
       mul = λ a b. (product_exists p two_le m a.0 b.0).1;
-      mul_only = λ a b c s. product_unique p two_le m a.0 b.0 c (product_of a b).0 s (product_exists p two_le m a.0 b.0).1;
+      mul_only = λ a b c s.
+          product_unique p two_le m a.0 b.0 c (product_of a b).0 s (product_exists p two_le m a.0 b.0).1;
     }
 
     to_remainder_hom : IsRingHom ring_by_digits.ring Q.ring to_remainder
@@ -186,10 +212,12 @@ module _ (p : ℕ) (two_le : 2 ≤ p) (m : List ℕ) where
       map-mul = to_remainder-product;
     }
 
-    pub coefficient-to_remainder : (a : Fin q) (k : ℕ) → coefficient R (to_remainder a).0 k ≡ residue p two_le (digit p a.0 k)
+    pub coefficient-to_remainder : (a : Fin q) (k : ℕ)
+        → coefficient R (to_remainder a).0 k ≡ residue p two_le (digit p a.0 k)
     unfolding to_remainder
     coefficient-to_remainder a k =
-        ap (λ f. coefficient R f k) (remainder_of-polynomial a.0 (value-lt q a)) ∙ coefficient-polynomial_of p two_le a.0 k
+        ap (λ f. coefficient R f k) (remainder_of-polynomial a.0 (value-lt q a))
+        ∙ coefficient-polynomial_of p two_le a.0 k
 
     pub digits_are_remainders : DigitsAreRemainders p two_le m
     digits_are_remainders = record {
@@ -226,12 +254,14 @@ module _ (p : ℕ) (two_le : 2 ≤ p) (m : List ℕ) where
 
       opposite : (a : Elem o) (l : o.neg a.0 < q) → remainder_of (o.neg a.0) l ≡ Q.neg (image a)
       opposite a l = neg_unique Q.additive (image a) (remainder_of (o.neg a.0) l)
-          (sym (remainder_of-sum a.0 (o.neg a.0) 0 (elem_lt a.0 a.1) l zero_lt_size (F.add-neg a.0 (elem_lt a.0 a.1))) ∙ remainder_of-zero zero_lt_size)
+          (sym (remainder_of-sum a.0 (o.neg a.0) 0 (elem_lt a.0 a.1) l zero_lt_size (F.add-neg a.0 (elem_lt a.0 a.1)))
+          ∙ remainder_of-zero zero_lt_size)
 
       inverse : (a : Elem o) (l : o.inv a.0 < q) → a.0 ≢ 0 → Q.◌⊗◌ (remainder_of (o.inv a.0) l) (image a) ≡ Q.one
       inverse a l n =
           Q.mul_comm (remainder_of (o.inv a.0) l) (image a)
-          ∙ sym (remainder_of-product a.0 (o.inv a.0) 1 (elem_lt a.0 a.1) l one_lt_size (F.mul-inv a.0 (elem_lt a.0 a.1) n))
+          ∙ sym (remainder_of-product a.0 (o.inv a.0) 1 (elem_lt a.0 a.1) l one_lt_size
+          (F.mul-inv a.0 (elem_lt a.0 a.1) n))
           ∙ remainder_of-one one_lt_size
 
       field_embedding : FieldEmbedding o Q
@@ -242,8 +272,10 @@ module _ (p : ℕ) (two_le : 2 ≤ p) (m : List ℕ) where
           λ a b ha hb. lt_elem (o.add a b) (let s = F.add a b (elem_lt a ha) (elem_lt b hb) in s.below) in
           let mul-elem : (a b : ℕ) → IsElem o a → IsElem o b → IsElem o (o.mul a b) =
           λ a b ha hb. lt_elem (o.mul a b) (let s = F.mul a b (elem_lt a ha) (elem_lt b hb) in s.below) in
-          let neg-elem : (a : ℕ) → IsElem o a → IsElem o (o.neg a) = λ a ha. lt_elem (o.neg a) (F.neg a (elem_lt a ha)) in
-          let inv-elem : (a : ℕ) → IsElem o a → IsElem o (o.inv a) = λ a ha. lt_elem (o.inv a) (F.inv a (elem_lt a ha)) in
+          let neg-elem : (a : ℕ) → IsElem o a
+          → IsElem o (o.neg a) = λ a ha. lt_elem (o.neg a) (F.neg a (elem_lt a ha)) in
+          let inv-elem : (a : ℕ) → IsElem o a
+          → IsElem o (o.inv a) = λ a ha. lt_elem (o.inv a) (F.inv a (elem_lt a ha)) in
           record {
             zero-elem = zero-elem;
             one-elem = one-elem;
@@ -253,13 +285,17 @@ module _ (p : ℕ) (two_le : 2 ≤ p) (m : List ℕ) where
             inv-elem = inv-elem;
             map = image;
             injective = λ a b e. remainder_of-injective a.0 b.0 (elem_lt a.0 a.1) (elem_lt b.0 b.1) e;
-            map-zero = remainder_of_congr o.zero 0 (elem_lt o.zero zero-elem) zero_lt_size F.zero ∙ remainder_of-zero zero_lt_size;
-            map-one = remainder_of_congr o.one 1 (elem_lt o.one one-elem) one_lt_size F.one ∙ remainder_of-one one_lt_size;
+            map-zero = remainder_of_congr o.zero 0 (elem_lt o.zero zero-elem) zero_lt_size F.zero
+                ∙ remainder_of-zero zero_lt_size;
+            map-one = remainder_of_congr o.one 1 (elem_lt o.one one-elem) one_lt_size F.one
+                ∙ remainder_of-one one_lt_size;
             map-add = λ a b. remainder_of-sum a.0 b.0 (o.add a.0 b.0) (elem_lt a.0 a.1) (elem_lt b.0 b.1)
-                (elem_lt (o.add a.0 b.0) (add-elem a.0 b.0 a.1 b.1)) (F.add a.0 b.0 (elem_lt a.0 a.1) (elem_lt b.0 b.1));
+                (elem_lt (o.add a.0 b.0) (add-elem a.0 b.0 a.1 b.1))
+                (F.add a.0 b.0 (elem_lt a.0 a.1) (elem_lt b.0 b.1));
             map-neg = λ a. opposite a (elem_lt (o.neg a.0) (neg-elem a.0 a.1));
             map-mul = λ a b. remainder_of-product a.0 b.0 (o.mul a.0 b.0) (elem_lt a.0 a.1) (elem_lt b.0 b.1)
-                (elem_lt (o.mul a.0 b.0) (mul-elem a.0 b.0 a.1 b.1)) (F.mul a.0 b.0 (elem_lt a.0 a.1) (elem_lt b.0 b.1));
+                (elem_lt (o.mul a.0 b.0) (mul-elem a.0 b.0 a.1 b.1))
+                (F.mul a.0 b.0 (elem_lt a.0 a.1) (elem_lt b.0 b.1));
             map-inv = λ a n. inverse a (elem_lt (o.inv a.0) (inv-elem a.0 a.1)) (λ e. n (e ∙ sym F.zero));
             is_zero-sound = λ a _ e. eqb-true a 0 (sym (F.is_zero a) ∙ e) ∙ sym F.zero;
             is_zero-zero = F.is_zero o.zero ∙ eq-eqb o.zero 0 F.zero;

@@ -7,7 +7,8 @@ use Rattle.theory_rings.specs.Homomorphism.{IsRingHom}
 use Rattle.theory_rings.specs.Fraction.{SameFraction, Fraction, IsValue, IsFractionField}
 use Rattle.theory_rings.proofs.Rings.RingLaws.{mul-zero, zero-mul, neg-mul}
 use Rattle.theory_rings.proofs.Rings.ZeroTests.{is_zero-complete}
-use Rattle.theory_rings.proofs.Rings.Solver.{◌⊞◌, ◌⊠◌, minus, unit, nil, var, v0, v1, v2, v3, v4, ring2, ring3, ring4, by_sorted}
+use Rattle.theory_rings.proofs.Rings.Solver.{◌⊞◌, ◌⊠◌, minus, unit, nil, var, v0, v1, v2, v3, v4, ring2, ring3, ring4}
+use Rattle.theory_rings.proofs.Rings.Solver.{by_sorted}
 
 -- products cancel, and each fraction with a denominator that is not 0 has exactly one pair in lowest terms
 pub record IsReduction {D : Type 0} (C : CommRingOn D) (Lowest : D → D → Type 0) : Type 0 where
@@ -50,7 +51,8 @@ module _ {D : Type 0} (C : CommRingOn D) (Lowest : D → D → Type 0) (I : IsRe
   reduce_value u v h = let r = I.reduced u v h in r.2
 
   -- the fraction with a given value is unique
-  pub value_unique : (x y : Frac) (u v u' v' : D) → v ≢ zero → v' ≢ zero → Is x u v → Is y u' v' → SameFraction C u v u' v' → x ≡ y
+  pub value_unique : (x y : Frac) (u v u' v' : D) → v ≢ zero → v' ≢ zero → Is x u v → Is y u' v'
+      → SameFraction C u v u' v' → x ≡ y
   value_unique x y u v u' v' h h' ex ey e =
       Fraction-path x y (I.mul_cancel_left (v ⊗ v') (x.0.0 ⊗ y.0.1) (y.0.0 ⊗ x.0.1) (product-ne-zero v v' h h')
       (ring4 C (λ a b v w. (v ⊠ w ⊠ (a ⊠ b), a ⊠ v ⊠ (b ⊠ w))) refl x.0.0 y.0.1 v v'
@@ -95,7 +97,8 @@ module _ {D : Type 0} (C : CommRingOn D) (Lowest : D → D → Type 0) (I : IsRe
   unfolding fraction_one
   one_value = reduce_value one one I.one-nonzero
 
-  pub add_value : (x y : Frac) (u v u' v' : D) → Is x u v → Is y u' v' → Is (fraction_add x y) (u ⊗ v' ⊕ u' ⊗ v) (v ⊗ v')
+  pub add_value : (x y : Frac) (u v u' v' : D) → Is x u v → Is y u' v'
+      → Is (fraction_add x y) (u ⊗ v' ⊕ u' ⊗ v) (v ⊗ v')
   unfolding fraction_add
   add_value x y u v u' v' ex ey =
       value_same (fraction_add x y) (x.0.0 ⊗ y.0.1 ⊕ y.0.0 ⊗ x.0.1) (x.0.1 ⊗ y.0.1) (u ⊗ v' ⊕ u' ⊗ v) (v ⊗ v')
@@ -118,7 +121,8 @@ module _ {D : Type 0} (C : CommRingOn D) (Lowest : D → D → Type 0) (I : IsRe
   pub neg_value : (x : Frac) (u v : D) → Is x u v → Is (fraction_neg x) (neg u) v
   unfolding fraction_neg
   neg_value x u v e =
-      value_same (fraction_neg x) (neg x.0.0) x.0.1 (neg u) v (denominator-ne-zero x) (reduce_value (neg x.0.0) x.0.1 (denominator-ne-zero x))
+      value_same (fraction_neg x) (neg x.0.0) x.0.1 (neg u) v (denominator-ne-zero x)
+      (reduce_value (neg x.0.0) x.0.1 (denominator-ne-zero x))
       (neg-mul C.ring x.0.0 v ∙ ap neg e ∙ sym (neg-mul C.ring u x.0.1))
 
   own : (x : Frac) → Is x x.0.0 x.0.1
@@ -156,7 +160,8 @@ module _ {D : Type 0} (C : CommRingOn D) (Lowest : D → D → Type 0) (I : IsRe
 
   fraction-neg-add : (x : Frac) → fraction_add (fraction_neg x) x ≡ fraction_zero
   fraction-neg-add x =
-      value_unique (fraction_add (fraction_neg x) x) fraction_zero (neg x.0.0 ⊗ x.0.1 ⊕ x.0.0 ⊗ x.0.1) (x.0.1 ⊗ x.0.1) zero one
+      value_unique (fraction_add (fraction_neg x) x) fraction_zero (neg x.0.0 ⊗ x.0.1 ⊕ x.0.0 ⊗ x.0.1)
+      (x.0.1 ⊗ x.0.1) zero one
       (denominators x x) I.one-nonzero
       (add_value (fraction_neg x) x (neg x.0.0) x.0.1 x.0.0 x.0.1 (neg_value x x.0.0 x.0.1 (own x)) (own x)) zero_value
       (ring2 C (λ a b. ((minus a ⊠ b ⊞ a ⊠ b) ⊠ unit, nil ⊠ (b ⊠ b))) refl x.0.0 x.0.1)
@@ -167,8 +172,10 @@ module _ {D : Type 0} (C : CommRingOn D) (Lowest : D → D → Type 0) (I : IsRe
       (x.0.0 ⊗ y.0.0 ⊗ z.0.0) (x.0.1 ⊗ y.0.1 ⊗ z.0.1) (x.0.0 ⊗ (y.0.0 ⊗ z.0.0)) (x.0.1 ⊗ (y.0.1 ⊗ z.0.1))
       (product-ne-zero (x.0.1 ⊗ y.0.1) z.0.1 (denominators x y) (denominator-ne-zero z))
       (product-ne-zero x.0.1 (y.0.1 ⊗ z.0.1) (denominator-ne-zero x) (denominators y z))
-      (mul_value (fraction_mul x y) z (x.0.0 ⊗ y.0.0) (x.0.1 ⊗ y.0.1) z.0.0 z.0.1 (mul_value x y x.0.0 x.0.1 y.0.0 y.0.1 (own x) (own y)) (own z))
-      (mul_value x (fraction_mul y z) x.0.0 x.0.1 (y.0.0 ⊗ z.0.0) (y.0.1 ⊗ z.0.1) (own x) (mul_value y z y.0.0 y.0.1 z.0.0 z.0.1 (own y) (own z)))
+      (mul_value (fraction_mul x y) z (x.0.0 ⊗ y.0.0) (x.0.1 ⊗ y.0.1) z.0.0 z.0.1
+      (mul_value x y x.0.0 x.0.1 y.0.0 y.0.1 (own x) (own y)) (own z))
+      (mul_value x (fraction_mul y z) x.0.0 x.0.1 (y.0.0 ⊗ z.0.0) (y.0.1 ⊗ z.0.1) (own x)
+      (mul_value y z y.0.0 y.0.1 z.0.0 z.0.1 (own y) (own z)))
       (ap₂ (λ s t. s ⊗ t) (C.mul_assoc x.0.0 y.0.0 z.0.0) (sym (C.mul_assoc x.0.1 y.0.1 z.0.1)))
 
   fraction-mul_comm : (x y : Frac) → fraction_mul x y ≡ fraction_mul y x
@@ -185,7 +192,8 @@ module _ {D : Type 0} (C : CommRingOn D) (Lowest : D → D → Type 0) (I : IsRe
       (mul_value fraction_one x one one x.0.0 x.0.1 one_value (own x)) (own x)
       (ring2 C (λ a b. (unit ⊠ a ⊠ b, a ⊠ (unit ⊠ b))) refl x.0.0 x.0.1)
 
-  fraction-mul-add : (x y z : Frac) → fraction_mul x (fraction_add y z) ≡ fraction_add (fraction_mul x y) (fraction_mul x z)
+  fraction-mul-add : (x y z : Frac)
+      → fraction_mul x (fraction_add y z) ≡ fraction_add (fraction_mul x y) (fraction_mul x z)
   fraction-mul-add x y z =
       value_unique (fraction_mul x (fraction_add y z)) (fraction_add (fraction_mul x y) (fraction_mul x z))
       (x.0.0 ⊗ (y.0.0 ⊗ z.0.1 ⊕ z.0.0 ⊗ y.0.1)) (x.0.1 ⊗ (y.0.1 ⊗ z.0.1))
@@ -242,12 +250,15 @@ module _ {D : Type 0} (C : CommRingOn D) (Lowest : D → D → Type 0) (I : IsRe
   pub fraction_of_hom : IsRingHom C.ring fraction_ring.ring fraction_of
   unfolding fraction_ring
   fraction_of_hom = record {
-    map-one = value_unique (fraction_of one) fraction_one one one one one I.one-nonzero I.one-nonzero (fraction_of_value one) one_value refl;
-    map-add = λ a b. value_unique (fraction_of (a ⊕ b)) (fraction_add (fraction_of a) (fraction_of b)) (a ⊕ b) one (a ⊗ one ⊕ b ⊗ one) (one ⊗ one)
+    map-one = value_unique (fraction_of one) fraction_one one one one one I.one-nonzero I.one-nonzero
+        (fraction_of_value one) one_value refl;
+    map-add = λ a b. value_unique (fraction_of (a ⊕ b)) (fraction_add (fraction_of a) (fraction_of b)) (a ⊕ b) one
+        (a ⊗ one ⊕ b ⊗ one) (one ⊗ one)
         I.one-nonzero one-one (fraction_of_value (a ⊕ b))
         (add_value (fraction_of a) (fraction_of b) a one b one (fraction_of_value a) (fraction_of_value b))
         (ring2 C (λ a b. ((a ⊞ b) ⊠ (unit ⊠ unit), (a ⊠ unit ⊞ b ⊠ unit) ⊠ unit)) refl a b);
-    map-mul = λ a b. value_unique (fraction_of (a ⊗ b)) (fraction_mul (fraction_of a) (fraction_of b)) (a ⊗ b) one (a ⊗ b) (one ⊗ one)
+    map-mul = λ a b. value_unique (fraction_of (a ⊗ b)) (fraction_mul (fraction_of a) (fraction_of b)) (a ⊗ b) one
+        (a ⊗ b) (one ⊗ one)
         I.one-nonzero one-one (fraction_of_value (a ⊗ b))
         (mul_value (fraction_of a) (fraction_of b) a one b one (fraction_of_value a) (fraction_of_value b))
         (ring2 C (λ a b. (a ⊠ b ⊠ (unit ⊠ unit), a ⊠ b ⊠ unit)) refl a b);
@@ -276,7 +287,8 @@ module _ {D : Type 0} (C : CommRingOn D) (Lowest : D → D → Type 0) (I : IsRe
     pub fraction_inv : Frac → Frac
     fraction_inv x = invert x (is_zero x.0.0) refl
 
-    invert-mul : (x : Frac) (b : Bool) (e : is_zero x.0.0 ≡ b) → x.0.0 ≢ zero → fraction_mul (invert x b e) x ≡ fraction_one
+    invert-mul : (x : Frac) (b : Bool) (e : is_zero x.0.0 ≡ b) → x.0.0 ≢ zero
+        → fraction_mul (invert x b e) x ≡ fraction_one
     unfolding invert
     invert-mul x true e h = absurd (h (Z.is_zero-sound x.0.0 e))
     invert-mul x false e h =
@@ -293,7 +305,8 @@ module _ {D : Type 0} (C : CommRingOn D) (Lowest : D → D → Type 0) (I : IsRe
     fraction_one-ne-zero : fraction_one ≡ fraction_zero → ⊥
     fraction_one-ne-zero e =
         denominator-ne-zero fraction_one
-        (sym (C.one-mul fraction_one.0.1) ∙ sym one_value ∙ C.mul-one fraction_one.0.0 ∙ ap (λ x. x.0.0) e ∙ numerator-zero)
+        (sym (C.one-mul fraction_one.0.1) ∙ sym one_value ∙ C.mul-one fraction_one.0.0 ∙ ap (λ x. x.0.0) e
+        ∙ numerator-zero)
 
     -- the field of fractions
     pub fraction_field : FieldOn Frac

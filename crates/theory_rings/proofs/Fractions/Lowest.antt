@@ -11,10 +11,14 @@ use Rattle.theory_rings.specs.Fraction.{SameFraction, Fraction, IsLowest, IsFrac
 use Rattle.theory_rings.proofs.Rings.RingLaws.{left_ne_zero_of_mul, right_ne_zero_of_mul}
 use Rattle.theory_rings.proofs.Rings.Solver.{◌⊞◌, ◌⊠◌, v0, v1, v2, v3, v4, var, ring4, ring5, by_sorted}
 use Rattle.theory_rings.proofs.Polynomials.PolynomialRing.{constant, is_zero_poly, zero_poly_test}
-use Rattle.theory_rings.proofs.Polynomials.Degrees.{length_pos, ne_zero_of_length, lead-ne-zero, lead-constant, eq_constant}
+use Rattle.theory_rings.proofs.Polynomials.Degrees.{length_pos, ne_zero_of_length, lead-ne-zero, lead-constant}
+use Rattle.theory_rings.proofs.Polynomials.Degrees.{eq_constant}
 use Rattle.theory_rings.proofs.Polynomials.Constants.{constant-one}
 use Rattle.theory_rings.proofs.Rings.Fields.{field_set}
-use Rattle.theory_rings.proofs.Polynomials.Bezout.{field_polynomials, field_degree-mul, field_lead-mul, poly_mul-ne-zero, poly_mul_cancel_left, poly_one-ne-zero, constant_inverse, gcd, coprime_comm, coprime_of_bezout, divides_of_coprime}
+use Rattle.theory_rings.proofs.Polynomials.Bezout.{field_polynomials, field_degree-mul, field_lead-mul}
+use Rattle.theory_rings.proofs.Polynomials.Bezout.{poly_mul-ne-zero, poly_mul_cancel_left, poly_one-ne-zero}
+use Rattle.theory_rings.proofs.Polynomials.Bezout.{constant_inverse, gcd, coprime_comm, coprime_of_bezout}
+use Rattle.theory_rings.proofs.Polynomials.Bezout.{divides_of_coprime}
 use Rattle.theory_rings.proofs.Fractions.Fractions.{IsReduction, fraction_field, is_fraction_field}
 
 module _ {K : Type 0} (F : FieldOn K) where
@@ -50,17 +54,20 @@ module _ {K : Type 0} (F : FieldOn K) where
   normalizer-inverse : (v : Poly R) → v ≢ P.zero → P.◌⊗◌ (constant R F.zero_test (lead R v)) (normalizer v) ≡ P.one
   unfolding normalizer
   normalizer-inverse v h =
-      P.mul_comm (constant R F.zero_test (lead R v)) (normalizer v) ∙ constant_inverse F (lead R v) (lead-ne-zero R F.zero_test v h)
+      P.mul_comm (constant R F.zero_test (lead R v)) (normalizer v)
+      ∙ constant_inverse F (lead R v) (lead-ne-zero R F.zero_test v h)
 
   normalizer-ne-zero : (v : Poly R) → v ≢ P.zero → normalizer v ≢ P.zero
   normalizer-ne-zero v h =
-      right_ne_zero_of_mul P.ring (constant R F.zero_test (lead R v)) (normalizer v) (λ e. poly_one-ne-zero F (sym (normalizer-inverse v h) ∙ e))
+      right_ne_zero_of_mul P.ring (constant R F.zero_test (lead R v)) (normalizer v)
+      (λ e. poly_one-ne-zero F (sym (normalizer-inverse v h) ∙ e))
 
   -- it does
   IsMonic-normalizer : (v : Poly R) → v ≢ P.zero → IsMonic R (P.◌⊗◌ (normalizer v) v)
   unfolding normalizer
   IsMonic-normalizer v h = record {
-    nonzero = length_pos R F.zero_test (P.◌⊗◌ (normalizer v) v) (poly_mul-ne-zero F (normalizer v) v (normalizer-ne-zero v h) h);
+    nonzero = length_pos R F.zero_test (P.◌⊗◌ (normalizer v) v)
+        (poly_mul-ne-zero F (normalizer v) v (normalizer-ne-zero v h) h);
     leading = field_lead-mul F (normalizer v) v (normalizer-ne-zero v h) h
         ∙ ap (λ x. F.◌⊗◌ x (lead R v)) (lead-constant R F.zero_test (F.inv (lead R v)))
         ∙ F.inv-mul (lead R v) (lead-ne-zero R F.zero_test v h);
@@ -102,7 +109,8 @@ module _ {K : Type 0} (F : FieldOn K) where
           -- the cofactors are coprime, as g cancels
           cofactors : P.◌⊕◌ (P.◌⊗◌ e.s a) (P.◌⊗◌ e.t b) ≡ P.one
           cofactors =
-              poly_mul_cancel_left F g (P.◌⊕◌ (P.◌⊗◌ e.s a) (P.◌⊗◌ e.t b)) P.one (right_ne_zero_of_mul P.ring b g product-ne-zero)
+              poly_mul_cancel_left F g (P.◌⊕◌ (P.◌⊗◌ e.s a) (P.◌⊗◌ e.t b)) P.one
+              (right_ne_zero_of_mul P.ring b g product-ne-zero)
               (ring5 P (λ g s a t b. (g ⊠ (s ⊠ a ⊞ t ⊠ b), s ⊠ (a ⊠ g) ⊞ t ⊠ (b ⊠ g))) refl g e.s a e.t b
               ∙ ap₂ (λ x y. P.◌⊕◌ (P.◌⊗◌ e.s x) (P.◌⊗◌ e.t y)) (sym e.left.1) (sym e.right.1)
               ∙ sym e.combined ∙ sym (P.mul-one g))
@@ -140,7 +148,8 @@ module _ {K : Type 0} (F : FieldOn K) where
 
       lead_one : lead R c ≡ F.one
       lead_one =
-          sym (F.mul-one (lead R c)) ∙ ap (F.◌⊗◌ (lead R c)) (sym hv.leading) ∙ sym (field_lead-mul F c v c-ne-zero v-ne-zero)
+          sym (F.mul-one (lead R c)) ∙ ap (F.◌⊗◌ (lead R c)) (sym hv.leading)
+          ∙ sym (field_lead-mul F c v c-ne-zero v-ne-zero)
           ∙ ap (lead R) (sym d.1) ∙ hw.leading
 
       unit : c ≡ P.one
@@ -149,7 +158,8 @@ module _ {K : Type 0} (F : FieldOn K) where
           ∙ ap (constant R F.zero_test) (ap (coefficient R c) (sym flat) ∙ lead_one) ∙ constant-one R F.zero_test
 
   -- lowest terms are unique
-  pub lowest_terms_unique : (u v u' v' : Poly R) → Lowest u v → Lowest u' v' → SameFraction P u v u' v' → (u ≡ u') × (v ≡ v')
+  pub lowest_terms_unique : (u v u' v' : Poly R) → Lowest u v → Lowest u' v' → SameFraction P u v u' v' → (u ≡ u')
+      × (v ≡ v')
   lowest_terms_unique u v u' v' h h' e = (numerators, denominators)
     where
       divides : Divides P v v'
@@ -178,8 +188,10 @@ module _ {K : Type 0} (F : FieldOn K) where
 
   -- the field of rational functions over F
   pub rational_functions : FieldOn (Fraction Lowest)
-  rational_functions = fraction_field P Lowest polynomial_reduction (is_zero_poly R F.zero_test) (zero_poly_test R F.zero_test)
+  rational_functions = fraction_field P Lowest polynomial_reduction (is_zero_poly R F.zero_test)
+      (zero_poly_test R F.zero_test)
 
   pub is_rational_functions : IsFractionField P Lowest rational_functions
   unfolding rational_functions
-  is_rational_functions = is_fraction_field P Lowest polynomial_reduction (is_zero_poly R F.zero_test) (zero_poly_test R F.zero_test)
+  is_rational_functions =
+      is_fraction_field P Lowest polynomial_reduction (is_zero_poly R F.zero_test) (zero_poly_test R F.zero_test)

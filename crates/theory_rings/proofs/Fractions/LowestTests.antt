@@ -8,7 +8,8 @@ use Rattle.theory_rings.specs.Division.{IsCoprime, IsGcd}
 use Rattle.theory_rings.proofs.Rings.ZeroTests.{eq_of_sub_eq_zero, sub_eq_zero_of_eq}
 use Rattle.theory_rings.proofs.Polynomials.PolynomialRing.{constant}
 use Rattle.theory_rings.proofs.Polynomials.Degrees.{length-degree, ne_zero_of_length, length-degree_of_ne_zero}
-use Rattle.theory_rings.proofs.Polynomials.Bezout.{field_polynomials, gcd, combination_one, coprime_of_bezout, coprime_gcd-ne-zero}
+use Rattle.theory_rings.proofs.Polynomials.Bezout.{field_polynomials, gcd, combination_one, coprime_of_bezout}
+use Rattle.theory_rings.proofs.Polynomials.Bezout.{coprime_gcd-ne-zero}
 use Rattle.theory_rings.proofs.Fractions.Lowest.{Lowest}
 
 module _ {K : Type 0} (F : FieldOn K) where
@@ -38,7 +39,11 @@ module _ {K : Type 0} (F : FieldOn K) where
   is_coprime-complete a b c = eq-eqb (length (gcd F a b).0.0) 1 (go (gcd F a b).0 (gcd F a b).1)
     where
       go : (g : Poly R) → IsGcd P a b g → length g.0 ≡ 1
-      go g d = omega (arith, length-degree_of_ne_zero R F.zero_test g (coprime_gcd-ne-zero F a b g c d), c g d.left d.right)
+      go g d = omega (
+        arith,
+        length-degree_of_ne_zero R F.zero_test g (coprime_gcd-ne-zero F a b g c d),
+        c g d.left d.right,
+      )
 
   -- not empty, and the leading coefficient less 1 is 0
   pub is_monic : Poly R → Bool
@@ -51,7 +56,8 @@ module _ {K : Type 0} (F : FieldOn K) where
       let b : Bool = F.is_zero (F.◌⊕◌ (lead R v) (F.neg F.one)) in
       record {
         nonzero = omega (arith, eqb-true (length v.0) (suc (degree v.0)) (and_parts a b e).0);
-        leading = eq_of_sub_eq_zero F.additive (lead R v) F.one (F.is_zero-sound (F.◌⊕◌ (lead R v) (F.neg F.one)) (and_parts a b e).1);
+        leading = eq_of_sub_eq_zero F.additive (lead R v) F.one
+            (F.is_zero-sound (F.◌⊕◌ (lead R v) (F.neg F.one)) (and_parts a b e).1);
       }
 
   pub is_monic-complete : (v : Poly R) → IsMonic R v → is_monic v ≡ true
@@ -73,4 +79,5 @@ module _ {K : Type 0} (F : FieldOn K) where
 
   pub is_lowest-complete : (u v : Poly R) → Lowest F u v → is_lowest u v ≡ true
   unfolding is_lowest
-  is_lowest-complete u v h = and_from (is_monic v) (is_coprime u v) (is_monic-complete v h.monic) (is_coprime-complete u v h.coprime)
+  is_lowest-complete u v h =
+      and_from (is_monic v) (is_coprime u v) (is_monic-complete v h.monic) (is_coprime-complete u v h.coprime)

@@ -22,16 +22,19 @@ module _ (S : ℕ → Type 0) (closed : IsClosed S) where
   euclid : (fuel a b : ℕ) → a + b < fuel → S a → S b → CommonDivisor S a b
   euclid zero a b l sa sb = absurd (omega arith)
   euclid (suc fuel) zero b l sa sb = record { divisor = b; member = sb; left = dvd-zero b; right = dvd_refl b }
-  euclid (suc fuel) (suc a) zero l sa sb = record { divisor = suc a; member = sa; left = dvd_refl (suc a); right = dvd-zero (suc a) }
+  euclid (suc fuel) (suc a) zero l sa sb =
+      record { divisor = suc a; member = sa; left = dvd_refl (suc a); right = dvd-zero (suc a) }
   euclid (suc fuel) (suc a) (suc b) l sa sb = ⊎_elim
       (λ (h : a < b).
       let e : suc a + (b - a) ≡ suc b = omega arith in
-      let c = euclid fuel (suc a) (b - a) (omega arith) sa (closed.differences (suc a) (b - a) sa (subst S (sym e) sb)) in
+      let c = euclid fuel (suc a) (b - a) (omega arith) sa
+      (closed.differences (suc a) (b - a) sa (subst S (sym e) sb)) in
       let d : c.divisor ∣ suc b = subst (λ n. c.divisor ∣ n) e (dvd-add c.divisor c.left c.right) in
       record { divisor = c.divisor; member = c.member; left = c.left; right = d })
       (λ (h : b ≤ a).
       let e : suc b + (a - b) ≡ suc a = omega arith in
-      let c = euclid fuel (a - b) (suc b) (omega arith) (closed.differences (suc b) (a - b) sb (subst S (sym e) sa)) sb in
+      let c = euclid fuel (a - b) (suc b) (omega arith)
+      (closed.differences (suc b) (a - b) sb (subst S (sym e) sa)) sb in
       let d : c.divisor ∣ suc a = subst (λ n. c.divisor ∣ n) e (dvd-add c.divisor c.right c.left) in
       record { divisor = c.divisor; member = c.member; left = d; right = c.right })
       (cases_lt a b)
@@ -44,7 +47,8 @@ module _ (S : ℕ → Type 0) (closed : IsClosed S) where
 
   pub IsClosed-mul : (a k : ℕ) → S a → S (a * k)
   IsClosed-mul a zero s = subst S (sym (mul-zero a)) (IsClosed-zero a s)
-  IsClosed-mul a (suc k) s = let e : a * k + a ≡ a * suc k = omega arith in subst S e (closed.sums (a * k) a (IsClosed-mul a k s) s)
+  IsClosed-mul a (suc k) s = let e : a * k + a ≡ a * suc k = omega arith in
+      subst S e (closed.sums (a * k) a (IsClosed-mul a k s) s)
 
   -- the numbers whose multiples by c are members
   pub IsClosed-scaled : (c : ℕ) → IsClosed (λ x. S (c * x))

@@ -1,7 +1,9 @@
 -- A number below p ^ d is its d digits, and each d digits are those of one number below p ^ d.
 use Rattle.std.specs.Prelude.{◌≡◌, ℕ, zero, suc, ◌+◌, ◌*◌, ◌/◌, ◌%◌, ◌^◌, ◌<◌, ◌≤◌}
 use Rattle.std.proofs.Common.{sym, ◌∙◌, ap, ap₂, arith}
-use Rattle.std.proofs.Math.Nat.{mod-lt, mod-one, zero-mod, mod-eq_of_lt, div-add-mod, div-one, zero-div, div-eq_of_lt, div-div-eq-div-mul, mul-add-div, mul-add-mod_self_left, pow-zero, pow-suc, pow-succ', pow-le-pow_right, one-le-pow, mul-le-mul_right}
+use Rattle.std.proofs.Math.Nat.{mod-lt, mod-one, zero-mod, mod-eq_of_lt, div-add-mod, div-one, zero-div, div-eq_of_lt}
+use Rattle.std.proofs.Math.Nat.{div-div-eq-div-mul, mul-add-div, mul-add-mod_self_left, pow-zero, pow-suc, pow-succ'}
+use Rattle.std.proofs.Math.Nat.{pow-le-pow_right, one-le-pow, mul-le-mul_right}
 use Rattle.theory_rings.specs.Naturals.{nat_monoid}
 use Rattle.theory_rings.specs.Digits.{digit, of_digits, DigitsLaw}
 use Rattle.theory_rings.proofs.Sums.Sums.{sum_congr, sum_first}
@@ -56,7 +58,8 @@ module _ (p : ℕ) where
   pub digit_injective : (d a b : ℕ) → a < p ^ d → b < p ^ d → ((k : ℕ) → k < d → digit p a k ≡ digit p b k) → a ≡ b
   digit_injective d a b la lb h =
       sym (of_digits-digit d a la)
-      ∙ sum_congr nat_monoid d (λ k. digit p a k * p ^ k) (λ k. digit p b k * p ^ k) (λ k l. ap (λ x. x * p ^ k) (h k l))
+      ∙ sum_congr nat_monoid d (λ k. digit p a k * p ^ k) (λ k. digit p b k * p ^ k)
+      (λ k l. ap (λ x. x * p ^ k) (h k l))
       ∙ of_digits-digit d b lb
 
 pub lt_pow_self : (p a : ℕ) → 2 ≤ p → a < p ^ a
@@ -103,7 +106,8 @@ module _ (p : ℕ) (pos : 0 < p) where
   lt_of_digits d a e = let l = of_digits_lt d (digit p a) (λ k _. digit_lt a k) in omega arith
 
   -- the digits of the number that they make are these
-  pub digit-of_digits : (d : ℕ) (f : ℕ → ℕ) → ((k : ℕ) → k < d → f k < p) → (k : ℕ) → k < d → digit p (of_digits p d f) k ≡ f k
+  pub digit-of_digits : (d : ℕ) (f : ℕ → ℕ) → ((k : ℕ) → k < d → f k < p) → (k : ℕ) → k < d
+      → digit p (of_digits p d f) k ≡ f k
   digit-of_digits zero f h k l = absurd (omega arith)
   digit-of_digits (suc d) f h zero l =
       digit-zero p (of_digits p (suc d) f) ∙ ap (λ x. x % p) (of_digits_suc p d f ∙ omega arith)
@@ -118,4 +122,5 @@ module _ (p : ℕ) (pos : 0 < p) where
           ∙ ap (λ x. of_digits p d (λ i. f (suc i)) + x) (div-eq_of_lt (h 0 (omega arith))) ∙ omega arith
 
 pub digits_law : DigitsLaw
-digits_law p d two_le = (of_digits-digit p d, digit_lt p (omega arith), of_digits_lt p (omega arith) d, digit-of_digits p (omega arith) d)
+digits_law p d two_le =
+    (of_digits-digit p d, digit_lt p (omega arith), of_digits_lt p (omega arith) d, digit-of_digits p (omega arith) d)

@@ -59,4 +59,8 @@ inverses_of_prime p prime a h l = (
 )
 
 pub prime_law : PrimeLaw
-prime_law n = (inverses_of_prime n, λ two_le inverses. IsPrime_of_inverses n two_le (λ a h l. let i = inverses a h l in (i.0, i.2)))
+prime_law n = (
+  inverses_of_prime n,
+  λ two_le inverses.
+      IsPrime_of_inverses n two_le (λ a h l. let i = inverses a h l in (i.0, i.2)),
+)

@@ -10,7 +10,10 @@ use Rattle.theory_rings.specs.Ops.{FieldLaws}
 use Rattle.theory_rings.specs.Sum.{sum}
 use Rattle.theory_rings.specs.Naturals.{nat_monoid}
 use Rattle.theory_rings.proofs.Sums.Sums.{map-sum}
-use Rattle.theory_rings.specs.IntegersMod.{Fin, Fin-path, value-lt, residue, residue_is_zero, integers_mod, IntegersModLaw, FieldModLaw, IsInverseTable, mod_ops, mod-elem, zero-elem, one-elem, add_assoc_mod, add_comm_mod, zero-add_mod, neg-add_mod, mul_assoc_mod, mul_comm_mod, one-mul_mod, mul-add_mod}
+use Rattle.theory_rings.specs.IntegersMod.{Fin, Fin-path, value-lt, residue, residue_is_zero, integers_mod}
+use Rattle.theory_rings.specs.IntegersMod.{IntegersModLaw, FieldModLaw, IsInverseTable, mod_ops, mod-elem, zero-elem}
+use Rattle.theory_rings.specs.IntegersMod.{one-elem, add_assoc_mod, add_comm_mod, zero-add_mod, neg-add_mod}
+use Rattle.theory_rings.specs.IntegersMod.{mul_assoc_mod, mul_comm_mod, one-mul_mod, mul-add_mod}
 
 module _ (n : ℕ) (two_le : 2 ≤ n) where
   infixl 65 ◌⊕◌
@@ -36,7 +39,8 @@ module _ (n : ℕ) (two_le : 2 ≤ n) where
   pub residue-mul : (a b : ℕ) → residue n two_le (a * b) ≡ residue n two_le a ⊗ residue n two_le b
   residue-mul a b = Fin-path n (residue n two_le (a * b)) (residue n two_le a ⊗ residue n two_le b) (mul-mod a b n)
 
-  pub residue-sum : (k : ℕ) (f : ℕ → ℕ) → residue n two_le (sum nat_monoid k f) ≡ sum monoid k (λ i. residue n two_le (f i))
+  pub residue-sum : (k : ℕ) (f : ℕ → ℕ)
+      → residue n two_le (sum nat_monoid k f) ≡ sum monoid k (λ i. residue n two_le (f i))
   residue-sum = map-sum nat_monoid monoid (residue n two_le) residue-zero residue-add
 
   pub residue_zero_test : ZeroTest zero (residue_is_zero n two_le)
@@ -72,7 +76,8 @@ module _ (n : ℕ) (two_le : 2 ≤ n) where
       positive a k = omega arith
 
 pub integers_mod_law : IntegersModLaw
-integers_mod_law n two_le = (integers_mod n two_le, record { zero = refl; one = refl; add = λ a b. refl; mul = λ a b. refl })
+integers_mod_law n two_le =
+    (integers_mod n two_le, record { zero = refl; one = refl; add = λ a b. refl; mul = λ a b. refl })
 
 pub field_mod_law : FieldModLaw
 field_mod_law n inverses two_le T = mod_laws n two_le inverses T

@@ -1,5 +1,5 @@
--- The pigeonhole principle: a one-to-one map of the numbers below n to themselves is onto, as each number is met as often as
--- it stands among them, once.
+-- The pigeonhole principle: a one-to-one map of the numbers below n to themselves is onto, as each number is met as
+-- often as it stands among them, once.
 use Rattle.std.specs.Prelude.{◌≡◌, ℕ, zero, suc, ◌<◌, ◌≤◌, cond, eqb}
 use Rattle.std.proofs.Common.{refl, ◌∙◌, ap, arith, ⊎_elim}
 use Rattle.std.proofs.lemmas.Bool.{cases_lt, cases_eq, eq-eqb, ne_eqb}

@@ -1,10 +1,13 @@
 -- Prime numbers: Euclid's lemma and its converse, the test by inverses, and powers of a prime.
 use Rattle.std.specs.Prelude.{◌≡◌, ℕ, zero, suc, ◌-◌, ◌*◌, ◌/◌, ◌%◌, ◌^◌, ◌<◌, ◌≤◌, ◌⊎◌}
 use Rattle.std.specs.Int.{◌∣◌}
-use Rattle.std.proofs.Common.{refl, sym, ◌∙◌, ap, subst, subst₂, arith, inl, inr, ⊎_elim, mul_comm, add-mul, mul-one, one-mul}
+use Rattle.std.proofs.Common.{refl, sym, ◌∙◌, ap, subst, subst₂, arith, inl, inr, ⊎_elim, mul_comm, add-mul, mul-one}
+use Rattle.std.proofs.Common.{one-mul}
 use Rattle.std.proofs.lemmas.Bool.{cases_lt}
 use Rattle.std.proofs.lemmas.Nat.Gcd.{dvd_refl, dvd_antisymm, le_of_dvd, dvd_of_mod-eq-zero}
-use Rattle.std.proofs.Math.Nat.{mul-sub, dvd-add, dvd-add_iff_right, dvd-mul_left, dvd-mul_right, pos_of_dvd_of_pos, eq-one_of_dvd-one, mul-div_cancel', mul-mod_right, mod-mod_of_dvd, pow-zero, pow-suc, pow-succ', mul-dvd-mul_left}
+use Rattle.std.proofs.Math.Nat.{mul-sub, dvd-add, dvd-add_iff_right, dvd-mul_left, dvd-mul_right, pos_of_dvd_of_pos}
+use Rattle.std.proofs.Math.Nat.{eq-one_of_dvd-one, mul-div_cancel', mul-mod_right, mod-mod_of_dvd, pow-zero, pow-suc}
+use Rattle.std.proofs.Math.Nat.{pow-succ', mul-dvd-mul_left}
 use Rattle.theory_rings.specs.Prime.{IsPrime}
 use Rattle.theory_rings.proofs.Numbers.Divisibility.{dvd_or_not, dvd-sub_of_mod-eq, mod-eq_of_dvd-sub}
 use Rattle.theory_rings.proofs.Numbers.ClosedSets.{IsClosed, common_divisor, IsClosed-mul, IsClosed-scaled}
@@ -26,7 +29,8 @@ IsPrime-one_mem p prime S closed sp a sa n =
 pub IsPrime-dvd-mul : (p : ℕ) → IsPrime p → (a b : ℕ) → p ∣ a * b → (p ∣ a) ⊎ (p ∣ b)
 IsPrime-dvd-mul p prime a b d = ⊎_elim
     (λ (h : p ∣ a). inl h)
-    (λ (n : p ∣ a → ⊥). inr (subst (λ x. p ∣ x) (one-mul b) (IsPrime-one_mem p prime (λ x. p ∣ x * b) closed (dvd-mul_right p b) a d n)))
+    (λ (n : p ∣ a → ⊥). inr
+    (subst (λ x. p ∣ x) (one-mul b) (IsPrime-one_mem p prime (λ x. p ∣ x * b) closed (dvd-mul_right p b) a d n)))
     (dvd_or_not p a)
   where
     closed : IsClosed (λ x. p ∣ x * b)
@@ -79,9 +83,11 @@ IsPrime-mul_mod_cancel p prime a x y n e = mod-eq_of_dvd-sub p x y (side x y e) 
     side u v h = ⊎_elim
         (λ (d : p ∣ a). absurd (n d))
         (λ (d : p ∣ u - v). d)
-        (IsPrime-dvd-mul p prime a (u - v) (subst (λ z. p ∣ z) (sym (mul-sub a u v)) (dvd-sub_of_mod-eq p (a * u) (a * v) h)))
+        (IsPrime-dvd-mul p prime a (u - v)
+        (subst (λ z. p ∣ z) (sym (mul-sub a u v)) (dvd-sub_of_mod-eq p (a * u) (a * v) h)))
 
-apart-pow_mem : (p : ℕ) → IsPrime p → (i j : ℕ) (S : ℕ → Type 0) → IsClosed S → S (p ^ suc i) → S j → (p ∣ j → ⊥) → S (p ^ i)
+apart-pow_mem : (p : ℕ) → IsPrime p → (i j : ℕ) (S : ℕ → Type 0) → IsClosed S → S (p ^ suc i) → S j → (p ∣ j → ⊥)
+    → S (p ^ i)
 apart-pow_mem p prime i j S closed sp sj n =
     let T : ℕ → Type 0 = λ x. S (p ^ i * x) in
     let tp : T p = subst S (pow-suc p i) sp in
@@ -89,9 +95,11 @@ apart-pow_mem p prime i j S closed sp sj n =
     subst S (mul-one (p ^ i)) (IsPrime-one_mem p prime T (IsClosed-scaled S closed (p ^ i)) tp j tj n)
 
 -- with p ^ (i + 1) a closed set holds p ^ i, if it holds a number that p ^ (i + 1) does not divide
-pub IsPrime-pow_mem : (p : ℕ) → IsPrime p → (i j : ℕ) (S : ℕ → Type 0) → IsClosed S → S (p ^ suc i) → S j → (p ^ suc i ∣ j → ⊥) → S (p ^ i)
+pub IsPrime-pow_mem : (p : ℕ) → IsPrime p → (i j : ℕ) (S : ℕ → Type 0) → IsClosed S → S (p ^ suc i) → S j
+    → (p ^ suc i ∣ j → ⊥) → S (p ^ i)
 IsPrime-pow_mem p prime zero j S closed sp sj n = ⊎_elim
-    (λ (d : p ∣ j). let e : p ^ 1 ≡ p = pow-suc p 0 ∙ ap (λ x. x * p) (pow-zero p) ∙ one-mul p in absurd (n (subst (λ x. x ∣ j) (sym e) d)))
+    (λ (d : p ∣ j). let e : p ^ 1 ≡ p = pow-suc p 0 ∙ ap (λ x. x * p) (pow-zero p)
+    ∙ one-mul p in absurd (n (subst (λ x. x ∣ j) (sym e) d)))
     (apart-pow_mem p prime zero j S closed sp sj)
     (dvd_or_not p j)
 IsPrime-pow_mem p prime (suc i) j S closed sp sj n = ⊎_elim
@@ -101,7 +109,9 @@ IsPrime-pow_mem p prime (suc i) j S closed sp sj n = ⊎_elim
     let e : p * k ≡ j = mul-div_cancel' p d in
     let tp : T (p ^ suc i) = subst S (pow-succ' p (suc i)) sp in
     let tk : T k = subst S (sym e) sj in
-    let m : p ^ suc i ∣ k → ⊥ = λ (h : p ^ suc i ∣ k). n (subst₂ (λ x y. x ∣ y) (sym (pow-succ' p (suc i))) e (mul-dvd-mul_left (p ^ suc i) p h)) in
+    let m : p ^ suc i ∣ k
+    → ⊥ = λ (h : p ^ suc i ∣ k).
+    n (subst₂ (λ x y. x ∣ y) (sym (pow-succ' p (suc i))) e (mul-dvd-mul_left (p ^ suc i) p h)) in
     subst S (sym (pow-succ' p i)) (IsPrime-pow_mem p prime i k T (IsClosed-scaled S closed p) tp tk m))
     (apart-pow_mem p prime (suc i) j S closed sp sj)
     (dvd_or_not p j)

@@ -5,11 +5,13 @@ use Rattle.std.proofs.Common.{refl, sym, ◌∙◌, ap, ap₂, arith, inl, inr}
 use Rattle.theory_rings.specs.Ring.{FieldOn, CommRingOn}
 use Rattle.theory_rings.specs.Polynomial.{Poly, coefficient, lead, degree}
 use Rattle.theory_rings.specs.Division.{Divides, IsDivision, IsGcd, IsCoprime}
-use Rattle.theory_rings.proofs.Rings.RingLaws.{mul-zero, zero-mul, add-zero, add-neg, left_ne_zero_of_mul, right_ne_zero_of_mul}
+use Rattle.theory_rings.proofs.Rings.RingLaws.{mul-zero, zero-mul, add-zero, add-neg, left_ne_zero_of_mul}
+use Rattle.theory_rings.proofs.Rings.RingLaws.{right_ne_zero_of_mul}
 use Rattle.theory_rings.proofs.Rings.ZeroTests.{eq_of_sub_eq_zero}
 use Rattle.theory_rings.proofs.Rings.Solver.{◌⊞◌, ◌⊠◌, minus, ring3, ring4, ring5}
 use Rattle.theory_rings.proofs.Polynomials.PolynomialRing.{polynomials, coefficient-zero, coefficient-one, constant}
-use Rattle.theory_rings.proofs.Polynomials.Degrees.{poly_eq_zero_or, degree-mul, lead-mul, mul-ne-zero, lead-ne-zero, degree-constant, eq_constant, length_pos, length-eq-zero}
+use Rattle.theory_rings.proofs.Polynomials.Degrees.{poly_eq_zero_or, degree-mul, lead-mul, mul-ne-zero, lead-ne-zero}
+use Rattle.theory_rings.proofs.Polynomials.Degrees.{degree-constant, eq_constant, length_pos, length-eq-zero}
 use Rattle.theory_rings.proofs.Polynomials.Constants.{constant_hom, constant-one, variable, degree-variable}
 use Rattle.theory_rings.proofs.Polynomials.Division.{divide}
 use Rattle.theory_rings.proofs.Rings.Fields.{mul-inv, field_mul-ne-zero}
@@ -53,7 +55,8 @@ module _ {K : Type 0} (F : FieldOn K) where
       go (inr n) = absurd (poly_mul-ne-zero a (P.◌⊕◌ b (P.neg c)) h n null)
 
   pub poly_one-ne-zero : P.one ≢ P.zero
-  poly_one-ne-zero e = F.one-nonzero (sym (coefficient-one R F.zero_test 0) ∙ ap (λ x. coefficient R x 0) e ∙ coefficient-zero R F.zero_test 0)
+  poly_one-ne-zero e = F.one-nonzero
+      (sym (coefficient-one R F.zero_test 0) ∙ ap (λ x. coefficient R x 0) e ∙ coefficient-zero R F.zero_test 0)
 
   pub degree-one : degree P.one.0 ≡ 0
   degree-one = ap (λ x. degree x.0) (sym (constant-one R F.zero_test)) ∙ degree-constant R F.zero_test F.one
@@ -62,17 +65,25 @@ module _ {K : Type 0} (F : FieldOn K) where
   pub degree_of_divides_one : (g : Poly R) → Divides P g P.one → degree g.0 ≡ 0
   degree_of_divides_one g d =
       let h : P.◌⊗◌ d.0 g ≢ P.zero = λ e. poly_one-ne-zero (d.1 ∙ e) in
-      omega (arith, field_degree-mul d.0 g (left_ne_zero_of_mul P.ring d.0 g h) (right_ne_zero_of_mul P.ring d.0 g h), ap (λ x. degree x.0) d.1, degree-one)
+      omega (
+        arith,
+        field_degree-mul d.0 g (left_ne_zero_of_mul P.ring d.0 g h) (right_ne_zero_of_mul P.ring d.0 g h),
+        ap (λ x. degree x.0) d.1,
+        degree-one,
+      )
 
-  pub constant_inverse : (c : K) → c ≢ F.zero → P.◌⊗◌ (constant R F.zero_test (F.inv c)) (constant R F.zero_test c) ≡ P.one
+  pub constant_inverse : (c : K) → c ≢ F.zero
+      → P.◌⊗◌ (constant R F.zero_test (F.inv c)) (constant R F.zero_test c) ≡ P.one
   constant_inverse c h =
       let H = constant_hom R F.zero_test in
       sym (H.map-mul (F.inv c) c) ∙ ap (constant R F.zero_test) (F.inv-mul c h) ∙ H.map-one
 
   -- a polynomial of degree 0 that is not 0 has an inverse, the constant of the inverse of its leading coefficient
-  pub degree_zero_inverse : (a : Poly R) → a ≢ P.zero → degree a.0 ≡ 0 → P.◌⊗◌ (constant R F.zero_test (F.inv (lead R a))) a ≡ P.one
+  pub degree_zero_inverse : (a : Poly R) → a ≢ P.zero → degree a.0 ≡ 0
+      → P.◌⊗◌ (constant R F.zero_test (F.inv (lead R a))) a ≡ P.one
   degree_zero_inverse a h d =
-      ap (P.◌⊗◌ (constant R F.zero_test (F.inv (lead R a)))) (eq_constant R F.zero_test a d ∙ ap (λ k. constant R F.zero_test (coefficient R a k)) (sym d))
+      ap (P.◌⊗◌ (constant R F.zero_test (F.inv (lead R a))))
+      (eq_constant R F.zero_test a d ∙ ap (λ k. constant R F.zero_test (coefficient R a k)) (sym d))
       ∙ constant_inverse (lead R a) (lead-ne-zero R F.zero_test a h)
 
   -- a step of Euclid's algorithm
@@ -104,10 +115,12 @@ module _ {K : Type 0} (F : FieldOn K) where
   euclid zero a b l = (a, gcd_zero a b (length-eq-zero R F.zero_test b l))
   euclid (suc fuel) a b l = go (poly_eq_zero_or R F.zero_test b) (euclid fuel)
     where
-      go : (b ≡ P.zero) ⊎ (b ≢ P.zero) → ((a b : Poly R) → length b.0 ≤ fuel → (g : Poly R) × IsGcd P a b g) → (g : Poly R) × IsGcd P a b g
+      go : (b ≡ P.zero) ⊎ (b ≢ P.zero) → ((a b : Poly R) → length b.0 ≤ fuel → (g : Poly R) × IsGcd P a b g)
+          → (g : Poly R) × IsGcd P a b g
       go (inl z) rec = (a, gcd_zero a b z)
       go (inr h) rec =
-          let d = divide R F.zero_test b (F.inv (lead R b)) (mul-inv F (lead R b) (lead-ne-zero R F.zero_test b h)) (length_pos R F.zero_test b h) a in
+          let d = divide R F.zero_test b (F.inv (lead R b)) (mul-inv F (lead R b) (lead-ne-zero R F.zero_test b h))
+          (length_pos R F.zero_test b h) a in
           let smaller : length d.1.0 < length b.0 = (let e = d.2 in e.smaller) in
           let r = rec b d.1 (omega arith) in
           (r.0, gcd_step a b d.0 d.1 r.0 d.2 r.1)
@@ -126,14 +139,16 @@ module _ {K : Type 0} (F : FieldOn K) where
 
   -- where a greatest common divisor is a constant, 1 is a combination
   pub combination_one : (a b g : Poly R) (e : IsGcd P a b g) → g ≢ P.zero → degree g.0 ≡ 0
-      → (let k : Poly R = constant R F.zero_test (F.inv (lead R g)) in P.◌⊕◌ (P.◌⊗◌ (P.◌⊗◌ k e.s) a) (P.◌⊗◌ (P.◌⊗◌ k e.t) b) ≡ P.one)
+      → (let k : Poly R = constant R F.zero_test (F.inv (lead R g)) in
+      P.◌⊕◌ (P.◌⊗◌ (P.◌⊗◌ k e.s) a) (P.◌⊗◌ (P.◌⊗◌ k e.t) b) ≡ P.one)
   combination_one a b g e h d =
       let k : Poly R = constant R F.zero_test (F.inv (lead R g)) in
       ring5 P (λ k s a t b. ((k ⊠ s) ⊠ a ⊞ (k ⊠ t) ⊠ b, k ⊠ (s ⊠ a ⊞ t ⊠ b))) refl k e.s a e.t b
       ∙ ap (P.◌⊗◌ k) (sym e.combined) ∙ degree_zero_inverse g h d
 
   -- 1 is a combination of coprime polynomials
-  pub bezout : (a b : Poly R) → IsCoprime R P a b → (s : Poly R) × (t : Poly R) × (P.◌⊕◌ (P.◌⊗◌ s a) (P.◌⊗◌ t b) ≡ P.one)
+  pub bezout : (a b : Poly R) → IsCoprime R P a b → (s : Poly R) × (t : Poly R)
+      × (P.◌⊕◌ (P.◌⊗◌ s a) (P.◌⊗◌ t b) ≡ P.one)
   bezout a b c =
       let p = gcd a b in
       let e = p.1 in

@@ -8,7 +8,10 @@ use Rattle.theory_rings.proofs.Rings.RingLaws.{zero-mul, mul-zero, neg_zero}
 use Rattle.theory_rings.proofs.Rings.ZeroTests.{eq_zero_or}
 use Rattle.theory_rings.proofs.Sums.Sums.{sum_eq_single}
 use Rattle.theory_rings.proofs.Polynomials.Series.{convolution_eq_zero}
-use Rattle.theory_rings.proofs.Polynomials.PolynomialRing.{last-ne-zero, Poly-path, coefficient_past, polynomials, zero-list, coefficient-zero, coefficient-add, coefficient-neg, coefficient-mul, constant, coefficient-constant, zero_poly_test, constant_past}
+use Rattle.theory_rings.proofs.Polynomials.PolynomialRing.{last-ne-zero, Poly-path, coefficient_past, polynomials}
+use Rattle.theory_rings.proofs.Polynomials.PolynomialRing.{zero-list, coefficient-zero, coefficient-add}
+use Rattle.theory_rings.proofs.Polynomials.PolynomialRing.{coefficient-neg, coefficient-mul, constant}
+use Rattle.theory_rings.proofs.Polynomials.PolynomialRing.{coefficient-constant, zero_poly_test, constant_past}
 
 module _ {K : Type 0} (R : CommRingOn K) where
   -- coefficients that are 0 from n on bound the length
@@ -61,7 +64,8 @@ module _ {K : Type 0} (R : CommRingOn K) where
       go f = omega arith
 
   -- the last coefficient that is not 0 is that of the degree
-  pub degree_eq : (a : Poly R) (n : ℕ) → coefficient R a n ≢ R.zero → ((k : ℕ) → n < k → coefficient R a k ≡ R.zero) → degree a.0 ≡ n
+  pub degree_eq : (a : Poly R) (n : ℕ) → coefficient R a n ≢ R.zero → ((k : ℕ) → n < k → coefficient R a k ≡ R.zero)
+      → degree a.0 ≡ n
   degree_eq a n h past =
       let low = lt_length a n h in
       let high = length_le a (suc n) past in
@@ -130,24 +134,32 @@ module _ {K : Type 0} (R : CommRingOn K) {is_zero : K → Bool} (Z : ZeroTest R.
 
   pub length-neg_le : (a : Poly R) (n : ℕ) → length a.0 ≤ n → length (P.neg a).0 ≤ n
   length-neg_le a n la =
-      length_le R (P.neg a) n (λ k l. coefficient-neg R Z a k ∙ ap R.neg (coefficient_past R a k (omega arith)) ∙ neg_zero R.additive)
+      length_le R (P.neg a) n
+      (λ k l. coefficient-neg R Z a k ∙ ap R.neg (coefficient_past R a k (omega arith)) ∙ neg_zero R.additive)
 
-  pub coefficient-mul_top : (a b : Poly R) → coefficient R (P.◌⊗◌ a b) (degree a.0 + degree b.0) ≡ R.◌⊗◌ (lead R a) (lead R b)
+  pub coefficient-mul_top : (a b : Poly R)
+      → coefficient R (P.◌⊗◌ a b) (degree a.0 + degree b.0) ≡ R.◌⊗◌ (lead R a) (lead R b)
   coefficient-mul_top a b =
       coefficient-mul R Z a b (degree a.0 + degree b.0)
-      ∙ convolution-top R (degree a.0) (degree b.0) (coefficient R a) (coefficient R b) (coefficient_above R a) (coefficient_above R b)
+      ∙ convolution-top R (degree a.0) (degree b.0) (coefficient R a) (coefficient R b) (coefficient_above R a)
+      (coefficient_above R b)
 
-  pub coefficient-mul_above : (a b : Poly R) (k : ℕ) → degree a.0 + degree b.0 < k → coefficient R (P.◌⊗◌ a b) k ≡ R.zero
+  pub coefficient-mul_above : (a b : Poly R) (k : ℕ) → degree a.0 + degree b.0 < k
+      → coefficient R (P.◌⊗◌ a b) k ≡ R.zero
   coefficient-mul_above a b k l =
       coefficient-mul R Z a b k
-      ∙ convolution_above R (degree a.0) (degree b.0) (coefficient R a) (coefficient R b) (coefficient_above R a) (coefficient_above R b) k l
+      ∙ convolution_above R (degree a.0) (degree b.0) (coefficient R a) (coefficient R b) (coefficient_above R a)
+      (coefficient_above R b) k l
 
   -- degrees add up where the leading coefficients do not multiply to 0
-  pub degree-mul : (a b : Poly R) → R.◌⊗◌ (lead R a) (lead R b) ≢ R.zero → degree (P.◌⊗◌ a b).0 ≡ degree a.0 + degree b.0
+  pub degree-mul : (a b : Poly R) → R.◌⊗◌ (lead R a) (lead R b) ≢ R.zero
+      → degree (P.◌⊗◌ a b).0 ≡ degree a.0 + degree b.0
   degree-mul a b h =
-      degree_eq R (P.◌⊗◌ a b) (degree a.0 + degree b.0) (λ e. h (sym (coefficient-mul_top a b) ∙ e)) (coefficient-mul_above a b)
+      degree_eq R (P.◌⊗◌ a b) (degree a.0 + degree b.0) (λ e. h (sym (coefficient-mul_top a b) ∙ e))
+      (coefficient-mul_above a b)
 
-  pub lead-mul : (a b : Poly R) → R.◌⊗◌ (lead R a) (lead R b) ≢ R.zero → lead R (P.◌⊗◌ a b) ≡ R.◌⊗◌ (lead R a) (lead R b)
+  pub lead-mul : (a b : Poly R) → R.◌⊗◌ (lead R a) (lead R b) ≢ R.zero
+      → lead R (P.◌⊗◌ a b) ≡ R.◌⊗◌ (lead R a) (lead R b)
   lead-mul a b h = ap (coefficient R (P.◌⊗◌ a b)) (degree-mul a b h) ∙ coefficient-mul_top a b
 
   pub mul-ne-zero : (a b : Poly R) → R.◌⊗◌ (lead R a) (lead R b) ≢ R.zero → P.◌⊗◌ a b ≢ P.zero
@@ -155,7 +167,11 @@ module _ {K : Type 0} (R : CommRingOn K) {is_zero : K → Bool} (Z : ZeroTest R.
 
   pub degree-constant : (c : K) → degree (constant R Z c).0 ≡ 0
   degree-constant c =
-      omega (arith, length_le R (constant R Z c) 1 (λ k l. coefficient-constant R Z c k ∙ constant_past R.zero c k l), degree_lt (constant R Z c))
+      omega (
+        arith,
+        length_le R (constant R Z c) 1 (λ k l. coefficient-constant R Z c k ∙ constant_past R.zero c k l),
+        degree_lt (constant R Z c),
+      )
     where
       degree_lt : (a : Poly R) → length a.0 ≤ 1 → degree a.0 ≡ 0
       degree_lt a l = go a.0 l
@@ -173,4 +189,5 @@ module _ {K : Type 0} (R : CommRingOn K) {is_zero : K → Bool} (Z : ZeroTest R.
     where
       each : (k : ℕ) → coefficient R a k ≡ coefficient R (constant R Z (coefficient R a 0)) k
       each zero = sym (coefficient-constant R Z (coefficient R a 0) 0)
-      each (suc k) = coefficient_above R a (suc k) (omega arith) ∙ sym (coefficient-constant R Z (coefficient R a 0) (suc k))
+      each (suc k) = coefficient_above R a (suc k) (omega arith)
+          ∙ sym (coefficient-constant R Z (coefficient R a 0) (suc k))

@@ -1,16 +1,22 @@
--- Division of polynomials by one whose leading coefficient has an inverse: quotient and remainder exist, and are unique.
+-- Division of polynomials by one whose leading coefficient has an inverse: quotient and remainder exist, and are
+-- unique.
 use Rattle.std.specs.Prelude.{◌≡◌, ◌≢◌, ℕ, zero, suc, ◌<◌, ◌≤◌, Bool, List, [], ◌∷◌, length, ◌⊎◌}
 use Rattle.std.proofs.Common.{refl, sym, ◌∙◌, ap, ap₂, subst, arith, inl, inr}
 use Rattle.std.proofs.lemmas.Bool.{cases_lt}
 use Rattle.theory_rings.specs.Ring.{CommRingOn, ZeroTest}
 use Rattle.theory_rings.specs.Polynomial.{IsTrimmed, Poly, coefficient, lead, degree}
 use Rattle.theory_rings.specs.Division.{IsDivision}
-use Rattle.theory_rings.proofs.Rings.RingLaws.{add-neg, add_cancel_left, zero-mul, mul-zero, neg_zero, eq_zero_of_mul-unit}
+use Rattle.theory_rings.proofs.Rings.RingLaws.{add-neg, add_cancel_left, zero-mul, mul-zero, neg_zero}
+use Rattle.theory_rings.proofs.Rings.RingLaws.{eq_zero_of_mul-unit}
 use Rattle.theory_rings.proofs.Rings.ZeroTests.{eq_of_sub_eq_zero}
 use Rattle.theory_rings.proofs.Rings.Solver.{◌⊞◌, ◌⊠◌, minus, v0, v1, v2, v3, v4, var, by_sorted, ring5}
 use Rattle.theory_rings.proofs.Polynomials.Constants.{coefficient-constant_mul, variable, prepend_eq}
-use Rattle.theory_rings.proofs.Polynomials.PolynomialRing.{IsTrimmed-tail, Poly-path, coefficient_past, polynomials, coefficient-zero, coefficient-add, coefficient-neg, constant, prepend, coefficient-prepend, prepend-tail}
-use Rattle.theory_rings.proofs.Polynomials.Degrees.{length_le, length-degree, length-degree_of_ne_zero, poly_eq_zero_or, length-add_le, length-neg_le, degree-mul, mul-ne-zero, lead-ne-zero, zero-length}
+use Rattle.theory_rings.proofs.Polynomials.PolynomialRing.{IsTrimmed-tail, Poly-path, coefficient_past, polynomials}
+use Rattle.theory_rings.proofs.Polynomials.PolynomialRing.{coefficient-zero, coefficient-add, coefficient-neg, constant}
+use Rattle.theory_rings.proofs.Polynomials.PolynomialRing.{prepend, coefficient-prepend, prepend-tail}
+use Rattle.theory_rings.proofs.Polynomials.Degrees.{length_le, length-degree, length-degree_of_ne_zero, poly_eq_zero_or}
+use Rattle.theory_rings.proofs.Polynomials.Degrees.{length-add_le, length-neg_le, degree-mul, mul-ne-zero, lead-ne-zero}
+use Rattle.theory_rings.proofs.Polynomials.Degrees.{zero-length}
 
 module _ {K : Type 0} (R : CommRingOn K) {is_zero : K → Bool} (Z : ZeroTest R.zero is_zero) where
   abbrev P : CommRingOn (Poly R)
@@ -45,10 +51,12 @@ module _ {K : Type 0} (R : CommRingOn K) {is_zero : K → Bool} (Z : ZeroTest R.
             ∙ sym (ap₂ P.◌⊕◌ (ap (λ y. P.◌⊗◌ y b) (prepend_eq R Z c q))
             (ap (λ y. P.◌⊕◌ y (P.neg (P.◌⊗◌ (constant R Z c) b))) (prepend_eq R Z x r)))
 
-        coefficient-rest : (k : ℕ) → coefficient R rest k ≡ R.◌⊕◌ (coefficient R (prepend R Z x r) k) (R.neg (R.◌⊗◌ c (coefficient R b k)))
+        coefficient-rest : (k : ℕ)
+            → coefficient R rest k ≡ R.◌⊕◌ (coefficient R (prepend R Z x r) k) (R.neg (R.◌⊗◌ c (coefficient R b k)))
         coefficient-rest k =
             coefficient-add R Z (prepend R Z x r) (P.neg (P.◌⊗◌ (constant R Z c) b)) k
-            ∙ ap (R.◌⊕◌ (coefficient R (prepend R Z x r) k)) (coefficient-neg R Z (P.◌⊗◌ (constant R Z c) b) k ∙ ap R.neg (coefficient-constant_mul R Z c b k))
+            ∙ ap (R.◌⊕◌ (coefficient R (prepend R Z x r) k))
+            (coefficient-neg R Z (P.◌⊗◌ (constant R Z c) b) k ∙ ap R.neg (coefficient-constant_mul R Z c b k))
 
         long : length b.0 ≡ suc n
         long = length-degree R b positive
@@ -64,9 +72,12 @@ module _ {K : Type 0} (R : CommRingOn K) {is_zero : K → Bool} (Z : ZeroTest R.
         null : (k : ℕ) → n ≤ k → coefficient R rest k ≡ R.zero
         null k l = coefficient-rest k ∙ go (cases_lt n k)
           where
-            go : (n < k) ⊎ (k ≤ n) → R.◌⊕◌ (coefficient R (prepend R Z x r) k) (R.neg (R.◌⊗◌ c (coefficient R b k))) ≡ R.zero
+            go : (n < k) ⊎ (k ≤ n)
+                → R.◌⊕◌ (coefficient R (prepend R Z x r) k) (R.neg (R.◌⊗◌ c (coefficient R b k))) ≡ R.zero
             go (inl lt) =
-                ap₂ R.◌⊕◌ (past k lt) (ap R.neg (ap (R.◌⊗◌ c) (coefficient_past R b k (omega (arith, long))) ∙ mul-zero R.ring c) ∙ neg_zero R.additive)
+                ap₂ R.◌⊕◌ (past k lt)
+                (ap R.neg (ap (R.◌⊗◌ c) (coefficient_past R b k (omega (arith, long))) ∙ mul-zero R.ring c)
+                ∙ neg_zero R.additive)
                 ∙ R.zero-add R.zero
             go (inr ge) =
                 let e : k ≡ n = omega arith in
@@ -95,7 +106,8 @@ module _ {K : Type 0} (R : CommRingOn K) {is_zero : K → Bool} (Z : ZeroTest R.
             subst Divided (prepend-tail R Z x xs h) (step x (xs, IsTrimmed-tail R.zero x xs h) s.0 s.1 s.2)
 
     -- and are unique
-    pub division_unique : (a q r q' r' : Poly R) → IsDivision R P a b q r → IsDivision R P a b q' r' → (q ≡ q') × (r ≡ r')
+    pub division_unique : (a q r q' r' : Poly R) → IsDivision R P a b q r → IsDivision R P a b q' r' → (q ≡ q')
+        × (r ≡ r')
     division_unique a q r q' r' d d' = (same, rests)
       where
         difference : Poly R
@@ -103,9 +115,11 @@ module _ {K : Type 0} (R : CommRingOn K) {is_zero : K → Bool} (Z : ZeroTest R.
 
         product : P.◌⊗◌ difference b ≡ P.◌⊕◌ r' (P.neg r)
         product =
-            ring5 P (λ q q' b r r'. ((q ⊞ minus q') ⊠ b, (q ⊠ b ⊞ r) ⊞ (minus (q' ⊠ b ⊞ r') ⊞ (r' ⊞ minus r)))) refl q q' b r r'
+            ring5 P (λ q q' b r r'.
+            ((q ⊞ minus q') ⊠ b, (q ⊠ b ⊞ r) ⊞ (minus (q' ⊠ b ⊞ r') ⊞ (r' ⊞ minus r)))) refl q q' b r r'
             ∙ ap (λ y. P.◌⊕◌ y (P.◌⊕◌ (P.neg (P.◌⊕◌ (P.◌⊗◌ q' b) r')) (P.◌⊕◌ r' (P.neg r)))) (sym d.whole ∙ d'.whole)
-            ∙ ring5 P (λ y r r' z w. (y ⊞ (minus y ⊞ (r' ⊞ minus r)), r' ⊞ minus r)) refl (P.◌⊕◌ (P.◌⊗◌ q' b) r') r r' q b
+            ∙ ring5 P (λ y r r' z w. (y ⊞ (minus y ⊞ (r' ⊞ minus r)), r' ⊞ minus r)) refl
+            (P.◌⊕◌ (P.◌⊗◌ q' b) r') r r' q b
 
         short : length (P.◌⊗◌ difference b).0 < length b.0
         short =
@@ -113,17 +127,29 @@ module _ {K : Type 0} (R : CommRingOn K) {is_zero : K → Bool} (Z : ZeroTest R.
             let long = length-degree R b positive in
             let low : length r.0 ≤ n = omega (arith, d.smaller) in
             let low' : length r'.0 ≤ n = omega (arith, d'.smaller) in
-            omega (arith, ap (λ y. length y.0) product, length-add_le R Z r' (P.neg r) n low' (length-neg_le R Z r n low))
+            omega (
+              arith,
+              ap (λ y. length y.0) product,
+              length-add_le R Z r' (P.neg r) n low' (length-neg_le R Z r n low),
+            )
 
         same : q ≡ q'
         same = eq_of_sub_eq_zero P.additive q q' (go (poly_eq_zero_or R Z difference))
           where
             go : (difference ≡ P.zero) ⊎ (difference ≢ P.zero) → difference ≡ P.zero
             go (inl e) = e
-            go (inr h) = absurd (omega (arith, short, degree-mul R Z difference b leads, length-degree_of_ne_zero R Z (P.◌⊗◌ difference b) (mul-ne-zero R Z difference b leads), length-degree R b positive))
+            go (inr h) = absurd (omega (
+              arith,
+              short,
+              degree-mul R Z difference b leads,
+              length-degree_of_ne_zero R Z (P.◌⊗◌ difference b) (mul-ne-zero R Z difference b leads),
+              length-degree R b positive,
+            ))
               where
                 leads : R.◌⊗◌ (lead R difference) (lead R b) ≢ R.zero
-                leads e = lead-ne-zero R Z difference h (eq_zero_of_mul-unit R.ring (lead R difference) (lead R b) u unit e)
+                leads e = lead-ne-zero R Z difference h
+                    (eq_zero_of_mul-unit R.ring (lead R difference) (lead R b) u unit e)
 
         rests : r ≡ r'
-        rests = add_cancel_left P.additive (P.◌⊗◌ q b) r r' (sym d.whole ∙ d'.whole ∙ ap (λ y. P.◌⊕◌ (P.◌⊗◌ y b) r') (sym same))
+        rests = add_cancel_left P.additive (P.◌⊗◌ q b) r r'
+            (sym d.whole ∙ d'.whole ∙ ap (λ y. P.◌⊕◌ (P.◌⊗◌ y b) r') (sym same))

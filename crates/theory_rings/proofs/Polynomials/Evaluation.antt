@@ -11,9 +11,13 @@ use Rattle.theory_rings.proofs.Rings.RingLaws.{add-zero, zero-mul}
 use Rattle.theory_rings.proofs.Sums.Sums.{sum_congr, sum_eq_zero, sum-add, sum-split, sum_first, mul-sum}
 use Rattle.theory_rings.proofs.Rings.Solver.{◌⊞◌, ◌⊠◌, ring3, ring4}
 use Rattle.theory_rings.proofs.Rings.Homomorphisms.{map-zero}
-use Rattle.theory_rings.proofs.Polynomials.PolynomialRing.{IsTrimmed-tail, Poly-path, coefficient_past, polynomials, zero-list, coefficient-zero, coefficient-add, coefficient-constant, constant, constant_past, prepend, coefficient-prepend, prepend-tail}
+use Rattle.theory_rings.proofs.Polynomials.PolynomialRing.{IsTrimmed-tail, Poly-path, coefficient_past, polynomials}
+use Rattle.theory_rings.proofs.Polynomials.PolynomialRing.{zero-list, coefficient-zero, coefficient-add}
+use Rattle.theory_rings.proofs.Polynomials.PolynomialRing.{coefficient-constant, constant, constant_past, prepend}
+use Rattle.theory_rings.proofs.Polynomials.PolynomialRing.{coefficient-prepend, prepend-tail}
 use Rattle.theory_rings.proofs.Polynomials.Degrees.{length_le}
-use Rattle.theory_rings.proofs.Polynomials.Constants.{coefficient-constant_mul, variable, prepend-zero, prepend_eq, constant-one}
+use Rattle.theory_rings.proofs.Polynomials.Constants.{coefficient-constant_mul, variable, prepend-zero, prepend_eq}
+use Rattle.theory_rings.proofs.Polynomials.Constants.{constant-one}
 
 module _ {K L : Type 0} (R : CommRingOn K) {is_zero : K → Bool} (Z : ZeroTest R.zero is_zero)
     (S : CommRingOn L) (h : K → L) (H : IsRingHom R.ring S.ring h) (x : L) where
@@ -46,7 +50,8 @@ module _ {K L : Type 0} (R : CommRingOn K) {is_zero : K → Bool} (Z : ZeroTest 
   evaluate-add a b =
       let n : ℕ = length (P.◌⊕◌ a b).0 + (length a.0 + length b.0) in
       evaluate_long (P.◌⊕◌ a b) n (omega arith)
-      ∙ sum_congr S.monoid n (term (coefficient R (P.◌⊕◌ a b))) (λ k. S.◌⊕◌ (term (coefficient R a) k) (term (coefficient R b) k))
+      ∙ sum_congr S.monoid n (term (coefficient R (P.◌⊕◌ a b)))
+      (λ k. S.◌⊕◌ (term (coefficient R a) k) (term (coefficient R b) k))
       (λ k l. ap (λ c. S.◌⊗◌ (h c) (power S.ring x k)) (coefficient-add R Z a b k)
       ∙ ap (λ c. S.◌⊗◌ c (power S.ring x k)) (H.map-add (coefficient R a k) (coefficient R b k))
       ∙ S.add-mul (h (coefficient R a k)) (h (coefficient R b k)) (power S.ring x k))
@@ -55,7 +60,8 @@ module _ {K L : Type 0} (R : CommRingOn K) {is_zero : K → Bool} (Z : ZeroTest 
 
   pub evaluate-constant : (c : K) → value (constant R Z c) ≡ h c
   evaluate-constant c =
-      evaluate_long (constant R Z c) 1 (length_le R (constant R Z c) 1 (λ k l. coefficient-constant R Z c k ∙ constant_past R.zero c k l))
+      evaluate_long (constant R Z c) 1
+      (length_le R (constant R Z c) 1 (λ k l. coefficient-constant R Z c k ∙ constant_past R.zero c k l))
       ∙ S.zero-add (term (coefficient R (constant R Z c)) 0)
       ∙ S.mul-one (h (coefficient R (constant R Z c) 0)) ∙ ap h (coefficient-constant R Z c 0)
 
@@ -63,7 +69,8 @@ module _ {K L : Type 0} (R : CommRingOn K) {is_zero : K → Bool} (Z : ZeroTest 
   evaluate-constant_mul c a =
       let n : ℕ = length (P.◌⊗◌ (constant R Z c) a).0 + length a.0 in
       evaluate_long (P.◌⊗◌ (constant R Z c) a) n (omega arith)
-      ∙ sum_congr S.monoid n (term (coefficient R (P.◌⊗◌ (constant R Z c) a))) (λ k. S.◌⊗◌ (h c) (term (coefficient R a) k))
+      ∙ sum_congr S.monoid n (term (coefficient R (P.◌⊗◌ (constant R Z c) a)))
+      (λ k. S.◌⊗◌ (h c) (term (coefficient R a) k))
       (λ k l. ap (λ b. S.◌⊗◌ (h b) (power S.ring x k)) (coefficient-constant_mul R Z c a k)
       ∙ ap (λ b. S.◌⊗◌ b (power S.ring x k)) (H.map-mul c (coefficient R a k))
       ∙ S.mul_assoc (h c) (h (coefficient R a k)) (power S.ring x k))
@@ -77,7 +84,8 @@ module _ {K L : Type 0} (R : CommRingOn K) {is_zero : K → Bool} (Z : ZeroTest 
       evaluate_long (prepend R Z c a) (suc n) (omega arith)
       ∙ sum_first S.monoid n (term (coefficient R (prepend R Z c a)))
       ∙ ap₂ S.◌⊕◌ (S.mul-one (h (coefficient R (prepend R Z c a) 0)) ∙ ap h (coefficient-prepend R Z c a 0))
-      (sum_congr S.monoid n (λ k. term (coefficient R (prepend R Z c a)) (suc k)) (λ k. S.◌⊗◌ x (term (coefficient R a) k))
+      (sum_congr S.monoid n (λ k. term (coefficient R (prepend R Z c a)) (suc k))
+      (λ k. S.◌⊗◌ x (term (coefficient R a) k))
       (λ k l. ap (λ b. S.◌⊗◌ (h b) (power S.ring x (suc k))) (coefficient-prepend R Z c a (suc k))
       ∙ ring3 S (λ b p x. (b ⊠ (x ⊠ p), x ⊠ (b ⊠ p))) refl (h (coefficient R a k)) (power S.ring x k) x)
       ∙ sym (mul-sum S.ring n x (term (coefficient R a)))
@@ -93,7 +101,8 @@ module _ {K L : Type 0} (R : CommRingOn K) {is_zero : K → Bool} (Z : ZeroTest 
           → value (P.◌⊗◌ (prepend R Z c d) b) ≡ S.◌⊗◌ (value (prepend R Z c d)) (value b)
       step c d e =
           ap (λ y. value (P.◌⊗◌ y b)) (prepend_eq R Z c d)
-          ∙ ap value (ring4 P (λ c t d b. ((c ⊞ t ⊠ d) ⊠ b, c ⊠ b ⊞ t ⊠ (d ⊠ b))) refl (constant R Z c) (variable R Z) d b
+          ∙ ap value (ring4 P (λ c t d b. ((c ⊞ t ⊠ d) ⊠ b, c ⊠ b ⊞ t ⊠ (d ⊠ b))) refl (constant R Z c)
+          (variable R Z) d b
           ∙ ap (P.◌⊕◌ (P.◌⊗◌ (constant R Z c) b)) (prepend-zero R Z (P.◌⊗◌ d b)))
           ∙ evaluate-add (P.◌⊗◌ (constant R Z c) b) (prepend R Z R.zero (P.◌⊗◌ d b))
           ∙ ap₂ S.◌⊕◌ (evaluate-constant_mul c b)
@@ -102,7 +111,8 @@ module _ {K L : Type 0} (R : CommRingOn K) {is_zero : K → Bool} (Z : ZeroTest 
           ∙ ring4 S (λ c x d b. (c ⊠ b ⊞ x ⊠ (d ⊠ b), (c ⊞ x ⊠ d) ⊠ b)) refl (h c) x (value d) (value b)
           ∙ ap (λ y. S.◌⊗◌ y (value b)) (sym (evaluate-prepend c d))
 
-      go : (xs : List K) (t : IsTrimmed R.zero xs) → (let c : Poly R = (xs, t) in value (P.◌⊗◌ c b) ≡ S.◌⊗◌ (value c) (value b))
+      go : (xs : List K) (t : IsTrimmed R.zero xs)
+          → (let c : Poly R = (xs, t) in value (P.◌⊗◌ c b) ≡ S.◌⊗◌ (value c) (value b))
       go [] t =
           let c : Poly R = ([], t) in
           let e : c ≡ P.zero = Poly-path R c P.zero (λ k. sym (coefficient-zero R Z k)) in
@@ -124,5 +134,6 @@ module _ {K L : Type 0} (R : CommRingOn K) {is_zero : K → Bool} (Z : ZeroTest 
   evaluate-variable =
       ap value (sym (P.mul-one (variable R Z)) ∙ prepend-zero R Z P.one)
       ∙ evaluate-prepend R.zero P.one
-      ∙ ap₂ S.◌⊕◌ (map-zero R.ring S.ring h H) (ap (S.◌⊗◌ x) (ap value (sym (constant-one R Z)) ∙ evaluate-constant R.one ∙ H.map-one) ∙ S.mul-one x)
+      ∙ ap₂ S.◌⊕◌ (map-zero R.ring S.ring h H)
+      (ap (S.◌⊗◌ x) (ap value (sym (constant-one R Z)) ∙ evaluate-constant R.one ∙ H.map-one) ∙ S.mul-one x)
       ∙ S.zero-add x

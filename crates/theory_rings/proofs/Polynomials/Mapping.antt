@@ -9,12 +9,17 @@ use Rattle.theory_rings.specs.Remainder.{Remainder}
 use Rattle.theory_rings.proofs.Sums.Sums.{map-sum, sum_congr}
 use Rattle.theory_rings.proofs.Polynomials.Series.{convolution_congr}
 use Rattle.theory_rings.proofs.Rings.Homomorphisms.{map-zero}
-use Rattle.theory_rings.proofs.Polynomials.PolynomialRing.{Poly-path, coefficient_past, polynomial, coefficient-polynomial, polynomials, coefficient-one, coefficient-add, coefficient-mul}
+use Rattle.theory_rings.proofs.Polynomials.PolynomialRing.{Poly-path, coefficient_past, polynomial}
+use Rattle.theory_rings.proofs.Polynomials.PolynomialRing.{coefficient-polynomial, polynomials, coefficient-one}
+use Rattle.theory_rings.proofs.Polynomials.PolynomialRing.{coefficient-add, coefficient-mul}
 use Rattle.theory_rings.proofs.Polynomials.Degrees.{length_le, length-degree, lt_length, lead-ne-zero_of_length}
-use Rattle.theory_rings.proofs.Polynomials.Remainders.{remainders, remainder, remainder_hom, remainder_eq, remainder_congruent, remainder_of_small, remainders-one, remainders-add, remainders-mul}
+use Rattle.theory_rings.proofs.Polynomials.Remainders.{remainders, remainder, remainder_hom, remainder_eq}
+use Rattle.theory_rings.proofs.Polynomials.Remainders.{remainder_congruent, remainder_of_small, remainders-one}
+use Rattle.theory_rings.proofs.Polynomials.Remainders.{remainders-add, remainders-mul}
 
 module _ {K L : Type 0} (R : CommRingOn K) {is_zero : K → Bool} (Z : ZeroTest R.zero is_zero)
-    (S : CommRingOn L) {is_zero' : L → Bool} (Z' : ZeroTest S.zero is_zero') (h : K → L) (H : IsRingHom R.ring S.ring h) where
+    (S : CommRingOn L) {is_zero' : L → Bool} (Z' : ZeroTest S.zero is_zero') (h : K → L)
+    (H : IsRingHom R.ring S.ring h) where
   abbrev P : CommRingOn (Poly R)
   P = polynomials R Z
 
@@ -31,7 +36,8 @@ module _ {K L : Type 0} (R : CommRingOn K) {is_zero : K → Bool} (Z : ZeroTest 
       coefficient-polynomial S Z' (length a.0) (λ k. h (coefficient R a k))
       (λ k l. ap h (coefficient_past R a k l) ∙ map-zero R.ring S.ring h H) k
 
-  map-convolution : (f g : ℕ → K) (k : ℕ) → h (convolution R.ring f g k) ≡ convolution S.ring (λ i. h (f i)) (λ i. h (g i)) k
+  map-convolution : (f g : ℕ → K) (k : ℕ)
+      → h (convolution R.ring f g k) ≡ convolution S.ring (λ i. h (f i)) (λ i. h (g i)) k
   map-convolution f g k =
       map-sum R.monoid S.monoid h (map-zero R.ring S.ring h H) H.map-add (suc k) (λ i. R.◌⊗◌ (f i) (g (k - i)))
       ∙ sum_congr S.monoid (suc k) (λ i. h (R.◌⊗◌ (f i) (g (k - i)))) (λ i. S.◌⊗◌ (h (f i)) (h (g (k - i))))
@@ -42,12 +48,16 @@ module _ {K L : Type 0} (R : CommRingOn K) {is_zero : K → Bool} (Z : ZeroTest 
     map-one = Poly-path S (map_poly P.one) Q.one (λ k.
         coefficient-map_poly P.one k ∙ ap h (coefficient-one R Z k) ∙ unit k ∙ sym (coefficient-one S Z' k));
     map-add = λ a b. Poly-path S (map_poly (P.◌⊕◌ a b)) (Q.◌⊕◌ (map_poly a) (map_poly b)) (λ k.
-        coefficient-map_poly (P.◌⊕◌ a b) k ∙ ap h (coefficient-add R Z a b k) ∙ H.map-add (coefficient R a k) (coefficient R b k)
-        ∙ sym (coefficient-add S Z' (map_poly a) (map_poly b) k ∙ ap₂ S.◌⊕◌ (coefficient-map_poly a k) (coefficient-map_poly b k)));
+        coefficient-map_poly (P.◌⊕◌ a b) k ∙ ap h (coefficient-add R Z a b k)
+        ∙ H.map-add (coefficient R a k) (coefficient R b k)
+        ∙ sym (coefficient-add S Z' (map_poly a) (map_poly b) k
+        ∙ ap₂ S.◌⊕◌ (coefficient-map_poly a k) (coefficient-map_poly b k)));
     map-mul = λ a b. Poly-path S (map_poly (P.◌⊗◌ a b)) (Q.◌⊗◌ (map_poly a) (map_poly b)) (λ k.
-        coefficient-map_poly (P.◌⊗◌ a b) k ∙ ap h (coefficient-mul R Z a b k) ∙ map-convolution (coefficient R a) (coefficient R b) k
+        coefficient-map_poly (P.◌⊗◌ a b) k ∙ ap h (coefficient-mul R Z a b k)
+        ∙ map-convolution (coefficient R a) (coefficient R b) k
         ∙ sym (coefficient-mul S Z' (map_poly a) (map_poly b) k
-        ∙ convolution_congr S.ring (coefficient S (map_poly a)) (coefficient S (map_poly b)) (λ i. h (coefficient R a i)) (λ i. h (coefficient R b i))
+        ∙ convolution_congr S.ring (coefficient S (map_poly a)) (coefficient S (map_poly b))
+        (λ i. h (coefficient R a i)) (λ i. h (coefficient R b i))
         (coefficient-map_poly a) (coefficient-map_poly b) k));
   }
     where
@@ -57,7 +67,8 @@ module _ {K L : Type 0} (R : CommRingOn K) {is_zero : K → Bool} (Z : ZeroTest 
 
   pub length-map_poly_le : (a : Poly R) → length (map_poly a).0 ≤ length a.0
   length-map_poly_le a =
-      length_le S (map_poly a) (length a.0) (λ k l. coefficient-map_poly a k ∙ ap h (coefficient_past R a k l) ∙ map-zero R.ring S.ring h H)
+      length_le S (map_poly a) (length a.0)
+      (λ k l. coefficient-map_poly a k ∙ ap h (coefficient_past R a k l) ∙ map-zero R.ring S.ring h H)
 
   pub congruent-map_poly : (m a b : Poly R) → Congruent P m a b → Congruent Q (map_poly m) (map_poly a) (map_poly b)
   congruent-map_poly m a b c =
@@ -83,12 +94,15 @@ module _ {K L : Type 0} (R : CommRingOn K) {is_zero : K → Bool} (Z : ZeroTest 
     pub map_remainder-poly : (a : Remainder R m) → (map_remainder a).0 ≡ map_poly a.0
     unfolding map_remainder
     map_remainder-poly a =
-        ap (λ x. x.0) (remainder_of_small S Z' m' monic' (map_poly a.0) (omega (arith, length-map_poly_le a.0, a.1, length-image)))
+        ap (λ x. x.0) (remainder_of_small S Z' m' monic' (map_poly a.0)
+        (omega (arith, length-map_poly_le a.0, a.1, length-image)))
 
-    pub coefficient-map_remainder : (a : Remainder R m) (k : ℕ) → coefficient S (map_remainder a).0 k ≡ h (coefficient R a.0 k)
+    pub coefficient-map_remainder : (a : Remainder R m) (k : ℕ)
+        → coefficient S (map_remainder a).0 k ≡ h (coefficient R a.0 k)
     coefficient-map_remainder a k = ap (λ x. coefficient S x k) (map_remainder-poly a) ∙ coefficient-map_poly a.0 k
 
-    pub map_remainder-remainder : (a : Poly R) → map_remainder (remainder R Z m monic a) ≡ remainder S Z' m' monic' (map_poly a)
+    pub map_remainder-remainder : (a : Poly R)
+        → map_remainder (remainder R Z m monic a) ≡ remainder S Z' m' monic' (map_poly a)
     unfolding map_remainder
     map_remainder-remainder a =
         remainder_eq S Z' m' monic' (map_poly (remainder R Z m monic a).0) (map_poly a)

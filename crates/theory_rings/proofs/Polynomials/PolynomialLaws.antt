@@ -4,7 +4,9 @@ use Rattle.std.proofs.Common.{refl, sym, ◌∙◌, ap}
 use Rattle.theory_rings.specs.Ring.{CommRingOn, FieldOn, ZeroTest}
 use Rattle.theory_rings.specs.Polynomial.{Poly}
 use Rattle.theory_rings.specs.Fraction.{SameFraction, Fraction}
-use Rattle.theory_rings.specs.PolynomialLaws.{HasPolynomialRing, HasDivision, HasRemainderRings, EvaluationIsHom, HasGcd, IrreducibleIsPrime, HasRemainderFields, HasLowestTerms, HasRationalFunctions}
+use Rattle.theory_rings.specs.PolynomialLaws.{HasPolynomialRing, HasDivision, HasRemainderRings, EvaluationIsHom}
+use Rattle.theory_rings.specs.PolynomialLaws.{HasGcd, IrreducibleIsPrime, HasRemainderFields, HasLowestTerms}
+use Rattle.theory_rings.specs.PolynomialLaws.{HasRationalFunctions}
 use Rattle.theory_rings.proofs.Rings.Solver.{◌⊠◌, ring3}
 use Rattle.theory_rings.proofs.Polynomials.PolynomialRing.{polynomials, is_polynomial_ring}
 use Rattle.theory_rings.proofs.Polynomials.Uniqueness.{for_polynomials}
@@ -14,7 +16,8 @@ use Rattle.theory_rings.proofs.Polynomials.Evaluation.{evaluate_hom}
 use Rattle.theory_rings.proofs.Polynomials.Bezout.{field_polynomials, gcd, poly_mul_cancel_left}
 use Rattle.theory_rings.proofs.Polynomials.Irreducible.{irreducible_prime, remainder_field}
 use Rattle.theory_rings.proofs.Fractions.Fractions.{Fraction-path}
-use Rattle.theory_rings.proofs.Fractions.Lowest.{Lowest, lowest_terms, polynomial_reduction, rational_functions, is_rational_functions}
+use Rattle.theory_rings.proofs.Fractions.Lowest.{Lowest, lowest_terms, polynomial_reduction, rational_functions}
+use Rattle.theory_rings.proofs.Fractions.Lowest.{is_rational_functions}
 
 module _ {K : Type 0} (R : CommRingOn K) {is_zero : K → Bool} (Z : ZeroTest R.zero is_zero) where
   pub has_polynomial_ring : HasPolynomialRing R
@@ -46,7 +49,8 @@ module _ {K : Type 0} (F : FieldOn K) where
       (remainder_field F m h i, is_remainder_ring F.cring F.zero_test m h))
 
   -- pairs of one fraction are the same fraction
-  same_of_same : (a b c d u v : Poly F.cring) → v ≢ P.zero → SameFraction P a b u v → SameFraction P c d u v → SameFraction P a b c d
+  same_of_same : (a b c d u v : Poly F.cring) → v ≢ P.zero → SameFraction P a b u v → SameFraction P c d u v
+      → SameFraction P a b c d
   same_of_same a b c d u v h e e' =
       poly_mul_cancel_left F v (P.◌⊗◌ a d) (P.◌⊗◌ c b) h
       (ring3 P (λ v a d. (v ⊠ (a ⊠ d), a ⊠ v ⊠ d)) refl v a d ∙ ap (λ x. P.◌⊗◌ x d) e
@@ -56,8 +60,12 @@ module _ {K : Type 0} (F : FieldOn K) where
   pub has_lowest_terms : HasLowestTerms F
   has_lowest_terms = for_polynomials F.cring F.zero_test _ (λ u v h.
       let r = lowest_terms F u v h in
-      let w : Fraction (Lowest F) = (r.0, r.1) in
-      (w, r.2, λ w' e. Fraction-path P (Lowest F) (polynomial_reduction F) w w' (same_of_same w.0.0 w.0.1 w'.0.0 w'.0.1 u v h r.2 e)))
+      let w : Fraction (Lowest F) = (r.0, r.1) in (
+        w,
+        r.2,
+        λ w' e. Fraction-path P (Lowest F) (polynomial_reduction F) w w'
+            (same_of_same w.0.0 w.0.1 w'.0.0 w'.0.1 u v h r.2 e),
+      ))
 
   pub has_rational_functions : HasRationalFunctions F
   has_rational_functions = for_polynomials F.cring F.zero_test _ (rational_functions F, is_rational_functions F)

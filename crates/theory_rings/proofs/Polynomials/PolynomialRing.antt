@@ -1,5 +1,6 @@
 -- The ring of polynomials: a trimmed list is what its coefficients are, and those are a ring under convolution.
-use Rattle.std.specs.Prelude.{◌≡◌, ◌≢◌, ℕ, zero, suc, ◌+◌, ◌-◌, ◌≤◌, Bool, true, false, cond, List, [], ◌∷◌, length, get_or}
+use Rattle.std.specs.Prelude.{◌≡◌, ◌≢◌, ℕ, zero, suc, ◌+◌, ◌-◌, ◌≤◌, Bool, true, false, cond, List, [], ◌∷◌, length}
+use Rattle.std.specs.Prelude.{get_or}
 use Rattle.std.proofs.Common.{refl, sym, ◌∙◌, ap, ap₂, arith, ⊎_elim}
 use Rattle.std.proofs.Math.Path.{fun_ext}
 use Rattle.std.proofs.lemmas.Bool.{cases_lt}
@@ -7,7 +8,8 @@ use Rattle.std.proofs.lemmas.List.{get_or_past}
 use mathlib.Core.HLevel.{Σ_prop_path}
 use Rattle.theory_rings.specs.Ring.{CommRingOn, ZeroTest}
 use Rattle.theory_rings.specs.Sum.{table}
-use Rattle.theory_rings.specs.Polynomial.{IsTrimmed, put_before, trim, Poly, coefficient, convolution, constant_coefficients, IsPolynomialRing}
+use Rattle.theory_rings.specs.Polynomial.{IsTrimmed, put_before, trim, Poly, coefficient, convolution}
+use Rattle.theory_rings.specs.Polynomial.{constant_coefficients, IsPolynomialRing}
 use Rattle.theory_rings.proofs.Rings.RingLaws.{zero-mul, mul-zero, neg_zero}
 use Rattle.theory_rings.proofs.Rings.ZeroTests.{is_zero-complete}
 use Rattle.theory_rings.proofs.Sums.Lists.{get_or-table_default}
@@ -36,7 +38,8 @@ module _ {X : Type 0} (nought : X) where
   IsTrimmed-injective [] (y ∷ ys) hx hy e = absurd (last-ne-zero y ys hy (sym (e (length ys))))
   IsTrimmed-injective (x ∷ xs) [] hx hy e = absurd (last-ne-zero x xs hx (e (length xs)))
   IsTrimmed-injective (x ∷ xs) (y ∷ ys) hx hy e =
-      ap₂ (λ z zs. z ∷ zs) (e 0) (IsTrimmed-injective xs ys (IsTrimmed-tail x xs hx) (IsTrimmed-tail y ys hy) (λ k. e (suc k)))
+      ap₂ (λ z zs. z ∷ zs) (e 0)
+      (IsTrimmed-injective xs ys (IsTrimmed-tail x xs hx) (IsTrimmed-tail y ys hy) (λ k. e (suc k)))
 
   pub constant_past : (c : X) (k : ℕ) → 1 ≤ k → constant_coefficients nought c k ≡ nought
   constant_past c zero l = absurd (omega arith)
@@ -56,7 +59,8 @@ series_prepend c f zero = c
 series_prepend c f (suc k) = f k
 
 module _ {X : Type 0} {nought : X} {is_zero : X → Bool} (Z : ZeroTest nought is_zero) where
-  get_or-put_before : (x : X) (xs : List X) (k : ℕ) → get_or (put_before is_zero x xs) k nought ≡ get_or (x ∷ xs) k nought
+  get_or-put_before : (x : X) (xs : List X) (k : ℕ)
+      → get_or (put_before is_zero x xs) k nought ≡ get_or (x ∷ xs) k nought
   get_or-put_before x [] k = go (is_zero x) refl k
     where
       go : (b : Bool) → is_zero x ≡ b → (k : ℕ) → get_or (cond b [] (x ∷ [])) k nought ≡ get_or (x ∷ []) k nought
@@ -110,7 +114,8 @@ module _ {K : Type 0} (R : CommRingOn K) {is_zero : K → Bool} (Z : ZeroTest R.
   pub polynomial : ℕ → (ℕ → K) → Poly R
   polynomial n f = (trim is_zero (table n f), IsTrimmed-trim Z (table n f))
 
-  pub coefficient-polynomial : (n : ℕ) (f : ℕ → K) → ((k : ℕ) → n ≤ k → f k ≡ R.zero) → (k : ℕ) → coefficient R (polynomial n f) k ≡ f k
+  pub coefficient-polynomial : (n : ℕ) (f : ℕ → K) → ((k : ℕ) → n ≤ k → f k ≡ R.zero) → (k : ℕ)
+      → coefficient R (polynomial n f) k ≡ f k
   unfolding polynomial
   coefficient-polynomial n f h k = get_or-trim Z (table n f) k ∙ get_or-table_default n f R.zero h k
 
@@ -136,11 +141,13 @@ module _ {K : Type 0} (R : CommRingOn K) {is_zero : K → Bool} (Z : ZeroTest R.
     map-zero = refl;
     map-one = fun_ext (coefficient-polynomial 1 (constant_coefficients R.zero R.one) (constant_past R.zero R.one));
     map-add = λ a b. fun_ext (coefficient-polynomial (length a.0 + length b.0) (sum_coefficients a b)
-        (λ k l. ap₂ R.◌⊕◌ (coefficient_past R a k (omega arith)) (coefficient_past R b k (omega arith)) ∙ R.zero-add R.zero));
+        (λ k l. ap₂ R.◌⊕◌ (coefficient_past R a k (omega arith)) (coefficient_past R b k (omega arith))
+        ∙ R.zero-add R.zero));
     map-neg = λ a. fun_ext (coefficient-polynomial (length a.0) (opposite_coefficients a)
         (λ k l. ap R.neg (coefficient_past R a k l) ∙ neg_zero R.additive));
     map-mul = λ a b. fun_ext (coefficient-polynomial (length a.0 + length b.0) (product_coefficients a b)
-        (convolution_past R (length a.0) (length b.0) (coefficient R a) (coefficient R b) (coefficient_past R a) (coefficient_past R b)));
+        (convolution_past R (length a.0) (length b.0) (coefficient R a) (coefficient R b) (coefficient_past R a)
+        (coefficient_past R b)));
   }
 
   -- the ring of polynomials
@@ -159,7 +166,8 @@ module _ {K : Type 0} (R : CommRingOn K) {is_zero : K → Bool} (Z : ZeroTest R.
   unfolding polynomials embedding
   coefficient-one k = ap (λ f. f k) embedding.map-one
 
-  pub coefficient-add : (a b : Poly R) (k : ℕ) → coefficient R (polynomials.◌⊕◌ a b) k ≡ R.◌⊕◌ (coefficient R a k) (coefficient R b k)
+  pub coefficient-add : (a b : Poly R) (k : ℕ)
+      → coefficient R (polynomials.◌⊕◌ a b) k ≡ R.◌⊕◌ (coefficient R a k) (coefficient R b k)
   unfolding polynomials embedding
   coefficient-add a b k = ap (λ f. f k) (embedding.map-add a b)
 
@@ -187,7 +195,9 @@ module _ {K : Type 0} (R : CommRingOn K) {is_zero : K → Bool} (Z : ZeroTest R.
 
   pub zero_poly_test : ZeroTest polynomials.zero is_zero_poly
   zero_poly_test = record {
-    is_zero-sound = λ a e. Poly-path R a polynomials.zero (λ k. ap (λ xs. get_or xs k R.zero) (is_empty-sound a.0 e) ∙ sym (coefficient-zero k));
+    is_zero-sound = λ a e.
+        Poly-path R a polynomials.zero
+        (λ k. ap (λ xs. get_or xs k R.zero) (is_empty-sound a.0 e) ∙ sym (coefficient-zero k));
     is_zero-zero = ap is_empty zero-list;
   }
 
@@ -203,7 +213,8 @@ module _ {K : Type 0} (R : CommRingOn K) {is_zero : K → Bool} (Z : ZeroTest R.
   pub prepend : K → Poly R → Poly R
   prepend c a = polynomial (suc (length a.0)) (series_prepend c (coefficient R a))
 
-  pub coefficient-prepend : (c : K) (a : Poly R) (k : ℕ) → coefficient R (prepend c a) k ≡ series_prepend c (coefficient R a) k
+  pub coefficient-prepend : (c : K) (a : Poly R) (k : ℕ)
+      → coefficient R (prepend c a) k ≡ series_prepend c (coefficient R a) k
   unfolding prepend
   coefficient-prepend c a k =
       coefficient-polynomial (suc (length a.0)) (series_prepend c (coefficient R a)) past k
@@ -213,7 +224,8 @@ module _ {K : Type 0} (R : CommRingOn K) {is_zero : K → Bool} (Z : ZeroTest R.
       past (suc k) l = coefficient_past R a k (omega arith)
 
   -- each list is its first item put before its tail
-  pub prepend-tail : (x : K) (xs : List K) (h : IsTrimmed R.zero (x ∷ xs)) → prepend x (xs, IsTrimmed-tail R.zero x xs h) ≡ (x ∷ xs, h)
+  pub prepend-tail : (x : K) (xs : List K) (h : IsTrimmed R.zero (x ∷ xs))
+      → prepend x (xs, IsTrimmed-tail R.zero x xs h) ≡ (x ∷ xs, h)
   prepend-tail x xs h = Poly-path R (prepend x (xs, IsTrimmed-tail R.zero x xs h)) (x ∷ xs, h) same
     where
       same : (k : ℕ) → coefficient R (prepend x (xs, IsTrimmed-tail R.zero x xs h)) k ≡ get_or (x ∷ xs) k R.zero

@@ -8,13 +8,19 @@ use Rattle.theory_rings.specs.Division.{IsDivision, Congruent}
 use Rattle.theory_rings.specs.Homomorphism.{IsRingHom}
 use Rattle.theory_rings.specs.Remainder.{Remainder, IsRemainderRing}
 use Rattle.theory_rings.proofs.Rings.RingLaws.{zero-mul}
-use Rattle.theory_rings.proofs.Polynomials.PolynomialRing.{polynomials, coefficient-one, constant_past, is_zero_poly, zero_poly_test}
+use Rattle.theory_rings.proofs.Polynomials.PolynomialRing.{polynomials, coefficient-one, constant_past, is_zero_poly}
+use Rattle.theory_rings.proofs.Polynomials.PolynomialRing.{zero_poly_test}
 use Rattle.theory_rings.proofs.Polynomials.Degrees.{length_le, zero-length, length-add_le, length-neg_le, length-degree}
 use Rattle.theory_rings.proofs.Polynomials.Division.{divide, division_unique}
 use Rattle.theory_rings.proofs.Rings.Congruences.{congruent_of_eq, congruent_sym}
-use Rattle.theory_rings.proofs.Rings.Representatives.{representatives-zero, representatives-one, representatives-add, representatives-neg, representatives-mul, IsRepresentativeSystem, representatives, representative, representative_hom, representative_eq, representative-small, congruent_of_representative, Representative-path}
+use Rattle.theory_rings.proofs.Rings.Representatives.{representatives-zero, representatives-one, representatives-add}
+use Rattle.theory_rings.proofs.Rings.Representatives.{representatives-neg, representatives-mul, IsRepresentativeSystem}
+use Rattle.theory_rings.proofs.Rings.Representatives.{representatives, representative, representative_hom}
+use Rattle.theory_rings.proofs.Rings.Representatives.{representative_eq, representative-small}
+use Rattle.theory_rings.proofs.Rings.Representatives.{congruent_of_representative, Representative-path}
 
-module _ {K : Type 0} (R : CommRingOn K) {is_zero : K → Bool} (Z : ZeroTest R.zero is_zero) (m : Poly R) (monic : IsMonic R m) where
+module _ {K : Type 0} (R : CommRingOn K) {is_zero : K → Bool} (Z : ZeroTest R.zero is_zero) (m : Poly R)
+    (monic : IsMonic R m) where
   abbrev P : CommRingOn (Poly R)
   P = polynomials R Z
 
@@ -117,7 +123,8 @@ module _ {K : Type 0} (R : CommRingOn K) {is_zero : K → Bool} (Z : ZeroTest R.
   remainders-mul a b = representatives-mul P m Small rem is_representative_system a b
 
   pub remainders-zero_poly : remainders.zero.0 ≡ P.zero
-  remainders-zero_poly = ap (λ x. x.0) (remainders-zero ∙ remainder_of_small P.zero (omega (arith, zero-length R Z, monic.nonzero)))
+  remainders-zero_poly =
+      ap (λ x. x.0) (remainders-zero ∙ remainder_of_small P.zero (omega (arith, zero-length R Z, monic.nonzero)))
 
   pub remainders-one_poly : 1 ≤ degree m.0 → remainders.one.0 ≡ P.one
   remainders-one_poly d =
@@ -129,13 +136,15 @@ module _ {K : Type 0} (R : CommRingOn K) {is_zero : K → Bool} (Z : ZeroTest R.
       let long = length-degree R m monic.nonzero in
       let low : length a.0.0 ≤ degree m.0 = omega (arith, a.1) in
       let low' : length b.0.0 ≤ degree m.0 = omega (arith, b.1) in
-      ap (λ x. x.0) (remainders-add a b ∙ remainder_of_small (P.◌⊕◌ a.0 b.0) (omega (arith, length-add_le R Z a.0 b.0 (degree m.0) low low')))
+      ap (λ x. x.0) (remainders-add a b
+      ∙ remainder_of_small (P.◌⊕◌ a.0 b.0) (omega (arith, length-add_le R Z a.0 b.0 (degree m.0) low low')))
 
   pub remainders-neg_poly : (a : Remainder R m) → (remainders.neg a).0 ≡ P.neg a.0
   remainders-neg_poly a =
       let long = length-degree R m monic.nonzero in
       let low : length a.0.0 ≤ degree m.0 = omega (arith, a.1) in
-      ap (λ x. x.0) (remainders-neg a ∙ remainder_of_small (P.neg a.0) (omega (arith, length-neg_le R Z a.0 (degree m.0) low)))
+      ap (λ x. x.0) (remainders-neg a
+      ∙ remainder_of_small (P.neg a.0) (omega (arith, length-neg_le R Z a.0 (degree m.0) low)))
 
   pub is_remainder_ring : IsRemainderRing R m P remainders
   is_remainder_ring = record {
@@ -143,7 +152,8 @@ module _ {K : Type 0} (R : CommRingOn K) {is_zero : K → Bool} (Z : ZeroTest R.
     one_mod = subst (λ x. Congruent P m x.0 P.one) (sym remainders-one) (remainder_congruent P.one);
     add_mod = λ a b. congruent_of_eq P m (remainders.◌⊕◌ a b).0 (P.◌⊕◌ a.0 b.0) (remainders-add_poly a b);
     neg_mod = λ a. congruent_of_eq P m (remainders.neg a).0 (P.neg a.0) (remainders-neg_poly a);
-    mul_mod = λ a b. subst (λ x. Congruent P m x.0 (P.◌⊗◌ a.0 b.0)) (sym (remainders-mul a b)) (remainder_congruent (P.◌⊗◌ a.0 b.0));
+    mul_mod = λ a b. subst (λ x. Congruent P m x.0 (P.◌⊗◌ a.0 b.0)) (sym (remainders-mul a b))
+        (remainder_congruent (P.◌⊗◌ a.0 b.0));
   }
 
   -- a test of the remainder 0
@@ -153,6 +163,7 @@ module _ {K : Type 0} (R : CommRingOn K) {is_zero : K → Bool} (Z : ZeroTest R.
   pub zero_remainder_test : ZeroTest remainders.zero is_zero_remainder
   zero_remainder_test = record {
     is_zero-sound = λ a e. Remainder-path a remainders.zero
-        (congruent_of_eq P m a.0 remainders.zero.0 (let T = zero_poly_test R Z in T.is_zero-sound a.0 e ∙ sym remainders-zero_poly));
+        (congruent_of_eq P m a.0 remainders.zero.0
+        (let T = zero_poly_test R Z in T.is_zero-sound a.0 e ∙ sym remainders-zero_poly));
     is_zero-zero = ap (is_zero_poly R Z) remainders-zero_poly ∙ (let T = zero_poly_test R Z in T.is_zero-zero);
   }

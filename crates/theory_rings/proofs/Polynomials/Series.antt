@@ -40,7 +40,8 @@ module _ {K : Type 0} (R : RingOn K) where
   convolution-zero f g = R.zero-add (f 0 ⊗ g 0)
 
   -- the first term apart
-  pub convolution-suc : (f g : ℕ → K) (k : ℕ) → convolution R f g (suc k) ≡ (f 0 ⊗ g (suc k)) ⊕ convolution R (tail f) g k
+  pub convolution-suc : (f g : ℕ → K) (k : ℕ)
+      → convolution R f g (suc k) ≡ (f 0 ⊗ g (suc k)) ⊕ convolution R (tail f) g k
   convolution-suc f g k =
       sum_first monoid (suc k) (λ i. f i ⊗ g (suc k - i))
       ∙ ap₂ (λ x y. x ⊕ y) (ap (λ j. f 0 ⊗ g j) (omega arith))
@@ -48,24 +49,29 @@ module _ {K : Type 0} (R : RingOn K) where
       (λ i l. ap (λ j. f (suc i) ⊗ g j) (omega arith)))
 
   -- the last term apart
-  pub convolution-suc_last : (f g : ℕ → K) (k : ℕ) → convolution R f g (suc k) ≡ convolution R f (tail g) k ⊕ (f (suc k) ⊗ g 0)
+  pub convolution-suc_last : (f g : ℕ → K) (k : ℕ)
+      → convolution R f g (suc k) ≡ convolution R f (tail g) k ⊕ (f (suc k) ⊗ g 0)
   convolution-suc_last f g k =
       ap₂ (λ x y. x ⊕ y)
       (sum_congr monoid (suc k) (λ i. f i ⊗ g (suc k - i)) (λ i. f i ⊗ g (suc (k - i)))
       (λ i l. ap (λ j. f i ⊗ g j) (omega arith)))
       (ap (λ j. f (suc k) ⊗ g j) (omega arith))
 
-  pub convolution_congr : (f g f' g' : ℕ → K) → ((i : ℕ) → f i ≡ f' i) → ((i : ℕ) → g i ≡ g' i) → (k : ℕ) → convolution R f g k ≡ convolution R f' g' k
+  pub convolution_congr : (f g f' g' : ℕ → K) → ((i : ℕ) → f i ≡ f' i) → ((i : ℕ) → g i ≡ g' i) → (k : ℕ)
+      → convolution R f g k ≡ convolution R f' g' k
   convolution_congr f g f' g' ef eg k =
-      sum_congr monoid (suc k) (λ i. f i ⊗ g (k - i)) (λ i. f' i ⊗ g' (k - i)) (λ i l. ap₂ (λ x y. x ⊗ y) (ef i) (eg (k - i)))
+      sum_congr monoid (suc k) (λ i. f i ⊗ g (k - i)) (λ i. f' i ⊗ g' (k - i))
+      (λ i l. ap₂ (λ x y. x ⊗ y) (ef i) (eg (k - i)))
 
-  pub convolution-add : (f g h : ℕ → K) (k : ℕ) → convolution R f (λ i. g i ⊕ h i) k ≡ convolution R f g k ⊕ convolution R f h k
+  pub convolution-add : (f g h : ℕ → K) (k : ℕ)
+      → convolution R f (λ i. g i ⊕ h i) k ≡ convolution R f g k ⊕ convolution R f h k
   convolution-add f g h k =
       sum_congr monoid (suc k) (λ i. f i ⊗ (g (k - i) ⊕ h (k - i))) (λ i. (f i ⊗ g (k - i)) ⊕ (f i ⊗ h (k - i)))
       (λ i l. R.mul-add (f i) (g (k - i)) (h (k - i)))
       ∙ sum-add monoid (suc k) (λ i. f i ⊗ g (k - i)) (λ i. f i ⊗ h (k - i))
 
-  pub add-convolution : (f g h : ℕ → K) (k : ℕ) → convolution R (λ i. f i ⊕ g i) h k ≡ convolution R f h k ⊕ convolution R g h k
+  pub add-convolution : (f g h : ℕ → K) (k : ℕ)
+      → convolution R (λ i. f i ⊕ g i) h k ≡ convolution R f h k ⊕ convolution R g h k
   add-convolution f g h k =
       sum_congr monoid (suc k) (λ i. (f i ⊕ g i) ⊗ h (k - i)) (λ i. (f i ⊗ h (k - i)) ⊕ (g i ⊗ h (k - i)))
       (λ i l. R.add-mul (f i) (g i) (h (k - i)))
@@ -78,7 +84,8 @@ module _ {K : Type 0} (R : RingOn K) where
       ∙ sym (mul-sum R (suc k) c (λ i. f i ⊗ g (k - i)))
 
   -- where each term is 0 the convolution is
-  pub convolution_eq_zero : (f g : ℕ → K) (k : ℕ) → ((i : ℕ) → i ≤ k → f i ⊗ g (k - i) ≡ R.zero) → convolution R f g k ≡ R.zero
+  pub convolution_eq_zero : (f g : ℕ → K) (k : ℕ) → ((i : ℕ) → i ≤ k → f i ⊗ g (k - i) ≡ R.zero)
+      → convolution R f g k ≡ R.zero
   convolution_eq_zero f g k h = sum_eq_zero monoid (suc k) (λ i. f i ⊗ g (k - i)) (λ i l. h i (omega arith))
 
   -- a constant times a series
@@ -89,19 +96,23 @@ module _ {K : Type 0} (R : RingOn K) where
       ∙ ap (λ x. (c ⊗ g (suc k)) ⊕ x) (convolution_eq_zero (λ i. R.zero) g k (λ i l. zero-mul R (g (k - i))))
       ∙ add-zero monoid (c ⊗ g (suc k))
 
-  pub convolution_assoc : (f g h : ℕ → K) (k : ℕ) → convolution R (convolution R f g) h k ≡ convolution R f (convolution R g h) k
+  pub convolution_assoc : (f g h : ℕ → K) (k : ℕ)
+      → convolution R (convolution R f g) h k ≡ convolution R f (convolution R g h) k
   convolution_assoc f g h zero =
       convolution-zero (convolution R f g) h ∙ ap (λ x. x ⊗ h 0) (convolution-zero f g) ∙ R.mul_assoc (f 0) (g 0) (h 0)
       ∙ sym (convolution-zero f (convolution R g h) ∙ ap (λ x. f 0 ⊗ x) (convolution-zero g h))
   convolution_assoc f g h (suc k) =
       convolution-suc (convolution R f g) h k
       ∙ ap₂ (λ x y. x ⊕ y) (ap (λ x. x ⊗ h (suc k)) (convolution-zero f g) ∙ R.mul_assoc (f 0) (g 0) (h (suc k)))
-      (convolution_congr (tail (convolution R f g)) h (λ i. (f 0 ⊗ g (suc i)) ⊕ convolution R (tail f) g i) h (convolution-suc f g) (λ i. refl) k
+      (convolution_congr (tail (convolution R f g)) h (λ i. (f 0 ⊗ g (suc i)) ⊕ convolution R (tail f) g i) h
+      (convolution-suc f g) (λ i. refl) k
       ∙ add-convolution (λ i. f 0 ⊗ g (suc i)) (convolution R (tail f) g) h k
       ∙ ap₂ (λ x y. x ⊕ y) (mul-convolution (f 0) (tail g) h k) (convolution_assoc (tail f) g h k))
-      ∙ sym (R.add_assoc (f 0 ⊗ (g 0 ⊗ h (suc k))) (f 0 ⊗ convolution R (tail g) h k) (convolution R (tail f) (convolution R g h) k))
+      ∙ sym (R.add_assoc (f 0 ⊗ (g 0 ⊗ h (suc k))) (f 0 ⊗ convolution R (tail g) h k)
+      (convolution R (tail f) (convolution R g h) k))
       ∙ ap (λ x. x ⊕ convolution R (tail f) (convolution R g h) k)
-      (sym (R.mul-add (f 0) (g 0 ⊗ h (suc k)) (convolution R (tail g) h k)) ∙ ap (λ x. f 0 ⊗ x) (sym (convolution-suc g h k)))
+      (sym (R.mul-add (f 0) (g 0 ⊗ h (suc k)) (convolution R (tail g) h k))
+      ∙ ap (λ x. f 0 ⊗ x) (sym (convolution-suc g h k)))
       ∙ sym (convolution-suc f (convolution R g h) k)
 
 module _ {K : Type 0} (C : CommRingOn K) where
@@ -120,7 +131,8 @@ module _ {K : Type 0} (C : CommRingOn K) where
   abbrev pub series : CommRingOn (ℕ → K)
   series =
       let unit : ℕ → K = constant_coefficients C.zero one in
-      let left : (f : ℕ → K) → convolution ring unit f ≡ f = λ f. fun_ext (λ k. constant-convolution ring one f k ∙ C.one-mul (f k)) in
+      let left : (f : ℕ → K)
+      → convolution ring unit f ≡ f = λ f. fun_ext (λ k. constant-convolution ring one f k ∙ C.one-mul (f k)) in
       let swap : (f g : ℕ → K) → convolution ring f g ≡ convolution ring g f = λ f g. fun_ext (convolution_comm f g) in
       record {
         ring = record {

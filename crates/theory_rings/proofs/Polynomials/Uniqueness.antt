@@ -21,5 +21,6 @@ module _ {K : Type 0} (R : CommRingOn K) {is_zero : K → Bool} (Z : ZeroTest R.
       (λ x y. Poly-path R (A.◌⊗◌ x y) (B.◌⊗◌ x y) (λ k. a.coefficient-mul x y k ∙ sym (b.coefficient-mul x y k)))
 
   -- what holds of polynomials holds of every ring of polynomials
-  pub for_polynomials : (Q : CommRingOn (Poly R) → Type 0) → Q (polynomials R Z) → (P : CommRingOn (Poly R)) → IsPolynomialRing R P → Q P
+  pub for_polynomials : (Q : CommRingOn (Poly R) → Type 0) → Q (polynomials R Z) → (P : CommRingOn (Poly R))
+      → IsPolynomialRing R P → Q P
   for_polynomials Q q P I = subst Q (polynomial_ring_unique (polynomials R Z) P (is_polynomial_ring R Z) I) q

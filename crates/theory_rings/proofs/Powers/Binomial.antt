@@ -12,13 +12,15 @@ use Rattle.theory_rings.proofs.Rings.RingLaws.{add-zero, add_left_comm}
 use Rattle.theory_rings.proofs.Sums.Sums.{sum_congr, sum-add, sum_first}
 use Rattle.theory_rings.proofs.Powers.Times.{one-times, add-times}
 use Rattle.theory_rings.proofs.Numbers.Primes.{IsPrime-dvd-mul, IsPrime-not_dvd}
-use Rattle.theory_rings.proofs.Rings.Semirings.{CommSemiringOn, semiring, power_in, add-mul, mul-sum, mul-times_comm, mul_left_comm}
+use Rattle.theory_rings.proofs.Rings.Semirings.{CommSemiringOn, semiring, power_in, add-mul, mul-sum, mul-times_comm}
+use Rattle.theory_rings.proofs.Rings.Semirings.{mul_left_comm}
 
 pub choose-eq-zero_of_lt : (n k : ℕ) → n < k → choose n k ≡ 0
 choose-eq-zero_of_lt n zero l = absurd (omega arith)
 choose-eq-zero_of_lt zero (suc k) l = refl
 choose-eq-zero_of_lt (suc n) (suc k) l =
-    let a = choose-eq-zero_of_lt n k (omega arith) in let b = choose-eq-zero_of_lt n (suc k) (omega arith) in omega arith
+    let a = choose-eq-zero_of_lt n k (omega arith) in let b = choose-eq-zero_of_lt n (suc k) (omega arith) in
+    omega arith
 
 pub choose_self : (n : ℕ) → choose n n ≡ 1
 choose_self zero = refl
@@ -62,7 +64,8 @@ module _ {K : Type 0} (S : CommSemiringOn K) (a b : K) where
       mul-times_comm S (choose n k) a (power_in S a k ⊗ power_in S b (n - k))
       ∙ ap (times monoid (choose n k)) (sym (S.mul_assoc a (power_in S a k) (power_in S b (n - k))))
 
-  mul-term_right : (n k : ℕ) → b ⊗ binomial_term n k ≡ times monoid (choose n k) (power_in S a k ⊗ power_in S b (suc (n - k)))
+  mul-term_right : (n k : ℕ)
+      → b ⊗ binomial_term n k ≡ times monoid (choose n k) (power_in S a k ⊗ power_in S b (suc (n - k)))
   mul-term_right n k =
       mul-times_comm S (choose n k) b (power_in S a k ⊗ power_in S b (n - k))
       ∙ ap (times monoid (choose n k)) (mul_left_comm S b (power_in S a k) (power_in S b (n - k)))
@@ -81,7 +84,8 @@ module _ {K : Type 0} (S : CommSemiringOn K) (a b : K) where
       ∙ add-times monoid (choose n k) (choose n (suc k)) (power_in S a (suc k) ⊗ power_in S b (n - k))
 
   -- the terms that b brings, but for the first
-  right-sum : (n : ℕ) → b ⊗ sum monoid (suc n) (binomial_term n) ≡ binomial_term (suc n) 0 ⊕ sum monoid (suc n) (more_right n)
+  right-sum : (n : ℕ) → b ⊗ sum monoid (suc n) (binomial_term n) ≡ binomial_term (suc n) 0 ⊕ sum monoid (suc n)
+      (more_right n)
   right-sum n =
       mul-sum S (suc n) b (binomial_term n)
       ∙ sum_first monoid n (λ k. b ⊗ binomial_term n k)
@@ -89,7 +93,8 @@ module _ {K : Type 0} (S : CommSemiringOn K) (a b : K) where
       (sum_congr monoid n (λ k. b ⊗ binomial_term n (suc k)) (more_right n) (term-next n)
       ∙ sym (add-zero monoid (sum monoid n (more_right n)))
       ∙ ap (λ x. sum monoid n (more_right n) ⊕ x)
-      (ap (λ m. times monoid m (power_in S a (suc n) ⊗ power_in S b (n - n))) (sym (choose-eq-zero_of_lt n (suc n) (omega arith)))))
+      (ap (λ m. times monoid m (power_in S a (suc n) ⊗ power_in S b (n - n)))
+      (sym (choose-eq-zero_of_lt n (suc n) (omega arith)))))
 
   -- the binomial theorem
   pub add-power : (n : ℕ) → power_in S (a ⊕ b) n ≡ sum monoid (suc n) (binomial_term n)
@@ -100,9 +105,12 @@ module _ {K : Type 0} (S : CommSemiringOn K) (a b : K) where
       let D = sum monoid (suc n) (more_right n) in
       let t = binomial_term (suc n) in
       ap (λ x. (a ⊕ b) ⊗ x) (add-power n) ∙ add-mul S a b P
-      ∙ ap₂ (λ x y. x ⊕ y) (mul-sum S (suc n) a (binomial_term n) ∙ sum_congr monoid (suc n) (λ k. a ⊗ binomial_term n k) (more_left n) (λ k _. mul-term_left n k)) (right-sum n)
+      ∙ ap₂ (λ x y. x ⊕ y) (mul-sum S (suc n) a (binomial_term n)
+      ∙ sum_congr monoid (suc n) (λ k. a ⊗ binomial_term n k) (more_left n) (λ k _. mul-term_left n k))
+      (right-sum n)
       ∙ add_left_comm monoid A (t 0) D
-      ∙ ap (λ x. t 0 ⊕ x) (sym (sum-add monoid (suc n) (more_left n) (more_right n)) ∙ sum_congr monoid (suc n) (λ k. more_left n k ⊕ more_right n k) (λ k. t (suc k)) (λ k _. sym (term-suc n k)))
+      ∙ ap (λ x. t 0 ⊕ x) (sym (sum-add monoid (suc n) (more_left n) (more_right n))
+      ∙ sum_congr monoid (suc n) (λ k. more_left n k ⊕ more_right n k) (λ k. t (suc k)) (λ k _. sym (term-suc n k)))
       ∙ sym (sum_first monoid (suc n) t)
 
 -- the binomial theorem in a commutative ring

@@ -10,7 +10,8 @@ use Rattle.theory_rings.specs.Power.{power, times}
 use Rattle.theory_rings.specs.Binomial.{choose}
 use Rattle.theory_rings.proofs.Rings.RingLaws.{add-zero, add_cancel_left}
 use Rattle.theory_rings.proofs.Sums.Sums.{sum_congr, sum_first, map-sum}
-use Rattle.theory_rings.proofs.Powers.Powers.{power-one, power-mul, power_first, power-zero, power-power, power_only_zero}
+use Rattle.theory_rings.proofs.Powers.Powers.{power-one, power-mul, power_first, power-zero, power-power}
+use Rattle.theory_rings.proofs.Powers.Powers.{power_only_zero}
 use Rattle.theory_rings.proofs.Powers.Times.{one-times, mul-times, times-sum, times_char}
 use Rattle.theory_rings.proofs.Rings.Semirings.{CommSemiringOn, semiring, power_in}
 use Rattle.theory_rings.proofs.Powers.Binomial.{binomial_term, add-power, choose_self, IsPrime-dvd-choose}
@@ -41,10 +42,12 @@ module _ {K : Type 0} (S : CommSemiringOn K) (a b : K) where
     term-inner : (i : ℕ) → i < n → term (suc i) ≡ times monoid (suc n) (part i)
     term-inner i l =
         let x = power_in S a (suc i) ⊗ power_in S b (suc n - suc i) in
-        ap (λ k. times monoid k x) (sym (mul-div_cancel' (suc n) (IsPrime-dvd-choose (suc n) prime (suc i) (omega arith) (omega arith))))
+        ap (λ k. times monoid k x)
+        (sym (mul-div_cancel' (suc n) (IsPrime-dvd-choose (suc n) prime (suc i) (omega arith) (omega arith))))
         ∙ mul-times monoid (suc n) (choose (suc n) (suc i) / suc n) x
 
-    add-power_suc : power_in S (a ⊕ b) (suc n) ≡ power_in S a (suc n) ⊕ power_in S b (suc n) ⊕ times monoid (suc n) (sum monoid n part)
+    add-power_suc : power_in S (a ⊕ b) (suc n) ≡ power_in S a (suc n) ⊕ power_in S b (suc n) ⊕ times monoid (suc n)
+        (sum monoid n part)
     add-power_suc =
         let x = power_in S a (suc n) in
         let y = power_in S b (suc n) in
@@ -53,7 +56,8 @@ module _ {K : Type 0} (S : CommSemiringOn K) (a b : K) where
         ∙ ap₂ (λ u v. u ⊕ v)
         (sum_first monoid n term
         ∙ ap₂ (λ u v. u ⊕ v) term-first
-        (sum_congr monoid n (λ i. term (suc i)) (λ i. times monoid (suc n) (part i)) term-inner ∙ sym (times-sum monoid (suc n) n part)))
+        (sum_congr monoid n (λ i. term (suc i)) (λ i. times monoid (suc n) (part i)) term-inner
+        ∙ sym (times-sum monoid (suc n) n part)))
         term-last
         ∙ S.add_comm (y ⊕ z) x ∙ sym (S.add_assoc x y z)
 
@@ -71,7 +75,8 @@ module _ {K : Type 0} (C : CommRingOn K) (p : ℕ) (prime : IsPrime p) (char : t
   pub frobenius-add : (a b : K) → power ring (a ⊕ b) p ≡ power ring a p ⊕ power ring b p
   frobenius-add a b =
       let r = add-power_prime (semiring C) a b p prime in
-      r.1 ∙ ap (λ x. power ring a p ⊕ power ring b p ⊕ x) (times_char ring p char r.0) ∙ add-zero monoid (power ring a p ⊕ power ring b p)
+      r.1 ∙ ap (λ x. power ring a p ⊕ power ring b p ⊕ x) (times_char ring p char r.0)
+      ∙ add-zero monoid (power ring a p ⊕ power ring b p)
 
   -- the map is a homomorphism
   pub frobenius_hom : IsRingHom ring ring (λ x. power ring x p)
@@ -85,7 +90,8 @@ module _ {K : Type 0} (C : CommRingOn K) (p : ℕ) (prime : IsPrime p) (char : t
   frobenius_iterate x i = ap (power ring x) (pow-suc p i) ∙ sym (power-power ring x (p ^ i) p)
 
   -- the same of the map taken i times
-  pub frobenius_iterate-add : (i : ℕ) (a b : K) → power ring (a ⊕ b) (p ^ i) ≡ power ring a (p ^ i) ⊕ power ring b (p ^ i)
+  pub frobenius_iterate-add : (i : ℕ) (a b : K)
+      → power ring (a ⊕ b) (p ^ i) ≡ power ring a (p ^ i) ⊕ power ring b (p ^ i)
   frobenius_iterate-add zero a b =
       let once : (x : K) → power ring x (p ^ 0) ≡ x = λ x. ap (power ring x) (pow-zero p) ∙ power_first ring x in
       once (a ⊕ b) ∙ sym (ap₂ (λ x y. x ⊕ y) (once a) (once b))
@@ -94,11 +100,13 @@ module _ {K : Type 0} (C : CommRingOn K) (p : ℕ) (prime : IsPrime p) (char : t
       ∙ frobenius-add (power ring a (p ^ i)) (power ring b (p ^ i))
       ∙ sym (ap₂ (λ x y. x ⊕ y) (frobenius_iterate a i) (frobenius_iterate b i))
 
-  pub frobenius_iterate-sum : (i n : ℕ) (f : ℕ → K) → power ring (sum monoid n f) (p ^ i) ≡ sum monoid n (λ k. power ring (f k) (p ^ i))
+  pub frobenius_iterate-sum : (i n : ℕ) (f : ℕ → K)
+      → power ring (sum monoid n f) (p ^ i) ≡ sum monoid n (λ k. power ring (f k) (p ^ i))
   frobenius_iterate-sum i n f =
       let h = prime.two_le in
       let l = one-le-pow i p (omega arith) in
-      map-sum monoid monoid (λ x. power ring x (p ^ i)) (power-zero ring (p ^ i) (omega arith)) (frobenius_iterate-add i) n f
+      map-sum monoid monoid (λ x. power ring x (p ^ i)) (power-zero ring (p ^ i) (omega arith))
+      (frobenius_iterate-add i) n f
 
 module _ {K : Type 0} (F : FieldOn K) (p : ℕ) (prime : IsPrime p) (char : times F.monoid p F.one ≡ F.zero) where
   infixl 65 ◌⊕◌
@@ -110,6 +118,7 @@ module _ {K : Type 0} (F : FieldOn K) (p : ℕ) (prime : IsPrime p) (char : time
       let d = a ⊕ neg b in
       let whole : d ⊕ b ≡ a = F.add_assoc a (neg b) b ∙ ap (λ x. a ⊕ x) (F.neg-add b) ∙ add-zero monoid a in
       let gone : power ring d p ≡ F.zero = add_cancel_left F.additive (power ring b p) (power ring d p) F.zero
-      (F.add_comm (power ring b p) (power ring d p) ∙ sym (frobenius-add F.cring p prime char d b) ∙ ap (λ x. power ring x p) whole
+      (F.add_comm (power ring b p) (power ring d p) ∙ sym (frobenius-add F.cring p prime char d b)
+      ∙ ap (λ x. power ring x p) whole
       ∙ e ∙ sym (add-zero monoid (power ring b p))) in
       sym whole ∙ ap (λ x. x ⊕ b) (power_only_zero F d p gone) ∙ F.zero-add b

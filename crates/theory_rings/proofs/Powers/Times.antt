@@ -39,7 +39,8 @@ pub map-times : {V W : Type 0} (M : AddCommMonoidOn V) (N : AddCommMonoidOn W) (
     → ((a b : V) → h (M.◌⊕◌ a b) ≡ N.◌⊕◌ (h a) (h b)) → (n : ℕ) (x : V) → h (times M n x) ≡ times N n (h x)
 map-times M N h z e n x = map-sum M N h z e n (λ _. x)
 
-pub times-neg : {V : Type 0} (G : AddCommGroupOn V) (n : ℕ) (x : V) → times G.monoid n (G.neg x) ≡ G.neg (times G.monoid n x)
+pub times-neg : {V : Type 0} (G : AddCommGroupOn V) (n : ℕ) (x : V)
+    → times G.monoid n (G.neg x) ≡ G.neg (times G.monoid n x)
 times-neg G n x = sum-neg G n (λ _. x)
 
 module _ {K : Type 0} (R : RingOn K) where
@@ -62,7 +63,8 @@ module _ {K : Type 0} (R : RingOn K) where
   power-times k x (suc n) =
       ap (λ y. times monoid k x ⊗ y) (power-times k x n) ∙ times-mul_assoc k x (times monoid (k ^ n) (power R x n))
       ∙ ap (times monoid k) (mul-times_comm (k ^ n) x (power R x n))
-      ∙ sym (mul-times monoid k (k ^ n) (x ⊗ power R x n)) ∙ ap (λ j. times monoid j (x ⊗ power R x n)) (sym (pow-succ' k n))
+      ∙ sym (mul-times monoid k (k ^ n) (x ⊗ power R x n))
+      ∙ ap (λ j. times monoid j (x ⊗ power R x n)) (sym (pow-succ' k n))
 
   -- where p times 1 is 0
   module _ (p : ℕ) (char : times monoid p R.one ≡ R.zero) where
@@ -71,12 +73,14 @@ module _ {K : Type 0} (R : RingOn K) where
 
     pub times_char_of_dvd : (n : ℕ) → p ∣ n → (x : K) → times monoid n x ≡ R.zero
     times_char_of_dvd n d x =
-        ap (λ k. times monoid k x) (sym (mul-div_cancel' p d)) ∙ mul-times monoid p (n / p) x ∙ times_char (times monoid (n / p) x)
+        ap (λ k. times monoid k x) (sym (mul-div_cancel' p d)) ∙ mul-times monoid p (n / p) x
+        ∙ times_char (times monoid (n / p) x)
 
     -- a multiple goes by the remainder of its number
     pub times_char-mod : (n : ℕ) (x : K) → times monoid (n % p) x ≡ times monoid n x
     times_char-mod n x =
         sym (R.zero-add (times monoid (n % p) x))
-        ∙ ap (λ y. y ⊕ times monoid (n % p) x) (sym (times_char (times monoid (n / p) x)) ∙ sym (mul-times monoid p (n / p) x))
+        ∙ ap (λ y. y ⊕ times monoid (n % p) x)
+        (sym (times_char (times monoid (n / p) x)) ∙ sym (mul-times monoid p (n / p) x))
         ∙ sym (add-times monoid (p * (n / p)) (n % p) x)
         ∙ ap (λ k. times monoid k x) (let a = div-add-mod' n p in let b = mul_comm p (n / p) in omega arith)

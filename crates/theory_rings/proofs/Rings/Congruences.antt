@@ -29,15 +29,18 @@ module _ {D : Type 0} (C : CommRingOn D) (m : D) where
   pub congruent-add : (a a' b b' : D) → Congruent C m a a' → Congruent C m b b' → Congruent C m (a ⊕ b) (a' ⊕ b')
   congruent-add a a' b b' s t = (
     s.0 ⊕ t.0,
-    ap₂ (λ x y. x ⊕ y) s.1 t.1 ∙ ring5 C (λ a b s t m. ((a ⊞ s ⊠ m) ⊞ (b ⊞ t ⊠ m), (a ⊞ b) ⊞ (s ⊞ t) ⊠ m)) refl a' b' s.0 t.0 m,
+    ap₂ (λ x y. x ⊕ y) s.1 t.1
+        ∙ ring5 C (λ a b s t m. ((a ⊞ s ⊠ m) ⊞ (b ⊞ t ⊠ m), (a ⊞ b) ⊞ (s ⊞ t) ⊠ m)) refl a' b' s.0 t.0 m,
   )
 
   pub congruent-neg : (a a' : D) → Congruent C m a a' → Congruent C m (neg a) (neg a')
-  congruent-neg a a' s = (neg s.0, ap neg s.1 ∙ ring3 C (λ a s m. (minus (a ⊞ s ⊠ m), minus a ⊞ minus s ⊠ m)) refl a' s.0 m)
+  congruent-neg a a' s =
+      (neg s.0, ap neg s.1 ∙ ring3 C (λ a s m. (minus (a ⊞ s ⊠ m), minus a ⊞ minus s ⊠ m)) refl a' s.0 m)
 
   pub congruent-mul : (a a' b b' : D) → Congruent C m a a' → Congruent C m b b' → Congruent C m (a ⊗ b) (a' ⊗ b')
   congruent-mul a a' b b' s t = (
     (s.0 ⊗ b' ⊕ a' ⊗ t.0) ⊕ (s.0 ⊗ m) ⊗ t.0,
     ap₂ (λ x y. x ⊗ y) s.1 t.1
-        ∙ ring5 C (λ a b s t m. ((a ⊞ s ⊠ m) ⊠ (b ⊞ t ⊠ m), a ⊠ b ⊞ ((s ⊠ b ⊞ a ⊠ t) ⊞ (s ⊠ m) ⊠ t) ⊠ m)) refl a' b' s.0 t.0 m,
+        ∙ ring5 C (λ a b s t m.
+        ((a ⊞ s ⊠ m) ⊠ (b ⊞ t ⊠ m), a ⊠ b ⊞ ((s ⊠ b ⊞ a ⊠ t) ⊞ (s ⊠ m) ⊠ t) ⊠ m)) refl a' b' s.0 t.0 m,
   )

@@ -11,7 +11,8 @@ use Rattle.theory_rings.specs.Sum.{sum, sum_of, at}
 use Rattle.theory_rings.specs.Power.{power, power_of, times, times_of}
 use Rattle.theory_rings.proofs.Sums.Sums.{sum_by_ops_congr}
 
-pub sum_of_congr : {E : Type 0} (o : Ops E) (n : ℕ) (f g : ℕ → E) → ((i : ℕ) → i < n → f i ≡ g i) → sum_of o n f ≡ sum_of o n g
+pub sum_of_congr : {E : Type 0} (o : Ops E) (n : ℕ) (f g : ℕ → E) → ((i : ℕ) → i < n → f i ≡ g i)
+    → sum_of o n f ≡ sum_of o n g
 sum_of_congr o n f g h = sum_by_ops_congr o.zero o.add n f g h
 
 module _ {E : Type 0} (o : Ops E) (L : FieldLaws o) where
@@ -24,7 +25,8 @@ module _ {E : Type 0} (o : Ops E) (L : FieldLaws o) where
 
   pub sum_of-elem : (n : ℕ) (f : ℕ → E) → ((i : ℕ) → i < n → IsElem o (f i)) → IsElem o (sum_of o n f)
   sum_of-elem zero f h = L.zero-elem
-  sum_of-elem (suc n) f h = L.add-elem (sum_of o n f) (f n) (sum_of-elem n f (λ i l. h i (omega arith))) (h n (omega arith))
+  sum_of-elem (suc n) f h =
+      L.add-elem (sum_of o n f) (f n) (sum_of-elem n f (λ i l. h i (omega arith))) (h n (omega arith))
 
   pub sum_of-elements : (n : ℕ) (f : ℕ → Elem o) → sum_of o n (λ i. (f i).0) ≡ (sum (elements o L).monoid n f).0
   sum_of-elements zero f = refl

@@ -37,7 +37,8 @@ module _ {A B : Type 0} (S : RingOn B) (m : RingEmbedding A S) where
         add_assoc = λ a b c. m.injective (add (add a b) c) (add a (add b c))
             (map-add (add a b) c ∙ ap (λ x. x ⊕ map c) (map-add a b) ∙ S.add_assoc (map a) (map b) (map c)
             ∙ sym (map-add a (add b c) ∙ ap (λ x. map a ⊕ x) (map-add b c)));
-        add_comm = λ a b. m.injective (add a b) (add b a) (map-add a b ∙ S.add_comm (map a) (map b) ∙ sym (map-add b a));
+        add_comm = λ a b. m.injective (add a b) (add b a)
+            (map-add a b ∙ S.add_comm (map a) (map b) ∙ sym (map-add b a));
         zero-add = λ a. m.injective (add zero a) a (map-add zero a ∙ ap (λ x. x ⊕ map a) map-zero ∙ S.zero-add (map a));
       };
       neg = m.neg;

@@ -1,21 +1,24 @@
--- Where each class modulo m has exactly one small element, these are a commutative ring, and taking the small element of
--- the class is a homomorphism.
+-- Where each class modulo m has exactly one small element, these are a commutative ring, and taking the small element
+-- of the class is a homomorphism.
 use Rattle.std.specs.Prelude.{◌≡◌}
 use Rattle.std.proofs.Common.{refl, sym, ◌∙◌, ap, ap₂}
 use mathlib.Core.HLevel.{Σ_prop_path}
 use Rattle.theory_rings.specs.Ring.{CommRingOn}
 use Rattle.theory_rings.specs.Division.{Congruent}
 use Rattle.theory_rings.specs.Homomorphism.{IsRingHom}
-use Rattle.theory_rings.proofs.Rings.Congruences.{congruent_of_eq, congruent_sym, congruent_trans, congruent-add, congruent-mul}
+use Rattle.theory_rings.proofs.Rings.Congruences.{congruent_of_eq, congruent_sym, congruent_trans, congruent-add}
+use Rattle.theory_rings.proofs.Rings.Congruences.{congruent-mul}
 
 -- rem gives the one small element of each class modulo m
-pub record IsRepresentativeSystem {D : Type 0} (C : CommRingOn D) (m : D) (Small : D → Type 0) (rem : D → D) : Type 0 where
+pub record IsRepresentativeSystem {D : Type 0} (C : CommRingOn D) (m : D) (Small : D → Type 0)
+    (rem : D → D) : Type 0 where
   pub small_prop : (a : D) → IsProp (Small a)
   pub rem-small : (a : D) → Small (rem a)
   pub rem-congruent : (a : D) → Congruent C m a (rem a)
   pub unique : (a b : D) → Small a → Small b → Congruent C m a b → a ≡ b
 
-module _ {D : Type 0} (C : CommRingOn D) (m : D) (Small : D → Type 0) (rem : D → D) (S : IsRepresentativeSystem C m Small rem) where
+module _ {D : Type 0} (C : CommRingOn D) (m : D) (Small : D → Type 0) (rem : D → D)
+    (S : IsRepresentativeSystem C m Small rem) where
   infixl 65 ◌⊕◌
   infixl 70 ◌⊗◌
   open C use {zero, one, ◌⊕◌, ◌⊗◌, neg}
@@ -32,7 +35,8 @@ module _ {D : Type 0} (C : CommRingOn D) (m : D) (Small : D → Type 0) (rem : D
   Representative-path a b s = Σ_prop_path S.small_prop {u = a} {v = b} (S.unique a.0 b.0 a.1 b.1 s)
 
   pub representative-small : (a : Representative) → representative a.0 ≡ a
-  representative-small a = Representative-path (representative a.0) a (congruent_sym C m a.0 (rem a.0) (S.rem-congruent a.0))
+  representative-small a =
+      Representative-path (representative a.0) a (congruent_sym C m a.0 (rem a.0) (S.rem-congruent a.0))
 
   pub representative_eq : (a b : D) → Congruent C m a b → representative a ≡ representative b
   representative_eq a b s = Representative-path (representative a) (representative b)
@@ -61,16 +65,20 @@ module _ {D : Type 0} (C : CommRingOn D) (m : D) (Small : D → Type 0) (rem : D
 
   -- a sum or a product of a representative with the representative of an element
   representative-add_left : (a : D) (b : Representative) → plus (representative a) b ≡ representative (a ⊕ b.0)
-  representative-add_left a b = ap (plus (representative a)) (sym (representative-small b)) ∙ sym (representative-add a b.0)
+  representative-add_left a b = ap (plus (representative a)) (sym (representative-small b))
+      ∙ sym (representative-add a b.0)
 
   representative-add_right : (a : Representative) (b : D) → plus a (representative b) ≡ representative (a.0 ⊕ b)
-  representative-add_right a b = ap (λ x. plus x (representative b)) (sym (representative-small a)) ∙ sym (representative-add a.0 b)
+  representative-add_right a b = ap (λ x. plus x (representative b)) (sym (representative-small a))
+      ∙ sym (representative-add a.0 b)
 
   representative-mul_left : (a : D) (b : Representative) → times (representative a) b ≡ representative (a ⊗ b.0)
-  representative-mul_left a b = ap (times (representative a)) (sym (representative-small b)) ∙ sym (representative-mul a b.0)
+  representative-mul_left a b = ap (times (representative a)) (sym (representative-small b))
+      ∙ sym (representative-mul a b.0)
 
   representative-mul_right : (a : Representative) (b : D) → times a (representative b) ≡ representative (a.0 ⊗ b)
-  representative-mul_right a b = ap (λ x. times x (representative b)) (sym (representative-small a)) ∙ sym (representative-mul a.0 b)
+  representative-mul_right a b = ap (λ x. times x (representative b)) (sym (representative-small a))
+      ∙ sym (representative-mul a.0 b)
 
   -- the representatives are a commutative ring
   pub representatives : CommRingOn Representative
@@ -79,23 +87,27 @@ module _ {D : Type 0} (C : CommRingOn D) (m : D) (Small : D → Type 0) (rem : D
       let left : (a : Representative) → times (representative one) a ≡ a =
       λ a. representative-mul_left one a ∙ ap representative (C.one-mul a.0) ∙ representative-small a in
       let over : (a b c : Representative) → times a (plus b c) ≡ plus (times a b) (times a c) =
-      λ a b c. representative-mul_right a (b.0 ⊕ c.0) ∙ ap representative (C.mul-add a.0 b.0 c.0) ∙ representative-add (a.0 ⊗ b.0) (a.0 ⊗ c.0) in
+      λ a b c. representative-mul_right a (b.0 ⊕ c.0) ∙ ap representative (C.mul-add a.0 b.0 c.0)
+      ∙ representative-add (a.0 ⊗ b.0) (a.0 ⊗ c.0) in
       record {
         ring = record {
           additive = record {
             monoid = record {
               zero = representative zero;
               ◌⊕◌ = plus;
-              add_assoc = λ a b c. representative-add_left (a.0 ⊕ b.0) c ∙ ap representative (C.add_assoc a.0 b.0 c.0) ∙ sym (representative-add_right a (b.0 ⊕ c.0));
+              add_assoc = λ a b c. representative-add_left (a.0 ⊕ b.0) c ∙ ap representative (C.add_assoc a.0 b.0 c.0)
+                  ∙ sym (representative-add_right a (b.0 ⊕ c.0));
               add_comm = λ a b. ap representative (C.add_comm a.0 b.0);
-              zero-add = λ a. representative-add_left zero a ∙ ap representative (C.zero-add a.0) ∙ representative-small a;
+              zero-add = λ a. representative-add_left zero a ∙ ap representative (C.zero-add a.0)
+                  ∙ representative-small a;
             };
             neg = λ a. representative (neg a.0);
             neg-add = λ a. representative-add_left (neg a.0) a ∙ ap representative (C.neg-add a.0);
           };
           one = representative one;
           ◌⊗◌ = times;
-          mul_assoc = λ a b c. representative-mul_left (a.0 ⊗ b.0) c ∙ ap representative (C.mul_assoc a.0 b.0 c.0) ∙ sym (representative-mul_right a (b.0 ⊗ c.0));
+          mul_assoc = λ a b c. representative-mul_left (a.0 ⊗ b.0) c ∙ ap representative (C.mul_assoc a.0 b.0 c.0)
+              ∙ sym (representative-mul_right a (b.0 ⊗ c.0));
           one-mul = left;
           mul-one = λ a. swap a (representative one) ∙ left a;
           mul-add = over;

@@ -39,7 +39,9 @@ module _ {V : Type 0} (G : AddCommGroupOn V) where
 
   pub neg_add : (a b : V) → neg (a ⊕ b) ≡ neg a ⊕ neg b
   neg_add a b = sym (neg_unique (a ⊕ b) (neg a ⊕ neg b)
-      (G.add_assoc a b (neg a ⊕ neg b) ∙ ap (λ x. a ⊕ x) (add_left_comm monoid b (neg a) (neg b) ∙ ap (λ x. neg a ⊕ x) (add-neg b) ∙ add-zero monoid (neg a)) ∙ add-neg a))
+      (G.add_assoc a b (neg a ⊕ neg b)
+      ∙ ap (λ x. a ⊕ x) (add_left_comm monoid b (neg a) (neg b) ∙ ap (λ x. neg a ⊕ x) (add-neg b)
+      ∙ add-zero monoid (neg a)) ∙ add-neg a))
 
 -- a map that keeps sums keeps 0 and opposites
 module _ {V W : Type 0} (G : AddCommGroupOn V) (H : AddCommGroupOn W) (h : V → W)

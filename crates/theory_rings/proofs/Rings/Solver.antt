@@ -2,7 +2,8 @@
 use Rattle.std.specs.Prelude.{◌≡◌, ℕ, zero, suc, List, [], ◌∷◌, ◌++◌, Bool, true, false, cond, eqb, ltb, ◌&&◌}
 use Rattle.std.proofs.Common.{T, refl, subst, sym, ◌∙◌, ap, ap₂, eqb→eq}
 use Rattle.theory_rings.specs.Ring.{RingOn, CommRingOn}
-use Rattle.theory_rings.proofs.Rings.RingLaws.{add-zero, add-neg, add_left_comm, mul-zero, zero-mul, mul-neg, neg-mul, neg_neg, neg_add, neg_zero}
+use Rattle.theory_rings.proofs.Rings.RingLaws.{add-zero, add-neg, add_left_comm, mul-zero, zero-mul, mul-neg, neg-mul}
+use Rattle.theory_rings.proofs.Rings.RingLaws.{neg_neg, neg_add, neg_zero}
 use Rattle.theory_rings.proofs.Rings.Semirings.{semiring, mul_left_comm}
 
 infixl 65 ◌⊞◌
@@ -136,7 +137,8 @@ module _ {K : Type 0} (R : RingOn K) (env : List K) where
 
   word-append : (w u : List ℕ) → word (w ++ u) ≡ word w ⊗ word u
   word-append [] u = sym (R.one-mul (word u))
-  word-append (i ∷ w) u = ap (λ x. at_env R env i ⊗ x) (word-append w u) ∙ sym (R.mul_assoc (at_env R env i) (word w) (word u))
+  word-append (i ∷ w) u = ap (λ x. at_env R env i ⊗ x) (word-append w u)
+      ∙ sym (R.mul_assoc (at_env R env i) (word w) (word u))
 
   signed-opposite : (m n : Mono) → opposite m n ≡ true → signed m ⊕ signed n ≡ R.zero
   signed-opposite (mono true w) (mono true u) h = cc
@@ -149,7 +151,8 @@ module _ {K : Type 0} (R : RingOn K) (env : List K) where
   total-choose : (o l : Bool) (m n : Mono) (p r : List Mono) → opposite m n ≡ o
       → total r ≡ signed m ⊕ total p → total (choose o l m n p r) ≡ signed m ⊕ (signed n ⊕ total p)
   total-choose true _ m n p r h e =
-      sym (sym (R.add_assoc (signed m) (signed n) (total p)) ∙ ap (λ x. x ⊕ total p) (signed-opposite m n h) ∙ R.zero-add (total p))
+      sym (sym (R.add_assoc (signed m) (signed n) (total p)) ∙ ap (λ x. x ⊕ total p) (signed-opposite m n h)
+      ∙ R.zero-add (total p))
   total-choose false true m n p r h e = refl
   total-choose false false m n p r h e =
       ap (λ x. signed n ⊕ x) e ∙ add_left_comm R.monoid (signed n) (signed m) (total p)
@@ -161,21 +164,27 @@ module _ {K : Type 0} (R : RingOn K) (env : List K) where
   total-plus : (p q : List Mono) → total (plus p q) ≡ total p ⊕ total q
   total-plus [] q = sym (R.zero-add (total q))
   total-plus (m ∷ p) q =
-      total-put m (plus p q) ∙ ap (λ x. signed m ⊕ x) (total-plus p q) ∙ sym (R.add_assoc (signed m) (total p) (total q))
+      total-put m (plus p q) ∙ ap (λ x. signed m ⊕ x) (total-plus p q)
+      ∙ sym (R.add_assoc (signed m) (total p) (total q))
 
   total-opp : (p : List Mono) → total (opp p) ≡ neg (total p)
   total-opp [] = sym (neg_zero R.additive)
   total-opp (mono true w ∷ p) = ap (λ x. neg (word w) ⊕ x) (total-opp p) ∙ sym (neg_add R.additive (word w) (total p))
   total-opp (mono false w ∷ p) =
-      ap₂ (λ x y. x ⊕ y) (sym (neg_neg R.additive (word w))) (total-opp p) ∙ sym (neg_add R.additive (neg (word w)) (total p))
+      ap₂ (λ x y. x ⊕ y) (sym (neg_neg R.additive (word w))) (total-opp p)
+      ∙ sym (neg_add R.additive (neg (word w)) (total p))
 
   module _ (srt : List ℕ → List ℕ) (fair : (w : List ℕ) → word (srt w) ≡ word w) where
     signed-times : (m n : Mono) → signed (times_mono srt m n) ≡ signed m ⊗ signed n
     signed-times (mono true w) (mono true u) = fair (w ++ u) ∙ word-append w u
-    signed-times (mono true w) (mono false u) = ap neg (fair (w ++ u) ∙ word-append w u) ∙ sym (mul-neg R (word w) (word u))
-    signed-times (mono false w) (mono true u) = ap neg (fair (w ++ u) ∙ word-append w u) ∙ sym (neg-mul R (word w) (word u))
+    signed-times (mono true w) (mono false u) = ap neg (fair (w ++ u) ∙ word-append w u)
+        ∙ sym (mul-neg R (word w) (word u))
+    signed-times (mono false w) (mono true u) = ap neg (fair (w ++ u) ∙ word-append w u)
+        ∙ sym (neg-mul R (word w) (word u))
     signed-times (mono false w) (mono false u) =
-        fair (w ++ u) ∙ word-append w u ∙ sym (neg-mul R (word w) (neg (word u)) ∙ ap neg (mul-neg R (word w) (word u)) ∙ neg_neg R.additive (word w ⊗ word u))
+        fair (w ++ u) ∙ word-append w u
+        ∙ sym (neg-mul R (word w) (neg (word u)) ∙ ap neg (mul-neg R (word w) (word u))
+        ∙ neg_neg R.additive (word w ⊗ word u))
 
     total-times_one : (m : Mono) (q : List Mono) → total (times_one srt m q) ≡ signed m ⊗ total q
     total-times_one m [] = sym (mul-zero R (signed m))
@@ -223,7 +232,8 @@ module _ {K : Type 0} (C : CommRingOn K) (env : List K) where
   -- in a commutative ring
   pub by_sorted : (a b : Ex) → norm sorted a ≡ norm sorted b → value C.ring env a ≡ value C.ring env b
   by_sorted a b e =
-      sym (total-norm C.ring env sorted word-sorted a) ∙ ap (total C.ring env) e ∙ total-norm C.ring env sorted word-sorted b
+      sym (total-norm C.ring env sorted word-sorted a) ∙ ap (total C.ring env) e
+      ∙ total-norm C.ring env sorted word-sorted b
 
 -- two sides of an equation in the first variables
 abbrev pub Sides : Type 0
@@ -261,11 +271,13 @@ module _ {K : Type 0} (C : CommRingOn K) where
   ring3 f e a b c = by_sorted C (a ∷ (b ∷ (c ∷ []))) (f v0 v1 v2).0 (f v0 v1 v2).1 e
 
   pub ring4 : (f : Ex → Ex → Ex → Ex → Sides) → Agrees sorted (f v0 v1 v2 v3) → (a b c d : K)
-      → value C.ring (a ∷ (b ∷ (c ∷ (d ∷ [])))) (f v0 v1 v2 v3).0 ≡ value C.ring (a ∷ (b ∷ (c ∷ (d ∷ [])))) (f v0 v1 v2 v3).1
+      → value C.ring (a ∷ (b ∷ (c ∷ (d ∷ [])))) (f v0 v1 v2 v3).0 ≡ value C.ring (a ∷ (b ∷ (c ∷ (d ∷ []))))
+      (f v0 v1 v2 v3).1
   ring4 f e a b c d = by_sorted C (a ∷ (b ∷ (c ∷ (d ∷ [])))) (f v0 v1 v2 v3).0 (f v0 v1 v2 v3).1 e
 
   pub ring5 : (f : Ex → Ex → Ex → Ex → Ex → Sides) → Agrees sorted (f v0 v1 v2 v3 v4) → (a b c d e : K)
-      → value C.ring (a ∷ (b ∷ (c ∷ (d ∷ (e ∷ []))))) (f v0 v1 v2 v3 v4).0 ≡ value C.ring (a ∷ (b ∷ (c ∷ (d ∷ (e ∷ []))))) (f v0 v1 v2 v3 v4).1
+      → value C.ring (a ∷ (b ∷ (c ∷ (d ∷ (e ∷ []))))) (f v0 v1 v2 v3 v4).0 ≡ value C.ring
+      (a ∷ (b ∷ (c ∷ (d ∷ (e ∷ []))))) (f v0 v1 v2 v3 v4).1
   ring5 f h a b c d e = by_sorted C (a ∷ (b ∷ (c ∷ (d ∷ (e ∷ []))))) (f v0 v1 v2 v3 v4).0 (f v0 v1 v2 v3 v4).1 h
 
 module _ {K : Type 0} (R : RingOn K) where

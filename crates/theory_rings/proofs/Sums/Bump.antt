@@ -1,4 +1,5 @@
--- The numbers without one of them: `bump k` counts those other than k in order, and `unbump k` gives back the place of each.
+-- The numbers without one of them: `bump k` counts those other than k in order, and `unbump k` gives back the place of
+-- each.
 use Rattle.std.specs.Prelude.{◌≡◌, ℕ, suc, pred, ◌<◌, ◌≤◌, cond, ltb}
 use Rattle.std.proofs.Common.{refl, ◌∙◌, arith, ⊎_elim}
 use Rattle.std.proofs.lemmas.Bool.{cases_lt, lt-ltb, le-ltb}
@@ -28,13 +29,16 @@ unbump k j = cond (ltb j k) j (pred j)
 pub bump-unbump : (k j : ℕ) → (j ≡ k → ⊥) → bump k (unbump k j) ≡ j
 bump-unbump k j d = ⊎_elim
     (λ (l : j < k). rw (lt-ltb j k l) (bump-below k j l))
-    (λ (l : k ≤ j). rw (le-ltb j k l) (⊎_elim (λ (g : k < j). bump-above k (pred j) (omega arith) ∙ omega arith) (λ (g : j ≤ k). absurd (d (omega arith))) (cases_lt k j)))
+    (λ (l : k ≤ j). rw (le-ltb j k l)
+    (⊎_elim (λ (g : k < j). bump-above k (pred j) (omega arith) ∙ omega arith)
+    (λ (g : j ≤ k). absurd (d (omega arith))) (cases_lt k j)))
     (cases_lt j k)
 
 pub unbump-lt : (n k j : ℕ) → k < suc n → j < suc n → (j ≡ k → ⊥) → unbump k j < n
 unbump-lt n k j a b d = ⊎_elim
     (λ (l : j < k). rw (lt-ltb j k l) (omega arith))
-    (λ (l : k ≤ j). rw (le-ltb j k l) (⊎_elim (λ (g : k < j). pred_smaller n k j a b g) (λ (g : j ≤ k). absurd (d (omega arith))) (cases_lt k j)))
+    (λ (l : k ≤ j). rw (le-ltb j k l)
+    (⊎_elim (λ (g : k < j). pred_smaller n k j a b g) (λ (g : j ≤ k). absurd (d (omega arith))) (cases_lt k j)))
     (cases_lt j k)
   where
     pred_smaller : (n k j : ℕ) → k < suc n → j < suc n → k < j → pred j < n

@@ -20,13 +20,16 @@ get_or-table (suc n) f k d l =
     (cases_lt k n)
 
 -- past its end too, where f is the default there
-pub get_or-table_default : {X : Type 0} (n : ℕ) (f : ℕ → X) (d : X) → ((k : ℕ) → n ≤ k → f k ≡ d) → (k : ℕ) → get_or (table n f) k d ≡ f k
+pub get_or-table_default : {X : Type 0} (n : ℕ) (f : ℕ → X) (d : X) → ((k : ℕ) → n ≤ k → f k ≡ d) → (k : ℕ)
+    → get_or (table n f) k d ≡ f k
 get_or-table_default n f d h k =
-    ⊎_elim (get_or-table n f k d) (λ l. get_or_past (table n f) k d (omega (arith, length-table n f)) ∙ sym (h k l)) (cases_lt k n)
+    ⊎_elim (get_or-table n f k d) (λ l. get_or_past (table n f) k d (omega (arith, length-table n f)) ∙ sym (h k l))
+    (cases_lt k n)
 
 pub table_congr : {X : Type 0} (n : ℕ) (f g : ℕ → X) → ((k : ℕ) → k < n → f k ≡ g k) → table n f ≡ table n g
 table_congr zero f g h = refl
-table_congr (suc n) f g h = ap₂ (λ xs x. xs ++ x ∷ []) (table_congr n f g (λ k l. h k (omega arith))) (h n (omega arith))
+table_congr (suc n) f g h =
+    ap₂ (λ xs x. xs ++ x ∷ []) (table_congr n f g (λ k l. h k (omega arith))) (h n (omega arith))
 
 pub All-table : {X : Type 0} (P : X → Type 0) (n : ℕ) (f : ℕ → X) → ((k : ℕ) → k < n → P (f k)) → All P (table n f)
 All-table P zero f h = All-nil P

@@ -11,7 +11,8 @@ module _ {V : Type 0} (M : AddCommMonoidOn V) where
   open M use {◌⊕◌}
 
   -- s maps the numbers below n to themselves, one to one
-  pub sum_reindex : (n : ℕ) (s : ℕ → ℕ) (f : ℕ → V) → ((i : ℕ) → i < n → s i < n) → ((i j : ℕ) → i < n → j < n → s i ≡ s j → i ≡ j)
+  pub sum_reindex : (n : ℕ) (s : ℕ → ℕ) (f : ℕ → V) → ((i : ℕ) → i < n → s i < n)
+      → ((i j : ℕ) → i < n → j < n → s i ≡ s j → i ≡ j)
       → sum M n (λ i. f (s i)) ≡ sum M n f
   sum_reindex zero s f h inj = refl
   sum_reindex (suc n) s f h inj =

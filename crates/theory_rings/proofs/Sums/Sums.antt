@@ -11,7 +11,8 @@ use Rattle.theory_rings.proofs.Rings.RingLaws.{add-zero, add_add_add_comm, mul-z
 pub sum_by_ops_congr : {V : Type 0} (z : V) (plus : V → V → V) (n : ℕ) (f g : ℕ → V) → ((i : ℕ) → i < n → f i ≡ g i)
     → sum_by_ops z plus n f ≡ sum_by_ops z plus n g
 sum_by_ops_congr z plus zero f g h = refl
-sum_by_ops_congr z plus (suc n) f g h = ap₂ plus (sum_by_ops_congr z plus n f g (λ i l. h i (omega arith))) (h n (omega arith))
+sum_by_ops_congr z plus (suc n) f g h =
+    ap₂ plus (sum_by_ops_congr z plus n f g (λ i l. h i (omega arith))) (h n (omega arith))
 
 module _ {V : Type 0} (G : AddCommMonoidOn V) where
   infixl 65 ◌⊕◌
@@ -22,11 +23,13 @@ module _ {V : Type 0} (G : AddCommMonoidOn V) where
 
   pub sum_eq_zero : (n : ℕ) (f : ℕ → V) → ((i : ℕ) → i < n → f i ≡ G.zero) → sum G n f ≡ G.zero
   sum_eq_zero zero f h = refl
-  sum_eq_zero (suc n) f h = ap₂ (λ x y. x ⊕ y) (sum_eq_zero n f (λ i l. h i (omega arith))) (h n (omega arith)) ∙ G.zero-add G.zero
+  sum_eq_zero (suc n) f h = ap₂ (λ x y. x ⊕ y) (sum_eq_zero n f (λ i l. h i (omega arith))) (h n (omega arith))
+      ∙ G.zero-add G.zero
 
   pub sum-add : (n : ℕ) (f g : ℕ → V) → sum G n (λ i. f i ⊕ g i) ≡ sum G n f ⊕ sum G n g
   sum-add zero f g = sym (G.zero-add G.zero)
-  sum-add (suc n) f g = ap (λ x. x ⊕ (f n ⊕ g n)) (sum-add n f g) ∙ add_add_add_comm G (sum G n f) (sum G n g) (f n) (g n)
+  sum-add (suc n) f g = ap (λ x. x ⊕ (f n ⊕ g n)) (sum-add n f g)
+      ∙ add_add_add_comm G (sum G n f) (sum G n g) (f n) (g n)
 
   -- the order of two sums can be changed
   pub sum_comm : (n m : ℕ) (f : ℕ → ℕ → V) → sum G n (λ i. sum G m (λ j. f i j)) ≡ sum G m (λ j. sum G n (λ i. f i j))
@@ -42,7 +45,8 @@ module _ {V : Type 0} (G : AddCommMonoidOn V) where
 
   pub sum_first : (n : ℕ) (f : ℕ → V) → sum G (suc n) f ≡ f zero ⊕ sum G n (λ i. f (suc i))
   sum_first zero f = G.add_comm G.zero (f zero)
-  sum_first (suc n) f = ap (λ x. x ⊕ f (suc n)) (sum_first n f) ∙ G.add_assoc (f zero) (sum G n (λ i. f (suc i))) (f (suc n))
+  sum_first (suc n) f = ap (λ x. x ⊕ f (suc n)) (sum_first n f)
+      ∙ G.add_assoc (f zero) (sum G n (λ i. f (suc i))) (f (suc n))
 
   -- one term stands apart
   pub sum_take_out : (n k : ℕ) (f : ℕ → V) → k < suc n → sum G (suc n) f ≡ f k ⊕ sum G n (λ i. f (bump k i))
@@ -52,10 +56,12 @@ module _ {V : Type 0} (G : AddCommMonoidOn V) where
       last : suc n ≤ k → sum G (suc (suc n)) f ≡ f k ⊕ sum G (suc n) (λ i. f (bump k i))
       last g =
           let e : suc n ≡ k = omega arith in
-          ap₂ (λ x y. x ⊕ f y) (sum_congr (suc n) f (λ i. f (bump k i)) (λ i h. ap f (sym (bump-below k i (omega arith))))) e
+          ap₂ (λ x y. x ⊕ f y) (sum_congr (suc n) f (λ i. f (bump k i))
+          (λ i h. ap f (sym (bump-below k i (omega arith))))) e
           ∙ G.add_comm (sum G (suc n) (λ i. f (bump k i))) (f k)
 
-      earlier : k < suc n → sum G (suc n) f ≡ f k ⊕ sum G n (λ i. f (bump k i)) → sum G (suc (suc n)) f ≡ f k ⊕ sum G (suc n) (λ i. f (bump k i))
+      earlier : k < suc n → sum G (suc n) f ≡ f k ⊕ sum G n (λ i. f (bump k i))
+          → sum G (suc (suc n)) f ≡ f k ⊕ sum G (suc n) (λ i. f (bump k i))
       earlier h ih =
           ap₂ (λ x y. x ⊕ f y) ih (sym (bump-above k n (omega arith)))
           ∙ G.add_assoc (f k) (sum G n (λ i. f (bump k i))) (f (bump k n))
@@ -73,7 +79,8 @@ pub map-sum : {V W : Type 0} (G : AddCommMonoidOn V) (H : AddCommMonoidOn W) (h 
 map-sum G H h z e zero f = z
 map-sum G H h z e (suc n) f = e (sum G n f) (f n) ∙ ap (λ x. H.◌⊕◌ x (h (f n))) (map-sum G H h z e n f)
 
-pub sum-neg : {V : Type 0} (G : AddCommGroupOn V) (n : ℕ) (f : ℕ → V) → sum G.monoid n (λ i. G.neg (f i)) ≡ G.neg (sum G.monoid n f)
+pub sum-neg : {V : Type 0} (G : AddCommGroupOn V) (n : ℕ) (f : ℕ → V)
+    → sum G.monoid n (λ i. G.neg (f i)) ≡ G.neg (sum G.monoid n f)
 sum-neg G n f = sym (map-sum G.monoid G.monoid G.neg (neg_zero G) (neg_add G) n f)
 
 module _ {K : Type 0} (R : RingOn K) where

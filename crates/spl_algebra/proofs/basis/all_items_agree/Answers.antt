@@ -28,12 +28,14 @@ returns g c =
     let k = c.args.k in
     let first = c.row_of.result.now in
     let second = c.row_of-2.result.now in
-    let left : c.as_slice.result.now ≡ product o m constants (product o m constants (basis o m i) (basis o m j)) (basis o m k) =
+    let left : c.as_slice.result.now ≡ product o m constants (product o m constants (basis o m i) (basis o m j))
+    (basis o m k) =
     c.as_slice.ensures.value ∙ c.in_ok-left.ensures.value
     ∙ ap (λ rows. table m (sum_of_rows o m first rows (m * m))) (take_rest constants (k * m))
     ∙ sym (product-basis o laws m constants elems first k c.row_of.ensures.elem.of_elements c.requires.third)
     ∙ ap (λ a. product o m constants a (basis o m k)) c.row_of.ensures.value in
-    let right : c.as_slice-2.result.now ≡ product o m constants (basis o m i) (product o m constants (basis o m j) (basis o m k)) =
+    let right : c.as_slice-2.result.now ≡ product o m constants (basis o m i)
+    (product o m constants (basis o m j) (basis o m k)) =
     c.as_slice-2.ensures.value ∙ c.in_ok-right.ensures.value
     ∙ ap (λ rows. table m (sum_of_rows o m second rows m)) (take_rest constants (i * m * m))
     ∙ sym (basis-product o laws m constants elems second i c.row_of-2.ensures.elem.of_elements c.requires.first)

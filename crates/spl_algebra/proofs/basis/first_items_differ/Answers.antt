@@ -56,4 +56,5 @@ returns g c =
     (ap (λ a. product o m constants (basis o m i) a) (sym c.row_of-second.ensures.value)
     ∙ basis-product o laws m constants elems second i c.row_of-second.ensures.elem.of_elements c.requires.first)
     ∙ get_or-table m (sum_of_rows o m second (drop (i * m * m) constants) m) 0 o.zero some) in
-    λ differ same. both_ways c.eq.result (not-true c.eq.result differ) (c.eq.ensures.1 (left_is ∙ ap (λ xs. at o xs 0) same ∙ sym right_is))
+    λ differ same. both_ways c.eq.result (not-true c.eq.result differ)
+    (c.eq.ensures.1 (left_is ∙ ap (λ xs. at o xs 0) same ∙ sym right_is))

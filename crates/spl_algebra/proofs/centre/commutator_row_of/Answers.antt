@@ -1,5 +1,5 @@
 use Rattle.std.proofs.Common.{◌+◌, ◌*◌, length, ◌∙◌, ap₂}
-use Rattle.theory_tables.proofs.Sums.{table_step, read_at}
+use Rattle.theory_tables.proofs.Rows.Sums.{table_step, read_at}
 use Rattle.spl_algebra.specs.Contractions.{commutator_item}
 use Rattle.spl_algebra.proofs.Steps.{IsTuple-push}
 use Rattle.spl_algebra.proofs.Contractions.{constant_within}
@@ -14,10 +14,16 @@ loop-j-preserved g c =
     let k = c.args.k in
     let j = c.loop-j.j in
     let long = c.requires.over.right_length in
-    let right = read_at o cs ((j * m + i) * m + k) c.index-constants-j.result (constant_within j i k m (length cs) c.loop-j-test.true c.requires.first c.requires.second long) c.index-constants-j.is in
-    let left = read_at o cs ((i * m + j) * m + k) c.index-constants-i.result (constant_within i j k m (length cs) c.requires.first c.loop-j-test.true c.requires.second long) c.index-constants-i.is in
+    let right = read_at o cs ((j * m + i) * m + k) c.index-constants-j.result
+    (constant_within j i k m
+    (length cs) c.loop-j-test.true c.requires.first c.requires.second long) c.index-constants-j.is in
+    let left = read_at o cs ((i * m + j) * m + k) c.index-constants-i.result
+    (constant_within i j k m
+    (length cs) c.requires.first c.loop-j-test.true c.requires.second long) c.index-constants-i.is in
     record {
-      elem = IsTuple-push o j c.loop-j.row c.push.new.self c.in_ok-difference.field-0 c.loop-j.invariant.elem c.in_ok-difference.ensures.elem c.in_ok-push.ensures.ok;
-      value = table_step j (commutator_item o m cs i k) c.loop-j.row c.push.new.self c.in_ok-difference.field-0 c.loop-j.invariant.value
+      elem = IsTuple-push o j c.loop-j.row c.push.new.self c.in_ok-difference.field-0 c.loop-j.invariant.elem
+          c.in_ok-difference.ensures.elem c.in_ok-push.ensures.ok;
+      value = table_step j (commutator_item o m cs i k) c.loop-j.row c.push.new.self c.in_ok-difference.field-0
+          c.loop-j.invariant.value
           (c.in_ok-difference.ensures.value ∙ ap₂ (λ x y. o.add x (o.neg y)) right left) c.in_ok-push.ensures.ok;
     }

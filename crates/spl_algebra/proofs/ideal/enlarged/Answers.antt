@@ -15,5 +15,6 @@ returns-clause-multiples g c =
     let next = c.in_ok-spanned in
     let W : ℕ → Type 0 = λ w. IsMatrix o w next.spanned.rows in
     let P : List (List g.row.F-Elem.Denot) → Type 0 = λ x. HoldsMultiples o m cs (length x) x made.rows in
-    HoldsMultiples-same o L m cs c.requires.over.of_elements (length rows) rows made.rows next.spanned.rows (omega arith) c.requires.subspace.shape
+    HoldsMultiples-same o L m cs c.requires.over.of_elements (length rows) rows made.rows next.spanned.rows
+    (omega arith) c.requires.subspace.shape
     (subst W next.ensures.width next.ensures.basis.shape) next.ensures.members (subst P c.rows.ensures made.ensures)

@@ -14,4 +14,6 @@ returns-clause-value g c =
     let i = c.args.i in
     c.from_vec.ensures ∙ c.in_ok-items.ensures.value
     ∙ ap (λ rows. table m (sum_of_rows o m a rows (m * m))) (take_rest cs (i * m))
-    ∙ sym (product-basis o (g.met.F.Field.laws c.args.f.now) m cs c.requires.over.of_elements a i c.requires.element.of_elements c.requires.index)
+    ∙ sym (product-basis o
+    (g.met.F.Field.laws c.args.f.now) m cs c.requires.over.of_elements a i c.requires.element.of_elements
+    c.requires.index)

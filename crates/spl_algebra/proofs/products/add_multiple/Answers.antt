@@ -20,14 +20,17 @@ loop-k-preserved g c =
     elim c.if-not-eq.branch [
       | then-not-eq+in_ok-term+in_ok-sums w ↦
           let term : w.in_ok-term.term ≡ o.mul x (at o row k) =
-          w.in_ok-term.ensures.value ∙ ap (o.mul x) (read-at o row k w.index-row-k-then-not-eq.result in_row w.index-row-k-then-not-eq.is) in
+          w.in_ok-term.ensures.value
+          ∙ ap (o.mul x) (read-at o row k w.index-row-k-then-not-eq.result in_row w.index-row-k-then-not-eq.is) in
           let value : w.in_ok-sums.field-0 ≡ o.add (at o sums k) (o.mul x (at o row k)) =
           w.in_ok-sums.ensures.value ∙ ap₂ o.add (get_or_default sums k _ o.zero in_sums) term in
-          rw w.sums-is (AddsBelow-set o k c.args.sums.now sums (λ j. o.mul x (at o row j)) w.in_ok-sums.field-0 in_sums c.loop-k.invariant
+          rw w.sums-is (AddsBelow-set o k c.args.sums.now sums
+          (λ j. o.mul x (at o row j)) w.in_ok-sums.field-0 in_sums c.loop-k.invariant
           w.in_ok-sums.ensures.elem value)
       | else-not-eq w ↦
           let is_zero : c.index-row-k.result ≡ o.zero = c.eq.ensures.0 w.if-not-eq.false ∙ c.requires.zero in
           rw w.sums-is (AddsBelow-skip o k c.args.sums.now sums (λ j. o.mul x (at o row j)) c.loop-k.invariant
-          (add-mul_zero o laws (at o sums k) x (at o row k) (at-elem o laws sums c.loop-k.invariant.of_elements k) c.requires.factor
+          (add-mul_zero o laws (at o sums k) x (at o row k)
+          (at-elem o laws sums c.loop-k.invariant.of_elements k) c.requires.factor
           (sym (read-at o row k c.index-row-k.result in_row c.index-row-k.is) ∙ is_zero)))
     ]

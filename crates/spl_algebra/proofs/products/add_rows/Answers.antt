@@ -9,7 +9,8 @@ use Rattle.spl_algebra.proofs.products.add_rows.Goals.{then-not-eq+in_ok-c+in_ok
 pub loop-l-init : goal.loop-l-init
 loop-l-init g c =
     let o = g.F.Field.ops c.args.f.now in
-    AddsEach-zero o (g.met.F.Field.laws c.args.f.now) c.args.sums.now (scaled_rows o 0 c.args.x.now c.args.b.now c.args.rows.now c.args.stride)
+    AddsEach-zero o (g.met.F.Field.laws c.args.f.now) c.args.sums.now
+    (scaled_rows o 0 c.args.x.now c.args.b.now c.args.rows.now c.args.stride)
     c.requires.sums (λ k. refl)
 
 pub loop-l-preserved : goal.loop-l-preserved
@@ -27,11 +28,16 @@ loop-l-preserved g c =
       | then-not-eq+in_ok-c+in_ok-add_multiple w ↦
           let m = length old in
           let row = take (l * stride + m - l * stride) (drop (l * stride) rows) in
-          let value : w.in_ok-c.c ≡ o.mul x (at o b l) = w.in_ok-c.ensures.value ∙ ap (o.mul x) (read-at o b l w.index-b-l-then-not-eq.result in_b w.index-b-l-then-not-eq.is) in
-          rw w.sums-is (scaled_rows-more o laws old c.loop-l.sums w.add_multiple.new.sums l x b rows stride w.in_ok-c.c row
-          c.requires.sums c.requires.factor c.requires.coordinates.of_elements c.requires.rows c.loop-l.invariant w.in_ok-add_multiple.ensures
+          let value : w.in_ok-c.c ≡ o.mul x (at o b l) = w.in_ok-c.ensures.value
+          ∙ ap (o.mul x) (read-at o b l w.index-b-l-then-not-eq.result in_b w.index-b-l-then-not-eq.is) in
+          rw w.sums-is (scaled_rows-more o laws old c.loop-l.sums w.add_multiple.new.sums l x b rows stride w.in_ok-c.c
+          row
+          c.requires.sums c.requires.factor c.requires.coordinates.of_elements c.requires.rows c.loop-l.invariant
+          w.in_ok-add_multiple.ensures
           value (λ k m. at-part o rows (l * stride) (length old) k m))
       | else-not-eq w ↦
-          let is_zero : at o b l ≡ o.zero = sym (read-at o b l c.index-b-l.result in_b c.index-b-l.is) ∙ c.eq.ensures.0 w.if-not-eq.false ∙ c.requires.zero in
-          rw w.sums-is (scaled_rows-skip o laws old c.loop-l.sums l x b rows stride c.requires.factor c.requires.coordinates.of_elements c.requires.rows is_zero c.loop-l.invariant)
+          let is_zero : at o b l ≡ o.zero = sym (read-at o b l c.index-b-l.result in_b c.index-b-l.is)
+          ∙ c.eq.ensures.0 w.if-not-eq.false ∙ c.requires.zero in
+          rw w.sums-is (scaled_rows-skip o laws old c.loop-l.sums l x b rows stride c.requires.factor
+          c.requires.coordinates.of_elements c.requires.rows is_zero c.loop-l.invariant)
     ]

@@ -11,7 +11,12 @@ loop-l-preserved g c =
     let stride = c.args.stride in
     let l = c.loop-l.l in
     let in_b : l < length b = omega (arith, c.requires.coordinates.right_length) in
-    let in_rows : l * stride < length rows = omega (arith, c.requires.within l (omega (arith, in_b, c.requires.coordinates.right_length)), c.requires.positive) in
+    let in_rows : l * stride < length rows =
+    omega (
+      arith,
+      c.requires.within l (omega (arith, in_b, c.requires.coordinates.right_length)),
+      c.requires.positive,
+    ) in
     let place : l * stride + 0 ≡ l * stride = omega arith in
     let factor = read-at o b l c.index-b-l.result in_b c.index-b-l.is in
     let item = read-at o rows (l * stride) c.index-rows-l.result in_rows c.index-rows-l.is in (

@@ -1,5 +1,5 @@
 use Rattle.std.proofs.Common.{◌+◌, ◌*◌, ◌<◌, length, arith}
-use Rattle.theory_tables.proofs.Sums.{table_step}
+use Rattle.theory_tables.proofs.Rows.Sums.{table_step}
 use Rattle.spl_algebra.specs.Contractions.{contracted}
 use Rattle.spl_algebra.proofs.Steps.{IsTuple-push}
 use Rattle.spl_algebra.proofs.trace.contracted_row_of.Goals as goal
@@ -23,7 +23,10 @@ loop-j-preserved g c =
     let j = c.loop-j.j in
     let item = c.in_ok-contracted_item.field-0 in
     record {
-      elem = IsTuple-push o j c.loop-j.row c.push.new.self item c.loop-j.invariant.elem c.in_ok-contracted_item.ensures.elem c.in_ok-push.ensures.ok;
-      value = table_step j (λ j. contracted o (length a) a c.args.constants.now (c.args.start + j * c.args.along) c.args.stride) c.loop-j.row c.push.new.self item
+      elem = IsTuple-push o j c.loop-j.row c.push.new.self item c.loop-j.invariant.elem
+          c.in_ok-contracted_item.ensures.elem c.in_ok-push.ensures.ok;
+      value = table_step j (λ j.
+          contracted o (length a) a c.args.constants.now
+          (c.args.start + j * c.args.along) c.args.stride) c.loop-j.row c.push.new.self item
           c.loop-j.invariant.value c.in_ok-contracted_item.ensures.value c.in_ok-push.ensures.ok;
     }

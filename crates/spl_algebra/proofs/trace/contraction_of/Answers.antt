@@ -1,6 +1,6 @@
 use Rattle.std.proofs.Common.{◌*◌, ◌<◌, length, arith}
 use Rattle.theory_spaces.specs.Tuples.{IsTuple}
-use Rattle.theory_tables.proofs.Sums.{table_step, All_step}
+use Rattle.theory_tables.proofs.Rows.Sums.{table_step, All_step}
 use Rattle.spl_algebra.specs.Contractions.{contracted_row}
 use Rattle.spl_algebra.proofs.trace.contraction_of.Goals as goal
 
@@ -16,7 +16,11 @@ loop-r-preserved g c =
     let a = c.args.a.now in
     let item = c.in_ok-row.row in
     record {
-      shape = All_step (IsTuple o (length a)) c.loop-r.rows c.push.new.self item c.loop-r.invariant.shape c.in_ok-row.ensures.elem c.in_ok-push.ensures.ok;
-      value = table_step c.loop-r.r (λ r. contracted_row o (length a) a c.args.constants.now (r * c.args.down) c.args.along c.args.stride) c.loop-r.rows c.push.new.self item
+      shape = All_step (IsTuple o
+          (length a)) c.loop-r.rows c.push.new.self item c.loop-r.invariant.shape c.in_ok-row.ensures.elem
+          c.in_ok-push.ensures.ok;
+      value = table_step c.loop-r.r
+          (λ r. contracted_row o (length a) a c.args.constants.now
+          (r * c.args.down) c.args.along c.args.stride) c.loop-r.rows c.push.new.self item
           c.loop-r.invariant.value c.in_ok-row.ensures.value c.in_ok-push.ensures.ok;
     }

@@ -10,7 +10,8 @@ pub returns-then-dim-eq0 : goal.returns-then-dim-eq0
 returns-then-dim-eq0 c =
     let f = field_of c.args.f.now in
     let a = c.args.a.now in
-    nondegenerate (fractions_over f) (fractions_laws f) a.dim a.constants c.requires.over c.requires.associative c.requires.identity
+    nondegenerate (fractions_over f)
+    (fractions_laws f) a.dim a.constants c.requires.over c.requires.associative c.requires.identity
     c.in_ok-radical.radical.rows (sym c.dim.ensures ∙ c.if-dim-eq0.true) c.in_ok-radical.ensures.members
 
 pub returns : goal.returns
@@ -21,7 +22,9 @@ returns c =
     let rows = c.in_ok-radical.radical.rows in
     let basis = rw c.in_ok-radical.ensures.width at c.in_ok-radical.ensures.basis in
     let some : length rows ≢ 0 = λ e. c.if-dim-eq0.false (c.dim.ensures ∙ e) in
-    let claim = ideal_claim o (fractions_laws f) a.dim a.constants c.requires.over c.requires.associative c.requires.identity rows basis some c.in_ok-radical.ensures.members
+    let claim = ideal_claim o
+    (fractions_laws f) a.dim a.constants c.requires.over c.requires.associative c.requires.identity rows basis some
+    c.in_ok-radical.ensures.members
     (times_one-nonzero_over f a.dim c.requires.apart) in
     subst (λ tuples. IsTraceIdeal o a tuples) (sym (c.in_ok-copies.ensures ∙ c.as_slice.ensures ∙ c.rows.ensures))
     (record { claim = claim; spans = c.in_ok-radical.ensures.members })

@@ -10,7 +10,8 @@ returns-clause-members g c =
     let element = c.args.element in
     let rows = c.in_ok-multiples.multiples.rows in
     let of_dim = subst (λ w. SameSpan o w rows c.push.new.self) c.dim.ensures.dim c.in_ok-multiples.ensures.members in
-    let same = subst (λ r. SameSpan o a.dim rows r) (c.in_ok-push.ensures.ok ∙ ap (λ xs. xs ++ element ∷ []) c.new-rows.ensures) of_dim in
+    let same = subst (λ r. SameSpan o a.dim rows r)
+    (c.in_ok-push.ensures.ok ∙ ap (λ xs. xs ++ element ∷ []) c.new-rows.ensures) of_dim in
     λ v hv.
     let s = same v hv in
     let q = span_of_one o (g.met.F.Field.laws c.args.f.now) a.dim a.constants element c.requires v hv in

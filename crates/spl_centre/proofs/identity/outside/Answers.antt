@@ -18,14 +18,19 @@ returns-then-branch g c =
     let low : 0 < length c.as_slice-rows.result.now = omega arith in
     let high : 1 < length c.as_slice-rows.result.now = omega arith in
     let first : c.as_slice.result.now ≡ get_or rows 0 [] =
-    row_at c.as_slice-rows.result.now 0 c.index-rows-0.result c.as_slice.result.now low c.index-rows-0.is c.as_slice.ensures ∙ ap (λ r. get_or r 0 []) slice in
+    row_at c.as_slice-rows.result.now 0 c.index-rows-0.result c.as_slice.result.now low c.index-rows-0.is
+    c.as_slice.ensures ∙ ap (λ r. get_or r 0 []) slice in
     let second : c.index-rows-1.result ≡ get_or rows 1 [] =
-    row_at c.as_slice-rows.result.now 1 c.index-rows-1.result c.index-rows-1.result high c.index-rows-1.is refl ∙ ap (λ r. get_or r 1 []) slice in
+    row_at c.as_slice-rows.result.now 1 c.index-rows-1.result c.index-rows-1.result high c.index-rows-1.is refl
+    ∙ ap (λ r. get_or r 1 []) slice in
     let inside = subst (λ v. InSpan o a.dim multiples v) first
-    (subst (λ w. InSpan o w multiples c.as_slice.result.now) c.in_ok-multiples.ensures.width (c.in_ok-contains.ensures.0 c.if-branch.true)) in
+    (subst (λ w. InSpan o w multiples c.as_slice.result.now) c.in_ok-multiples.ensures.width
+    (c.in_ok-contains.ensures.0 c.if-branch.true)) in
     let basis = rw c.requires.width at c.requires.basis in
-    let claim = second_row_claim o (g.met.F.Field.laws c.args.f.now) a.dim a.constants c.requires.over.of_elements c.requires.associative
-    c.in_ok-one.one c.in_ok-one.ensures rows multiples basis c.requires.large c.requires.members c.in_ok-multiples.ensures.members inside in
+    let claim = second_row_claim o
+    (g.met.F.Field.laws c.args.f.now) a.dim a.constants c.requires.over.of_elements c.requires.associative
+    c.in_ok-one.one c.in_ok-one.ensures rows multiples basis c.requires.large c.requires.members
+    c.in_ok-multiples.ensures.members inside in
     IfOk-weaker c.copy.result (λ v. v ≡ c.index-rows-1.result) (λ v. CentralClaim o a.dim a.constants v)
     (λ v e. subst (λ x. CentralClaim o a.dim a.constants x) (sym (e ∙ second)) claim) c.copy.ensures
 
@@ -38,13 +43,19 @@ returns g c =
     let slice : c.as_slice-rows.result.now ≡ rows = c.as_slice-rows.ensures ∙ c.rows.ensures in
     let low : 0 < length c.as_slice-rows.result.now = omega (arith, ap length slice, c.requires.large) in
     let tested : c.as_slice.result.now ≡ get_or rows 0 [] =
-    row_at c.as_slice-rows.result.now 0 c.index-rows-0.result c.as_slice.result.now low c.index-rows-0.is c.as_slice.ensures ∙ ap (λ r. get_or r 0 []) slice in
+    row_at c.as_slice-rows.result.now 0 c.index-rows-0.result c.as_slice.result.now low c.index-rows-0.is
+    c.as_slice.ensures ∙ ap (λ r. get_or r 0 []) slice in
     let first : c.index-rows-0-else-branch.result ≡ get_or rows 0 [] =
-    row_at c.as_slice-rows.result.now 0 c.index-rows-0-else-branch.result c.index-rows-0-else-branch.result low c.index-rows-0-else-branch.is refl ∙ ap (λ r. get_or r 0 []) slice in
+    row_at c.as_slice-rows.result.now 0 c.index-rows-0-else-branch.result c.index-rows-0-else-branch.result low
+    c.index-rows-0-else-branch.is refl ∙ ap (λ r. get_or r 0 []) slice in
     let basis = rw c.requires.width at c.requires.basis in
-    let claim = first_row_claim o (g.met.F.Field.laws c.args.f.now) a.dim a.constants c.requires.over.of_elements c.requires.associative
-    c.in_ok-one.one c.in_ok-one.ensures rows multiples basis c.requires.large c.requires.members c.in_ok-multiples.ensures.members
+    let claim = first_row_claim o
+    (g.met.F.Field.laws c.args.f.now) a.dim a.constants c.requires.over.of_elements c.requires.associative
+    c.in_ok-one.one c.in_ok-one.ensures rows multiples basis c.requires.large c.requires.members
+    c.in_ok-multiples.ensures.members
     (λ s. both_ways c.in_ok-contains.field-0 c.if-branch.false (c.in_ok-contains.ensures.1
-    (subst (λ w. InSpan o w multiples c.as_slice.result.now) (sym c.in_ok-multiples.ensures.width) (subst (λ v. InSpan o a.dim multiples v) (sym tested) s)))) in
-    IfOk-weaker c.copy-else-branch.result (λ v. v ≡ c.index-rows-0-else-branch.result) (λ v. CentralClaim o a.dim a.constants v)
+    (subst (λ w. InSpan o w multiples c.as_slice.result.now) (sym c.in_ok-multiples.ensures.width)
+    (subst (λ v. InSpan o a.dim multiples v) (sym tested) s)))) in
+    IfOk-weaker c.copy-else-branch.result (λ v. v ≡ c.index-rows-0-else-branch.result)
+    (λ v. CentralClaim o a.dim a.constants v)
     (λ v e. subst (λ x. CentralClaim o a.dim a.constants x) (sym (e ∙ first)) claim) c.copy-else-branch.ensures

@@ -8,17 +8,22 @@ use Rattle.spl_cli.proofs.run.decide.Goals as goal
 pub returns-in-Ok-None : goal.returns-in-Ok-None
 returns-in-Ok-None g c = λ words form.
     Answers-undecided words _ _ _ _ form c.in-Ok.table c.in-Ok.ensures.ok c.as_bytes-in-Ok-None.result.now
-    (record { line = c.end_line.result; kind = NotBuilt }) (rw c.in-Ok-None.field-0-is at c.in-Ok-None.ensures) c.end_line.ensures refl
-    (c.as_bytes-in-Ok-None.ensures.value ∙ c.as_str-in-Ok-None.ensures.value ∙ c.refusal_line-in-Ok-None.ensures) c.finish-in-Ok-None.ensures
+    (record { line = c.end_line.result; kind = NotBuilt })
+    (rw c.in-Ok-None.field-0-is at c.in-Ok-None.ensures) c.end_line.ensures refl
+    (c.as_bytes-in-Ok-None.ensures.value ∙ c.as_str-in-Ok-None.ensures.value
+    ∙ c.refusal_line-in-Ok-None.ensures) c.finish-in-Ok-None.ensures
 
 pub returns : goal.returns
 returns g c = λ words form.
     let P : List ℕ → Type 0 = ShowsEvidence c.in-Ok.table in
     Answers-found words _ _ _ _ form c.in-Ok.table c.in-Ok.ensures.ok c.as_slice.result.now
-    (subst P (sym c.as_slice.ensures.value) (rw c.in-Ok-Some.field-0-is at c.in-Ok-Some.ensures)) c.finish-in-Ok-Some.ensures
+    (subst P (sym c.as_slice.ensures.value)
+    (rw c.in-Ok-Some.field-0-is at c.in-Ok-Some.ensures)) c.finish-in-Ok-Some.ensures
 
 pub returns-in-Err-Refused : goal.returns-in-Err-Refused
 returns-in-Err-Refused g c = λ words form.
     let r = c.in-Err-Refused in
-    Answers-refused words c.args.input.now _ _ _ form c.as_bytes.result.now r.refusal (r.ensures.refused r.refusal (ap Err r.field-0-is))
-    (c.as_bytes.ensures.value ∙ c.as_str.ensures.value ∙ c.refusal_line.ensures ∙ ap refusal_text r.refusal-is) c.finish.ensures
+    Answers-refused words c.args.input.now _ _ _ form c.as_bytes.result.now r.refusal
+    (r.ensures.refused r.refusal (ap Err r.field-0-is))
+    (c.as_bytes.ensures.value ∙ c.as_str.ensures.value ∙ c.refusal_line.ensures
+    ∙ ap refusal_text r.refusal-is) c.finish.ensures

@@ -11,7 +11,8 @@ pub returns-in-Ok : goal.returns-in-Ok
 returns-in-Ok g c =
     let form = c.is_decide.ensures.0 c.if-not-is_decide.false in
     let sinks = sink_state g.K.Sink.written g.K.Sink.faults g.K.Sink.steady in
-    let P : List ℕ → Type 0 = λ read. Answers c.args.words.now read (sinks c.args.sink.now) (sinks c.decide.new.sink) c.decide.result in
+    let P : List ℕ → Type 0 = λ read.
+    Answers c.args.words.now read (sinks c.args.sink.now) (sinks c.decide.new.sink) c.decide.result in
     IsRun-answered _ _ _ _ _ _ c.in-Ok.input.items form
     (record {
       taken = c.in-Ok.ensures.taken;

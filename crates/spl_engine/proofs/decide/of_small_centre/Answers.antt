@@ -14,7 +14,8 @@ use Rattle.spl_engine.proofs.decide.of_small_centre.Goals as goal
 pub trace_ideal-requires-clause-apart : goal.trace_ideal-requires-clause-apart
 trace_ideal-requires-clause-apart c =
     let t = c.args.table.now in
-    subst₂ (λ (f : Fractions) (m : ℕ). m % characteristic (field_of f) ≡ 0 → ⊥) (sym c.fractions.ensures) (sym c.algebra.ensures.dim)
+    subst₂ (λ (f : Fractions) (m : ℕ). m % characteristic (field_of f) ≡ 0 → ⊥) (sym c.fractions.ensures)
+    (sym c.algebra.ensures.dim)
     (square_apart (field_of t.fractions) t.degree t.apart)
 
 pub returns-in-Some : goal.returns-in-Some
@@ -26,5 +27,6 @@ returns-in-Some c =
 pub returns-in-None : goal.returns-in-None
 returns-in-None c =
     of_none c.args.table.now c.requires.associative c.requires.centre
-    (subst₂ (λ (f : Fractions) (A : Structure (Pair ℕ)). IsNondegenerate (fractions_over (field_of f)) A.dim A.constants)
+    (subst₂ (λ (f : Fractions) (A : Structure (Pair ℕ)). IsNondegenerate
+    (fractions_over (field_of f)) A.dim A.constants)
     c.fractions.ensures c.algebra.ensures.algebra (rw c.in-None.is at c.in_ok-tuples.ensures))

@@ -13,8 +13,10 @@ loop-a-preserved c =
     let full = c.loop-a.invariant.full in
     record {
       full = omega arith;
-      elements = rw e (get_or-more c.loop-a.a (λ _ n. n < c.args.size) t v full c.loop-a.invariant.elements c.inverse_entry.ensures.element);
-      entries = rw e (get_or-more c.loop-a.a (λ k n. 0 < k → IsProductByDigits c.args.p c.args.modulus.now k n 1) t v full
+      elements = rw e (get_or-more c.loop-a.a
+          (λ _ n. n < c.args.size) t v full c.loop-a.invariant.elements c.inverse_entry.ensures.element);
+      entries = rw e (get_or-more c.loop-a.a
+          (λ k n. 0 < k → IsProductByDigits c.args.p c.args.modulus.now k n 1) t v full
           c.loop-a.invariant.entries c.inverse_entry.ensures.value);
     }
 

@@ -1,4 +1,5 @@
-use Rattle.std.proofs.Common.{rules, ◌≡◌, ℕ, ◌+◌, ◌*◌, ◌<◌, List, ◌++◌, length, get_or, take, ap, subst, sym, arith, length-append}
+use Rattle.std.proofs.Common.{rules, ◌≡◌, ℕ, ◌+◌, ◌*◌, ◌<◌, List, ◌++◌, length, get_or, take, ap, subst, sym, arith}
+use Rattle.std.proofs.Common.{length-append}
 use Rattle.std.proofs.Math.Nat.{add-mul}
 use Rattle.std.proofs.lemmas.List.{get_or-take, length-take-le}
 use Rattle.theory_rings.specs.FieldByDigits.{IsProductByDigits}
@@ -20,14 +21,17 @@ loop-a-preserved c =
     let product = add-mul c.loop-a.a 1 q in
     record {
       full = omega arith;
-      entries = rw e (get_or-more_rows q c.loop-a.a (λ x y v. IsProductByDigits c.args.p c.args.modulus.now x y v) t (take n row) full
+      entries = rw e (get_or-more_rows q c.loop-a.a (λ x y v. IsProductByDigits c.args.p c.args.modulus.now x y v) t
+          (take n row) full
           c.loop-a.invariant.entries
-          (λ y l. subst (IsProductByDigits c.args.p c.args.modulus.now c.loop-a.a y) (sym (get_or-take n row y 0 (omega arith))) (c.product_row-row.ensures y l)));
+          (λ y l. subst (IsProductByDigits c.args.p c.args.modulus.now c.loop-a.a y)
+          (sym (get_or-take n row y 0 (omega arith))) (c.product_row-row.ensures y l)));
     }
 
 pub returns-clause-elements : goal.returns-clause-elements
 returns-clause-elements c = rows_below c.args.size c.loop-a.table.items
-    (λ a b la lb. let s = c.loop-a.invariant.entries a b (omega arith) lb in subst (λ n. get_or c.loop-a.table.items (a * c.args.size + b) 0 < n) (sym c.requires.size) s.below)
+    (λ a b la lb. let s = c.loop-a.invariant.entries a b (omega arith) lb in
+    subst (λ n. get_or c.loop-a.table.items (a * c.args.size + b) 0 < n) (sym c.requires.size) s.below)
 
 pub returns-clause-entries : goal.returns-clause-entries
 returns-clause-entries c = λ a b la lb. c.loop-a.invariant.entries a b (omega arith) lb

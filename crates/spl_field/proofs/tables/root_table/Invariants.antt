@@ -7,5 +7,6 @@ invariant-loop-r l = record {
   full : length l.table.items ≡ l.size;
   elements : (i : ℕ) → i < l.size → get_or l.table.items i 0 < l.size;
   roots : (r : ℕ) → r < l.r
-      → table_power l.size l.products (get_or l.table.items (table_power l.size l.products r l.p) 0) l.p ≡ table_power l.size l.products r l.p;
+      → table_power l.size l.products
+      (get_or l.table.items (table_power l.size l.products r l.p) 0) l.p ≡ table_power l.size l.products r l.p;
 }

@@ -13,7 +13,8 @@ loop-i-preserved c =
     let full = c.loop-i.invariant.full in
     record {
       full = omega arith;
-      entries = rw e (get_or-more c.loop-i.i (λ k n. IsSumByDigits c.args.p c.args.modulus.now (k / c.args.size) (k % c.args.size) n) t v full
+      entries = rw e (get_or-more c.loop-i.i
+          (λ k n. IsSumByDigits c.args.p c.args.modulus.now (k / c.args.size) (k % c.args.size) n) t v full
           c.loop-i.invariant.entries
           (subst₂ (λ a b. IsSumByDigits c.args.p c.args.modulus.now (c.loop-i.i / a) (c.loop-i.i % b) v)
           c.from-in-loop-i.ensures c.from-in-loop-i-2.ensures c.sum_by_digits.ensures));

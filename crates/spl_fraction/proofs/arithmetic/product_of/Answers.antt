@@ -21,5 +21,7 @@ returns-then-is_zero-2-clause-product c =
 
 pub returns-then-is_unit-2-clause-product : goal.returns-then-is_unit-2-clause-product
 returns-then-is_unit-2-clause-product c =
-    product_comm (small_ops c.args.f.now) (small_laws c.args.f.now) c.args.b.now c.args.a.now c.in_ok-product_with_constant-2.field-0
-    c.requires.right c.requires.left c.in_ok-product_with_constant-2.ensures.lowest c.in_ok-product_with_constant-2.ensures.product
+    product_comm (small_ops c.args.f.now)
+    (small_laws c.args.f.now) c.args.b.now c.args.a.now c.in_ok-product_with_constant-2.field-0
+    c.requires.right c.requires.left c.in_ok-product_with_constant-2.ensures.lowest
+    c.in_ok-product_with_constant-2.ensures.product

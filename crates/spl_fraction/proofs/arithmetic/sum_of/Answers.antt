@@ -21,5 +21,7 @@ returns-then-is_zero-2-clause-sum c =
 
 pub returns-then-is_constant-2-clause-sum : goal.returns-then-is_constant-2-clause-sum
 returns-then-is_constant-2-clause-sum c =
-    sum_comm (small_ops c.args.f.now) (small_laws c.args.f.now) c.args.b.now c.args.a.now c.in_ok-sum_with_polynomial-2.field-0
-    c.requires.right c.requires.left c.in_ok-sum_with_polynomial-2.ensures.lowest c.in_ok-sum_with_polynomial-2.ensures.sum
+    sum_comm (small_ops c.args.f.now)
+    (small_laws c.args.f.now) c.args.b.now c.args.a.now c.in_ok-sum_with_polynomial-2.field-0
+    c.requires.right c.requires.left c.in_ok-sum_with_polynomial-2.ensures.lowest
+    c.in_ok-sum_with_polynomial-2.ensures.sum

@@ -22,7 +22,8 @@ returns-clause-sum c =
     record { over = c.in_ok-denominator.ensures.over; trimmed = c.in_ok-denominator.ensures.trimmed }
     (product_same o c.numerator.result.now c.denominator.result.now c.args.a.now.0 c.args.b.now.1 c.in_ok-left.left
     c.numerator.ensures.value c.denominator.ensures.value c.in_ok-left.ensures.value)
-    (product_same o c.numerator-2.result.now c.denominator-2.result.now c.args.b.now.0 c.args.a.now.1 c.in_ok-right.right
+    (product_same o c.numerator-2.result.now c.denominator-2.result.now c.args.b.now.0 c.args.a.now.1
+    c.in_ok-right.right
     c.numerator-2.ensures.value c.denominator-2.ensures.value c.in_ok-right.ensures.value)
     c.in_ok-numerator.ensures.value
     (product_same o c.denominator-3.result.now c.denominator-4.result.now c.args.a.now.1 c.args.b.now.1 v

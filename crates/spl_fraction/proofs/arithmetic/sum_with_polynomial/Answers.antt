@@ -14,6 +14,7 @@ returns c =
     (product_same o c.numerator.result.now c.denominator-2.result.now c.args.b.now.0 c.args.a.now.1 m
     c.numerator.ensures.value c.denominator-2.ensures.value c.in_ok-multiple.ensures.value)
     record { over = c.in_ok-numerator.ensures.over; trimmed = c.in_ok-numerator.ensures.trimmed }
-    (sum_same o c.numerator-2.result.now m c.args.a.now.0 m c.in_ok-numerator.numerator c.numerator-2.ensures.value refl c.in_ok-numerator.ensures.value)
+    (sum_same o c.numerator-2.result.now m c.args.a.now.0 m c.in_ok-numerator.numerator c.numerator-2.ensures.value refl
+    c.in_ok-numerator.ensures.value)
     (c.in_ok-denominator.ensures.value ∙ c.denominator-3.ensures.value) c.of.ensures in
     record { lowest = r.lowest; sum = r.sum }

@@ -21,5 +21,6 @@ returns c =
     let p = c.in_ok-is_proper.ensures.0 c.if-not-branch.false in (
       subst (λ w. IsLowestTerms o w.0 w.1) (sym c.of.ensures) p.lowest,
       ap (λ w. w.0) c.of.ensures,
-      denominator_forth c.args.f.now c.args.numbers.now c.in-Some.den c.requires.list read p.long ∙ ap (λ w. denominator_of w.1) (sym c.of.ensures),
+      denominator_forth c.args.f.now c.args.numbers.now c.in-Some.den c.requires.list read p.long
+          ∙ ap (λ w. denominator_of w.1) (sym c.of.ensures),
     )

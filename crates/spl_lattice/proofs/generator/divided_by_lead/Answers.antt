@@ -13,5 +13,6 @@ returns-clause-value c =
     let m = c.in_ok-monic in
     let p = c.in_ok-multiples in
     multiple_of_lead o c.know_laws.ensures v.value v.multipliers m.field-0 p.field-0 u.unit l.result
-    c.requires.value_over m.ensures.over l.ensures.elem l.ensures.nonzero l.ensures.value u.ensures.over u.ensures.value m.ensures.value
+    c.requires.value_over m.ensures.over l.ensures.elem l.ensures.nonzero l.ensures.value u.ensures.over u.ensures.value
+    m.ensures.value
     (subst (λ xs. AreMultiples o u.unit xs p.field-0) c.as_slice.ensures p.ensures.value)

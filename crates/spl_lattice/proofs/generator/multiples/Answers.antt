@@ -29,11 +29,14 @@ loop-item-preserved c =
     let e = sym c.in_ok-push.ensures.ok in
     record {
       value = subst (λ xs. AreMultiples o c.args.u.now xs c.push.new.self)
-          (ap (λ y. take i c.args.items.now ++ y ∷ []) c.item-item.is ∙ sym (take_more c.args.items.now i x c.loop-item-test.true))
+          (ap (λ y. take i c.args.items.now ++ y ∷ []) c.item-item.is
+          ∙ sym (take_more c.args.items.now i x c.loop-item-test.true))
           (subst (AreMultiples o c.args.u.now (take i c.args.items.now ++ x ∷ [])) e
-          (AreMultiples-push o c.args.u.now (take i c.args.items.now) c.loop-item.products x m.field-0 inv.value m.ensures.value));
+          (AreMultiples-push o c.args.u.now
+          (take i c.args.items.now) c.loop-item.products x m.field-0 inv.value m.ensures.value));
       over = subst (All (IsOver o)) e (All-push (IsOver o) c.loop-item.products m.field-0 inv.over m.ensures.over);
-      trimmed = subst (All (IsTrimmed 0)) e (All-push (IsTrimmed 0) c.loop-item.products m.field-0 inv.trimmed m.ensures.trimmed);
+      trimmed = subst (All (IsTrimmed 0)) e
+          (All-push (IsTrimmed 0) c.loop-item.products m.field-0 inv.trimmed m.ensures.trimmed);
     }
 
 pub returns-clause-value : goal.returns-clause-value

@@ -18,7 +18,8 @@ returns-clause-value c =
       right_over = v.ensures.right_over;
       greatest = v.ensures.value;
       products = m.multipliers;
-      multiples = subst (λ xs. AreMultiples (small_ops c.args.f.now) v.field-0.left xs m.multipliers) c.as_slice.ensures m.ensures.value;
+      multiples = subst (λ xs.
+          AreMultiples (small_ops c.args.f.now) v.field-0.left xs m.multipliers) c.as_slice.ensures m.ensures.value;
       pushed = c.in_ok-push.ensures.ok;
     }
 
@@ -26,9 +27,11 @@ pub returns-clause-multipliers_over : goal.returns-clause-multipliers_over
 returns-clause-multipliers_over c =
     let o = small_ops c.args.f.now in
     subst (All (IsOver o)) (sym c.in_ok-push.ensures.ok)
-    (All-push (IsOver o) c.in_ok-multipliers.multipliers c.in_ok-value.field-0.right c.in_ok-multipliers.ensures.over c.in_ok-value.ensures.right_over)
+    (All-push (IsOver o) c.in_ok-multipliers.multipliers c.in_ok-value.field-0.right c.in_ok-multipliers.ensures.over
+    c.in_ok-value.ensures.right_over)
 
 pub returns-clause-multipliers_trimmed : goal.returns-clause-multipliers_trimmed
 returns-clause-multipliers_trimmed c =
     subst (All (IsTrimmed 0)) (sym c.in_ok-push.ensures.ok)
-    (All-push (IsTrimmed 0) c.in_ok-multipliers.multipliers c.in_ok-value.field-0.right c.in_ok-multipliers.ensures.trimmed c.know_trimmed.ensures)
+    (All-push (IsTrimmed 0) c.in_ok-multipliers.multipliers c.in_ok-value.field-0.right
+    c.in_ok-multipliers.ensures.trimmed c.know_trimmed.ensures)

@@ -1,8 +1,8 @@
 use Rattle.std.proofs.Common.{◌≡◌, ℕ, List, length, take, sym, ap, ◌∙◌, subst}
 use Rattle.theory_tables.specs.Echelon.{IsReduced}
 use Rattle.theory_tables.specs.Subspace.{SameSpan}
-use Rattle.theory_tables.proofs.Spans.{SameSpan_trans}
-use Rattle.theory_tables.proofs.PivotRows.{kept_same}
+use Rattle.theory_tables.proofs.Rows.Spans.{SameSpan_trans}
+use Rattle.theory_tables.proofs.Rows.PivotRows.{kept_same}
 use Rattle.spl_matrix.proofs.basis.basis_of.Goals as goal
 
 pub returns-clause-same : goal.returns-clause-same
@@ -15,6 +15,8 @@ returns-clause-same g c =
     let pivots = c.in_ok-rows.field-0.pivots in
     let P : ℕ → Type 0 = λ h. IsReduced o h rows pivots w in
     let form : IsReduced o (length rows) rows pivots w = subst P (sym e.height) e.reduced in
-    let is : c.truncate.new.self ≡ take (length pivots) rows = c.truncate.ensures ∙ ap (λ (n : ℕ). take n rows) c.len.ensures in
+    let is : c.truncate.new.self ≡ take (length pivots) rows = c.truncate.ensures
+    ∙ ap (λ (n : ℕ). take n rows) c.len.ensures in
     let S : List (List g.row.F-Elem.Denot) → Type 0 = λ m. SameSpan o w c.args.rows.now m in
-    subst S (sym is) (SameSpan_trans o L w c.args.rows.now rows (take (length pivots) rows) e.same (kept_same o L w rows pivots e.shape form))
+    subst S (sym is) (SameSpan_trans o L w c.args.rows.now rows (take (length pivots) rows) e.same
+    (kept_same o L w rows pivots e.shape form))

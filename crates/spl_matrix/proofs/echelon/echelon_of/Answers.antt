@@ -21,8 +21,11 @@ returns g c =
     let Q : List (List g.row.F-Elem.Denot) → Type 0 = λ m. IsEliminated o h (w + h) w m new pivots in
     let e = subst Q before_is (subst P tall c.in_ok-pivots.ensures) in
     let len = c.in_ok-rows.rows.len in
-    let kept = take_at new (drop (length new) c.in_ok-rows.rows.items) len (e.height ∙ sym tall ∙ c.deref_mut.ensures.len) in
-    let shown = λ (k n : ℕ) (m : List (List g.row.F-Elem.Denot)) (e' : m ≡ new). ap₂ (λ (h : ℕ) (m : List (List g.row.F-Elem.Denot)). columns o h k n m) (ap length e' ∙ e.height) e' in
-    finish o L h w a new c.in_ok-left.left pivots c.in_ok-transform.transform e c.in_ok-left.ensures.elem c.in_ok-transform.ensures.elem
+    let kept = take_at new (drop (length new) c.in_ok-rows.rows.items) len
+    (e.height ∙ sym tall ∙ c.deref_mut.ensures.len) in
+    let shown = λ (k n : ℕ) (m : List (List g.row.F-Elem.Denot)) (e' : m ≡ new). ap₂
+    (λ (h : ℕ) (m : List (List g.row.F-Elem.Denot)). columns o h k n m) (ap length e' ∙ e.height) e' in
+    finish o L h w a new c.in_ok-left.left pivots c.in_ok-transform.transform e c.in_ok-left.ensures.elem
+    c.in_ok-transform.ensures.elem
     (c.in_ok-left.ensures.value ∙ shown 0 w c.as_slice.result.now (c.as_slice.ensures.value ∙ kept))
     (c.in_ok-transform.ensures.value ∙ shown w h c.as_slice-2.result.now (c.as_slice-2.ensures.value ∙ kept))

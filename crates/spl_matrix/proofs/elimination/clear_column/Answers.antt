@@ -8,4 +8,5 @@ returns g c =
     let o = g.F.Field.ops c.args.f.now in
     let old = c.args.rows.now in
     let f = cleared_row o c.args.n old c.args.r c.args.col c.args.lead.now in
-    ChangedBelow-all [] (length old) old c.loop-i.rows f refl (subst (λ (k : ℕ). ChangedBelow [] k old c.loop-i.rows f) (omega arith) c.loop-i.invariant)
+    ChangedBelow-all [] (length old) old c.loop-i.rows f refl
+    (subst (λ (k : ℕ). ChangedBelow [] k old c.loop-i.rows f) (omega arith) c.loop-i.invariant)

@@ -2,7 +2,7 @@ use Rattle.std.proofs.Common.{ℕ, ◌<◌, List, length, get_or, subst}
 use Rattle.std.proofs.lemmas.Result.{IfOk-weaker}
 use Rattle.theory_tables.specs.Subspace.{Rows, SameSpan, SpansKernel}
 use Rattle.spl_matrix.specs.Spanning.{IsPlace, AreKernelRows}
-use Rattle.theory_tables.proofs.Spans.{SameSpan_trans}
+use Rattle.theory_tables.proofs.Rows.Spans.{SameSpan_trans}
 use Rattle.spl_matrix.proofs.KernelRows.{vectors, same_vectors, spans_kernel}
 use Rattle.spl_matrix.proofs.kernel.kernel_of.Goals as goal
 
@@ -21,11 +21,13 @@ returns-clause-members g c =
     let C : List ℕ → Type 0 = λ ps. AreKernelRows o w e.rows ps w made in
     let are = subst C c.as_slice-3.ensures (subst B c.as_slice-2.ensures c.in_ok-vectors.ensures.vectors) in
     let all = vectors o L w e.rows e.pivots reduced.shape reduced.each reduced.reduced places place in
-    let same_all = same_vectors o L w e.rows e.pivots reduced.shape reduced.each reduced.reduced places place made c.in_ok-vectors.ensures.shape are in
+    let same_all = same_vectors o L w e.rows e.pivots reduced.shape reduced.each reduced.reduced places place made
+    c.in_ok-vectors.ensures.shape are in
     let P : Rows g.row.F-Elem.Denot → Type 0 = λ s. SameSpan o w s.rows c.as_slice-4.result.now in
     let Q : Rows g.row.F-Elem.Denot → Type 0 = λ s. SpansKernel o (length c.args.rows.now) w c.args.rows.now s.rows in
     IfOk-weaker c.span_of.result P Q (λ s same.
     let V : List (List g.row.F-Elem.Denot) → Type 0 = λ m. SameSpan o w s.rows m in
-    spans_kernel o L w e.rows e.pivots reduced.shape reduced.each reduced.reduced places place c.args.rows.now s.rows c.requires.shape reduced.same
+    spans_kernel o L w e.rows e.pivots reduced.shape reduced.each reduced.reduced places place c.args.rows.now s.rows
+    c.requires.shape reduced.same
     (SameSpan_trans o L w s.rows made all (subst V c.as_slice-4.ensures same) same_all))
     c.span_of.ensures.members

@@ -1,4 +1,4 @@
-use Rattle.theory_tables.proofs.Refutations.{not_both}
+use Rattle.theory_tables.proofs.Rows.Refutations.{not_both}
 use Rattle.spl_matrix.proofs.laws.not_both.Goals as goal
 
 pub returns : goal.returns

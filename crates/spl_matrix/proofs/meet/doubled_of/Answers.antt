@@ -2,7 +2,7 @@ use Rattle.std.proofs.Common.{◌+◌, [], get_or, nat_lt}
 use Rattle.theory_rings.specs.Sum.{table}
 use Rattle.theory_spaces.specs.Tuples.{IsTuple}
 use Rattle.spl_matrix.specs.Spanning.{doubled_item}
-use Rattle.theory_tables.proofs.Sums.{table_step, All_step, row_at}
+use Rattle.theory_tables.proofs.Rows.Sums.{table_step, All_step, row_at}
 use Rattle.spl_matrix.proofs.meet.doubled_of.Goals as goal
 
 pub loop-i-preserved : goal.loop-i-preserved
@@ -11,9 +11,15 @@ loop-i-preserved g c =
     let w = c.args.w in
     let rows = c.args.rows.now in
     let i = c.loop-i.i in
-    let read = row_at rows i c.index-rows-i.result c.as_slice.result.now c.loop-i-test.true c.index-rows-i.is c.as_slice.ensures in
+    let read = row_at rows i c.index-rows-i.result c.as_slice.result.now c.loop-i-test.true c.index-rows-i.is
+    c.as_slice.ensures in
     let item = c.in_ok-row.row in
     record {
-      shape = All_step (IsTuple o (w + w)) c.loop-i.out c.push.new.self item c.loop-i.invariant.shape c.in_ok-row.ensures.elem c.in_ok-push.ensures.ok;
-      value = table_step i (λ i. table (w + w) (doubled_item o w (nat_lt i c.args.p) (get_or rows i []))) c.loop-i.out c.push.new.self item c.loop-i.invariant.value (rw read at c.in_ok-row.ensures.value) c.in_ok-push.ensures.ok;
+      shape = All_step (IsTuple o
+          (w + w)) c.loop-i.out c.push.new.self item c.loop-i.invariant.shape c.in_ok-row.ensures.elem
+          c.in_ok-push.ensures.ok;
+      value = table_step i (λ i.
+          table (w + w) (doubled_item o w (nat_lt i c.args.p)
+          (get_or rows i []))) c.loop-i.out c.push.new.self item c.loop-i.invariant.value
+          (rw read at c.in_ok-row.ensures.value) c.in_ok-push.ensures.ok;
     }

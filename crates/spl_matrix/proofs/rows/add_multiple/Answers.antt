@@ -5,8 +5,8 @@ use Rattle.theory_rings.specs.Ops.{IsElem}
 use Rattle.theory_rings.specs.Sum.{at}
 use Rattle.theory_rings.proofs.Rings.Elements.{at-elem}
 use Rattle.spl_matrix.proofs.Changes.{ChangedBelow, ChangedBelow-set, ChangedBelow-skip, ChangedBelow-all, read_slice}
-use Rattle.theory_tables.proofs.Sums.{read_at}
-use Rattle.theory_tables.proofs.Terms.{add-zero, mul-zero}
+use Rattle.theory_tables.proofs.Rows.Sums.{read_at}
+use Rattle.theory_tables.proofs.Rows.Terms.{add-zero, mul-zero}
 use Rattle.spl_matrix.proofs.rows.add_multiple.Goals as goal
 use Rattle.spl_matrix.proofs.rows.add_multiple.Goals.{then-not-eq+in_ok-term+in_ok-sum, else-not-eq}
 
@@ -28,9 +28,12 @@ loop-j-preserved g c =
       | then-not-eq+in_ok-term+in_ok-sum w ↦
           let y = w.in_ok-sum.sum in
           let x = w.index-as_slice-j.result in
-          let read : x ≡ at o row j = read_slice o row w.as_slice.result.now j x w.as_slice.ensures j_in w.index-as_slice-j.is in
+          let read : x ≡ at o row j =
+          read_slice o row w.as_slice.result.now j x w.as_slice.ensures j_in w.index-as_slice-j.is in
           let term : w.in_ok-term.term ≡ o.mul factor (at o other j) =
-          w.in_ok-term.ensures.value ∙ ap (o.mul factor) (read_at o other j w.index-other-j-then-not-eq.result j_other w.index-other-j-then-not-eq.is) in
+          w.in_ok-term.ensures.value
+          ∙ ap (o.mul factor)
+          (read_at o other j w.index-other-j-then-not-eq.result j_other w.index-other-j-then-not-eq.is) in
           let value : y ≡ f j = w.in_ok-sum.ensures.value ∙ ap₂ o.add (read ∙ here) term in
           let is : c.if-not-eq.row ≡ set row j y = w.row-is ∙ w.set.ensures in
           rw is record {
@@ -39,11 +42,13 @@ loop-j-preserved g c =
           }
       | else-not-eq w ↦
           let is_zero : c.index-other-j.result ≡ o.zero = c.eq.ensures.0 w.if-not-eq.false ∙ c.requires.zero in
-          let other_zero : at o other j ≡ o.zero = sym (read_at o other j c.index-other-j.result j_other c.index-other-j.is) ∙ is_zero in
+          let other_zero : at o other j ≡ o.zero =
+          sym (read_at o other j c.index-other-j.result j_other c.index-other-j.is) ∙ is_zero in
           rw w.row-is record {
             elems = inv.elems;
             changed = ChangedBelow-skip o.zero j old row f inv.changed (sym (
-                ap (o.add (at o old j)) (ap (o.mul factor) other_zero ∙ mul-zero o L factor c.requires.factor) ∙ add-zero o L (at o old j) (at-elem o L old c.requires.row j)));
+                ap (o.add (at o old j)) (ap (o.mul factor) other_zero ∙ mul-zero o L factor c.requires.factor)
+                ∙ add-zero o L (at o old j) (at-elem o L old c.requires.row j)));
           }
     ]
 
@@ -52,4 +57,5 @@ returns g c =
     let o = g.F.Field.ops c.args.f.now in
     let old = c.args.row.now in
     let f = λ (j : ℕ). o.add (at o old j) (o.mul c.args.c.now (at o c.args.other.now j)) in
-    ChangedBelow-all o.zero (length old) old c.loop-j.row f refl (subst (λ (k : ℕ). ChangedBelow o.zero k old c.loop-j.row f) (omega arith) c.loop-j.invariant.changed)
+    ChangedBelow-all o.zero (length old) old c.loop-j.row f refl
+    (subst (λ (k : ℕ). ChangedBelow o.zero k old c.loop-j.row f) (omega arith) c.loop-j.invariant.changed)

@@ -11,7 +11,8 @@ returns-then-eq g c =
     let row = c.args.row.now in
     let col = c.args.col in
     let x = c.index-as_slice-col.result in
-    let read : x ≡ at o row col = read_slice o row c.as_slice.result.now col x c.as_slice.ensures c.requires.column c.index-as_slice-col.is in
+    let read : x ≡ at o row col =
+    read_slice o row c.as_slice.result.now col x c.as_slice.ensures c.requires.column c.index-as_slice-col.is in
     reduced_by-zero o L row col c.args.lead.now c.requires.row c.requires.lead.of_elements
     (sym read ∙ c.eq.ensures.0 c.if-eq.true ∙ c.requires.zero)
 
@@ -21,6 +22,7 @@ returns g c =
     let row = c.args.row.now in
     let col = c.args.col in
     let x = c.index-as_slice-col.result in
-    let read : x ≡ at o row col = read_slice o row c.as_slice.result.now col x c.as_slice.ensures c.requires.column c.index-as_slice-col.is in
+    let read : x ≡ at o row col =
+    read_slice o row c.as_slice.result.now col x c.as_slice.ensures c.requires.column c.index-as_slice-col.is in
     reduced_by-multiple o row row c.add_multiple.new.row col c.args.lead.now c.in_ok-c.c refl
     (c.in_ok-c.ensures.value ∙ ap o.neg read) c.in_ok-add_multiple.ensures

@@ -4,7 +4,7 @@ use Rattle.std.proofs.lemmas.List.Elements.{All-set}
 use Rattle.theory_rings.specs.Ops.{IsElem}
 use Rattle.theory_rings.specs.Sum.{at}
 use Rattle.spl_matrix.proofs.Changes.{ChangedBelow, ChangedBelow-set, ChangedBelow-skip, ChangedBelow-all, read_slice}
-use Rattle.theory_tables.proofs.Terms.{mul-zero}
+use Rattle.theory_tables.proofs.Rows.Terms.{mul-zero}
 use Rattle.spl_matrix.proofs.rows.scale.Goals as goal
 use Rattle.spl_matrix.proofs.rows.scale.Goals.{then-not-eq+in_ok-product, else-not-eq}
 
@@ -20,7 +20,8 @@ loop-j-preserved g c =
     let f = λ (j : ℕ). o.mul factor (at o old j) in
     let j_in : j < length row = omega arith in
     let x = c.index-as_slice-j.result in
-    let read : x ≡ at o row j = read_slice o row c.as_slice.result.now j x c.as_slice.ensures j_in c.index-as_slice-j.is in
+    let read : x ≡ at o row j =
+    read_slice o row c.as_slice.result.now j x c.as_slice.ensures j_in c.index-as_slice-j.is in
     let here : at o row j ≡ at o old j = inv.changed.rest j (omega arith) in
     elim c.if-not-eq.branch [
       | then-not-eq+in_ok-product w ↦
@@ -32,10 +33,12 @@ loop-j-preserved g c =
             changed = ChangedBelow-set o.zero j old row f y j_in inv.changed value;
           }
       | else-not-eq w ↦
-          let old_zero : at o old j ≡ o.zero = sym here ∙ sym read ∙ c.eq.ensures.0 w.if-not-eq.false ∙ c.requires.zero in
+          let old_zero : at o old j ≡ o.zero = sym here ∙ sym read ∙ c.eq.ensures.0 w.if-not-eq.false
+          ∙ c.requires.zero in
           rw w.row-is record {
             elems = inv.elems;
-            changed = ChangedBelow-skip o.zero j old row f inv.changed (old_zero ∙ sym (ap (o.mul factor) old_zero ∙ mul-zero o L factor c.requires.factor));
+            changed = ChangedBelow-skip o.zero j old row f inv.changed
+                (old_zero ∙ sym (ap (o.mul factor) old_zero ∙ mul-zero o L factor c.requires.factor));
           }
     ]
 
@@ -44,4 +47,5 @@ returns g c =
     let o = g.F.Field.ops c.args.f.now in
     let old = c.args.row.now in
     let f = λ (j : ℕ). o.mul c.args.c.now (at o old j) in
-    ChangedBelow-all o.zero (length old) old c.loop-j.row f refl (subst (λ (k : ℕ). ChangedBelow o.zero k old c.loop-j.row f) (omega arith) c.loop-j.invariant.changed)
+    ChangedBelow-all o.zero (length old) old c.loop-j.row f refl
+    (subst (λ (k : ℕ). ChangedBelow o.zero k old c.loop-j.row f) (omega arith) c.loop-j.invariant.changed)

@@ -1,10 +1,10 @@
 use Rattle.std.proofs.Common.{◌≡◌, ℕ, ◌<◌, List, [], length, get_or, ap, subst, ◌∙◌, arith}
 use Rattle.theory_rings.specs.Sum.{at}
 use Rattle.theory_spaces.specs.Tuples.{IsTuple}
-use Rattle.theory_tables.proofs.Sums.{read_at, row_at}
+use Rattle.theory_tables.proofs.Rows.Sums.{read_at, row_at}
 use Rattle.theory_rings.proofs.Rings.Elements.{at-elem}
 use Rattle.theory_rings.proofs.Sums.Lists.{get_or-table}
-use Rattle.theory_tables.proofs.Solves.{refuted}
+use Rattle.theory_tables.proofs.Rows.Solves.{refuted}
 use Rattle.spl_matrix.proofs.solve.refutation.Goals as goal
 
 pub returns : goal.returns
@@ -22,14 +22,18 @@ returns g c =
     let factor = c.in-Some.factor in
     let found = rw c.in-Some.is at c.in_ok-factor.ensures.value in
     let factor_is : factor ≡ o.inv (at o cs i) = found.1 ∙ ap o.inv read in
-    let i_in : i < length c.as_slice-rows.result.now = omega (arith, ap length c.as_slice-rows.ensures, need.echelon.transform_height) in
+    let i_in : i < length c.as_slice-rows.result.now =
+    omega (arith, ap length c.as_slice-rows.ensures, need.echelon.transform_height) in
     let row = c.as_slice.result.now in
     let i_in' : i < length transform = omega (arith, need.echelon.transform_height) in
-    let row_is : row ≡ get_or transform i [] = row_at c.as_slice-rows.result.now i c.index-rows-i.result row i_in c.index-rows-i.is c.as_slice.ensures ∙ ap (λ (m : List (List g.row.F-Elem.Denot)). get_or m i []) c.as_slice-rows.ensures in
+    let row_is : row ≡ get_or transform i [] =
+    row_at c.as_slice-rows.result.now i c.index-rows-i.result row i_in c.index-rows-i.is c.as_slice.ensures
+    ∙ ap (λ (m : List (List g.row.F-Elem.Denot)). get_or m i []) c.as_slice-rows.ensures in
     let long : length row ≡ h = ap length row_is ∙ (need.echelon.transform_shape i [] i_in').right_length in
     let m = c.in_ok-scaled.field-0 in
     let T : ℕ → Type 0 = λ n. IsTuple o n m in
-    refuted o L h c.args.w a c.args.right.now need.shape need.right c.args.e.now.rows c.args.e.now.pivots transform need.echelon i factor cs m need.past need.within need.c_is need.nonzero factor_is
+    refuted o L h c.args.w a c.args.right.now need.shape need.right c.args.e.now.rows c.args.e.now.pivots transform
+    need.echelon i factor cs m need.past need.within need.c_is need.nonzero factor_is
     (subst T long c.in_ok-scaled.ensures.elem) (at-elem o L cs need.c_elems.of_elements i) (λ k k_in.
     let k_in' : k < length row = omega (arith, long) in
     ap (λ (v : List g.row.F-Elem.Denot). at o v k) c.in_ok-scaled.ensures.value

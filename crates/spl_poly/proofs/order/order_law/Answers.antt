@@ -19,6 +19,7 @@ pub returns : goal.returns
 returns c = record {
   total = then_total (on_total length nat_cmp_total) (on_total reverse nat_list_cmp_total);
   equal = λ a b e. sym (reverse-reverse a)
-      ∙ ap reverse (slice_cmp-equal (reverse a) (reverse b) (second-equal (nat_cmp (length a) (length b)) (slice_cmp nat_cmp (reverse a) (reverse b)) e))
+      ∙ ap reverse (slice_cmp-equal (reverse a) (reverse b)
+      (second-equal (nat_cmp (length a) (length b)) (slice_cmp nat_cmp (reverse a) (reverse b)) e))
       ∙ reverse-reverse b;
 }

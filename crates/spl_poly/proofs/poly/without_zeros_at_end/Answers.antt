@@ -14,7 +14,8 @@ invariant_of-result c =
 pub returns-clause-value : goal.returns-clause-value
 returns-clause-value c =
     let n = c.len_without_zeros-n.ensures in
-    cut-without_zeros c.as_slice.result.now c.len_without_zeros-n.result n.within n.past n.last c.truncate.new.self.items c.args.c.items (sym c.as_slice.ensures)
+    cut-without_zeros c.as_slice.result.now c.len_without_zeros-n.result n.within n.past n.last
+    c.truncate.new.self.items c.args.c.items (sym c.as_slice.ensures)
     (c.truncate.ensures.items ∙ ap (take c.len_without_zeros-n.result) (sym c.as_slice.ensures))
 
 pub returns-clause-trimmed : goal.returns-clause-trimmed
@@ -27,9 +28,11 @@ pub returns-clause-same : goal.returns-clause-same
 returns-clause-same c k =
     let n = c.len_without_zeros-n.ensures in
     let value : c.truncate.new.self.items ≡ without_zeros c.args.c.items =
-    cut-without_zeros c.as_slice.result.now c.len_without_zeros-n.result n.within n.past n.last c.truncate.new.self.items c.args.c.items (sym c.as_slice.ensures)
+    cut-without_zeros c.as_slice.result.now c.len_without_zeros-n.result n.within n.past n.last
+    c.truncate.new.self.items c.args.c.items (sym c.as_slice.ensures)
     (c.truncate.ensures.items ∙ ap (take c.len_without_zeros-n.result) (sym c.as_slice.ensures)) in
     ap (λ l. get_or l k 0) value ∙ get_or-without_zeros c.args.c.items k
 
 pub returns-clause-over : goal.returns-clause-over
-returns-clause-over c o h = subst (IsOver o) (sym c.truncate.ensures.items) (All-take (IsElem o) c.len_without_zeros-n.result c.args.c.items h)
+returns-clause-over c o h =
+    subst (IsOver o) (sym c.truncate.ensures.items) (All-take (IsElem o) c.len_without_zeros-n.result c.args.c.items h)

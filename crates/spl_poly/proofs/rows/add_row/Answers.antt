@@ -13,9 +13,11 @@ loop-j-preserved c =
     let o = small_ops c.args.f.now in
     record {
       over = All-set (IsElem o) c.loop-j.r c.loop-j.j c.sum.result c.sum.ensures.elem c.loop-j.invariant.over;
-      done = λ k l. set-done c.loop-j.r c.args.r.now (λ i x. o.add x (get_or c.args.by.now i 0)) 0 c.loop-j.j c.sum.result (omega arith)
+      done = λ k l. set-done c.loop-j.r c.args.r.now
+          (λ i x. o.add x (get_or c.args.by.now i 0)) 0 c.loop-j.j c.sum.result (omega arith)
           (λ i z b. c.loop-j.invariant.done i b) c.loop-j.invariant.left c.sum.ensures.value k (omega arith) l;
-      left = set-left c.loop-j.r c.args.r.now (λ i x. o.add x (get_or c.args.by.now i 0)) 0 c.loop-j.j c.sum.result (omega arith)
+      left = set-left c.loop-j.r c.args.r.now (λ i x. o.add x (get_or c.args.by.now i 0)) 0 c.loop-j.j c.sum.result
+          (omega arith)
           (λ i z b. c.loop-j.invariant.done i b) c.loop-j.invariant.left c.sum.ensures.value;
     }
 
@@ -25,5 +27,6 @@ returns-clause-added c k =
     ⊎_elim
     (λ (l : k < length c.args.by.now). c.loop-j.invariant.done k (omega arith))
     (λ (l : length c.args.by.now ≤ k). c.loop-j.invariant.left k (omega arith)
-    ∙ sym (add-past o c.know_laws.ensures c.args.by.now k (get_or c.args.r.now k 0) (at-elem o c.know_laws.ensures c.args.r.now c.requires.r_over k) l))
+    ∙ sym (add-past o c.know_laws.ensures c.args.by.now k (get_or c.args.r.now k 0)
+    (at-elem o c.know_laws.ensures c.args.r.now c.requires.r_over k) l))
     (cases_lt k (length c.args.by.now))

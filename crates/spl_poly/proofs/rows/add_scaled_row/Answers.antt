@@ -16,10 +16,12 @@ loop-j-preserved c =
     let p : ℕ = c.args.s + c.loop-j.j in
     let e : c.loop-j.j ≡ p - c.args.s = omega arith in
     let value : c.sum.result ≡ g p (get_or c.loop-j.r p 0) =
-    c.sum.ensures.value ∙ ap (o.add (get_or c.loop-j.r p 0)) (c.product.ensures.value ∙ ap (λ i. o.mul c.args.c (get_or c.args.by.now i 0)) e) in
+    c.sum.ensures.value ∙ ap (o.add (get_or c.loop-j.r p 0))
+    (c.product.ensures.value ∙ ap (λ i. o.mul c.args.c (get_or c.args.by.now i 0)) e) in
     record {
       over = All-set (IsElem o) c.loop-j.r p c.sum.result c.sum.ensures.elem c.loop-j.invariant.over;
-      kept = λ k l. get_or-set_other c.loop-j.r p k c.sum.result 0 (λ e. absurd (omega arith)) ∙ c.loop-j.invariant.kept k l;
+      kept = λ k l. get_or-set_other c.loop-j.r p k c.sum.result 0 (λ e. absurd (omega arith))
+          ∙ c.loop-j.invariant.kept k l;
       done = λ k l b. set-done c.loop-j.r c.args.r.now g c.args.s p c.sum.result (omega arith)
           c.loop-j.invariant.done c.loop-j.invariant.left value k l (omega arith);
       left = λ k l. set-left c.loop-j.r c.args.r.now g c.args.s p c.sum.result (omega arith)
@@ -35,6 +37,8 @@ returns-clause-added c j =
     (λ (l : j < length c.args.by.now). c.loop-j.invariant.done p (omega arith) (omega arith)
     ∙ ap (λ i. o.add (get_or c.args.r.now p 0) (o.mul c.args.c (get_or c.args.by.now i 0))) e)
     (λ (l : length c.args.by.now ≤ j). c.loop-j.invariant.left p (omega arith)
-    ∙ sym (ap (o.add (get_or c.args.r.now p 0)) (mul-past o c.know_laws.ensures c.args.by.now j c.args.c c.requires.c_elem l)
-    ∙ add-zero_elem o c.know_laws.ensures (get_or c.args.r.now p 0) (at-elem o c.know_laws.ensures c.args.r.now c.requires.r_over p)))
+    ∙ sym (ap (o.add (get_or c.args.r.now p 0))
+    (mul-past o c.know_laws.ensures c.args.by.now j c.args.c c.requires.c_elem l)
+    ∙ add-zero_elem o c.know_laws.ensures (get_or c.args.r.now p 0)
+    (at-elem o c.know_laws.ensures c.args.r.now c.requires.r_over p)))
     (cases_lt j (length c.args.by.now))

@@ -11,6 +11,7 @@ invariant-loop-s l = record {
   r_over : IsOver (small_ops l.f) l.r;
   q_low : (k : ℕ) → k < l.s → get_or l.q k 0 ≡ 0;
   r_high : (k : ℕ) → l.s + (length l.by - 1) ≤ k → get_or l.r k 0 ≡ 0;
-  whole : (k : ℕ) → (small_ops l.f).add (convolution_of (small_ops l.f) (at (small_ops l.f) l.q) (at (small_ops l.f) l.by) k)
+  whole : (k : ℕ) → (small_ops l.f).add
+      (convolution_of (small_ops l.f) (at (small_ops l.f) l.q) (at (small_ops l.f) l.by) k)
       (at (small_ops l.f) l.r k) ≡ at (small_ops l.f) l.initial.r k;
 }

@@ -8,5 +8,6 @@ use Rattle.spl_rows.proofs.algebras.faults_with_identity.Goals as goal
 pub trace_ideal-requires-clause-apart : goal.trace_ideal-requires-clause-apart
 trace_ideal-requires-clause-apart c =
     let t = c.args.table.now in
-    subst₂ (λ (f : Fractions) (m : ℕ). m % characteristic (field_of f) ≡ 0 → ⊥) (sym c.fractions-f.ensures) (sym c.algebra-a.ensures.dim)
+    subst₂ (λ (f : Fractions) (m : ℕ). m % characteristic (field_of f) ≡ 0 → ⊥) (sym c.fractions-f.ensures)
+    (sym c.algebra-a.ensures.dim)
     (square_apart (field_of t.fractions) t.degree t.apart)

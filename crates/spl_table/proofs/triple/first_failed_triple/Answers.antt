@@ -12,8 +12,12 @@ use Rattle.spl_table.proofs.triple.first_failed_triple.Goals as goal
 pub returns : goal.returns
 returns c =
     let t = c.args.table.now in
-    subst (λ (k : Fractions). IfOk c.first_triple.result (λ r. MatchOption r (IsAssociative (fractions_over (field_of k)) (algebra_of t)) (IsFirstFailed (fractions_over (field_of k)) (algebra_of t))))
+    subst (λ (k : Fractions).
+    IfOk c.first_triple.result
+    (λ r. MatchOption r (IsAssociative (fractions_over (field_of k)) (algebra_of t))
+    (IsFirstFailed (fractions_over (field_of k)) (algebra_of t))))
     c.fractions.ensures
     (subst (λ (A : Structure (Pair ℕ)). IfOk c.first_triple.result
-    (λ r. MatchOption r (IsAssociative (fractions_over (field_of c.fractions.result.now)) A) (IsFirstFailed (fractions_over (field_of c.fractions.result.now)) A)))
+    (λ r. MatchOption r (IsAssociative (fractions_over (field_of c.fractions.result.now)) A)
+    (IsFirstFailed (fractions_over (field_of c.fractions.result.now)) A)))
     c.algebra.ensures.algebra c.first_triple.ensures)

@@ -1,4 +1,4 @@
-use Rattle.theory_blocks.proofs.FieldFactorsUnique.{factors_are_unique}
+use Rattle.theory_blocks.proofs.Commutative.FieldFactorsUnique.{factors_are_unique}
 use Rattle.theory_blocks.proofs.factor_laws.factor_count_is_unique.Goals as goal
 
 pub returns : goal.returns

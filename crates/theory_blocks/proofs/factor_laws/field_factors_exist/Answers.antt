@@ -1,4 +1,4 @@
-use Rattle.theory_blocks.proofs.FieldFactors.{field_factors}
+use Rattle.theory_blocks.proofs.Commutative.FieldFactors.{field_factors}
 use Rattle.theory_blocks.proofs.factor_laws.field_factors_exist.Goals as goal
 
 pub returns : goal.returns

@@ -1,4 +1,4 @@
-use Rattle.theory_blocks.proofs.FieldFactorsSolutions.{fixed_points_by_factors}
+use Rattle.theory_blocks.proofs.Commutative.FieldFactorsSolutions.{fixed_points_by_factors}
 use Rattle.theory_blocks.proofs.factor_laws.fixed_points_by_factors.Goals as goal
 
 pub returns : goal.returns

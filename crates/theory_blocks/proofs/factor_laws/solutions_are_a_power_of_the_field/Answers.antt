@@ -1,4 +1,4 @@
-use Rattle.theory_blocks.proofs.FieldFactorsSolutions.{solutions_power_of_field}
+use Rattle.theory_blocks.proofs.Commutative.FieldFactorsSolutions.{solutions_power_of_field}
 use Rattle.theory_blocks.proofs.factor_laws.solutions_are_a_power_of_the_field.Goals as goal
 
 pub returns : goal.returns

@@ -1,4 +1,4 @@
-use Rattle.theory_blocks.proofs.ConnectedFields.{connected_field}
+use Rattle.theory_blocks.proofs.Commutative.ConnectedFields.{connected_field}
 use Rattle.theory_blocks.proofs.frobenius_laws.connected_algebra_is_field.Goals as goal
 
 pub returns : goal.returns

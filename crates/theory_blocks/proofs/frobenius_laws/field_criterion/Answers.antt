@@ -1,4 +1,4 @@
-use Rattle.theory_blocks.proofs.Connected.{inverses}
+use Rattle.theory_blocks.proofs.Commutative.Connected.{inverses}
 use Rattle.theory_blocks.proofs.frobenius_laws.field_criterion.Goals as goal
 
 pub returns : goal.returns

@@ -1,4 +1,4 @@
-use Rattle.theory_blocks.proofs.FixedPoints.{fixed_points}
+use Rattle.theory_blocks.proofs.Commutative.FixedPoints.{fixed_points}
 use Rattle.theory_blocks.proofs.frobenius_laws.fixed_points_are_a_subalgebra.Goals as goal
 
 pub returns : goal.returns

@@ -1,4 +1,4 @@
-use Rattle.theory_blocks.proofs.Semiprime.{centre_is_reduced}
+use Rattle.theory_blocks.proofs.Ideals.Semiprime.{centre_is_reduced}
 use Rattle.theory_blocks.proofs.maximal_laws.centre_is_reduced.Goals as goal
 
 pub returns : goal.returns

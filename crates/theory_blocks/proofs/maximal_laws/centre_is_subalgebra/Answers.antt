@@ -1,4 +1,4 @@
-use Rattle.theory_blocks.proofs.Centres.{centre_subalgebra}
+use Rattle.theory_blocks.proofs.Ideals.Centres.{centre_subalgebra}
 use Rattle.theory_blocks.proofs.maximal_laws.centre_is_subalgebra.Goals as goal
 
 pub returns : goal.returns

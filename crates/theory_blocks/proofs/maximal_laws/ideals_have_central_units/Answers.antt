@@ -1,4 +1,4 @@
-use Rattle.theory_blocks.proofs.CentralIdempotents.{central_units}
+use Rattle.theory_blocks.proofs.Ideals.CentralIdempotents.{central_units}
 use Rattle.theory_blocks.proofs.maximal_laws.ideals_have_central_units.Goals as goal
 
 pub returns : goal.returns

@@ -1,4 +1,4 @@
-use Rattle.theory_blocks.proofs.MaximalIdealsFinite.{maximal_ideals_are_finitely_many}
+use Rattle.theory_blocks.proofs.Ideals.MaximalIdealsFinite.{maximal_ideals_are_finitely_many}
 use Rattle.theory_blocks.proofs.maximal_laws.maximal_ideals_are_finitely_many.Goals as goal
 
 pub returns : goal.returns

@@ -1,4 +1,4 @@
-use Rattle.theory_blocks.proofs.MaximalIdeals.{maximal_ideals_by_factors}
+use Rattle.theory_blocks.proofs.Ideals.MaximalIdeals.{maximal_ideals_by_factors}
 use Rattle.theory_blocks.proofs.maximal_laws.maximal_ideals_by_factors.Goals as goal
 
 pub returns : goal.returns

@@ -1,4 +1,4 @@
-use Rattle.theory_blocks.proofs.TwoSidedBases.{basis_over_centre}
+use Rattle.theory_blocks.proofs.TwoSided.TwoSidedBases.{basis_over_centre}
 use Rattle.theory_blocks.proofs.rank_laws.basis_over_centre.Goals as goal
 
 pub returns : goal.returns

@@ -1,4 +1,4 @@
-use Rattle.theory_blocks.proofs.TwoSidedRows.{rank_by_rows}
+use Rattle.theory_blocks.proofs.TwoSided.TwoSidedRows.{rank_by_rows}
 use Rattle.theory_blocks.proofs.rank_laws.rank_by_rows.Goals as goal
 
 pub returns : goal.returns

@@ -1,4 +1,4 @@
-use Rattle.theory_blocks.proofs.TwoSidedRank.{simple_by_rank}
+use Rattle.theory_blocks.proofs.TwoSided.TwoSidedRank.{simple_by_rank}
 use Rattle.theory_blocks.proofs.rank_laws.simple_by_rank.Goals as goal
 
 pub returns : goal.returns

@@ -1,4 +1,4 @@
-use Rattle.theory_blocks.proofs.TwoSidedMaps.{two_sided_maps_vanish}
+use Rattle.theory_blocks.proofs.TwoSided.TwoSidedMaps.{two_sided_maps_vanish}
 use Rattle.theory_blocks.proofs.rank_laws.two_sided_maps_vanish.Goals as goal
 
 pub returns : goal.returns

@@ -1,4 +1,4 @@
-use Rattle.theory_blocks.proofs.Lagrange.{lagrange_idempotents}
+use Rattle.theory_blocks.proofs.Commutative.Lagrange.{lagrange_idempotents}
 use Rattle.theory_blocks.proofs.splitting_laws.lagrange_idempotents.Goals as goal
 
 pub returns : goal.returns

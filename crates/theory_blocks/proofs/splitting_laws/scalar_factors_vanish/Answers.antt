@@ -1,4 +1,4 @@
-use Rattle.theory_blocks.proofs.Annihilation.{scalar_factors}
+use Rattle.theory_blocks.proofs.Ideals.Annihilation.{scalar_factors}
 use Rattle.theory_blocks.proofs.splitting_laws.scalar_factors_vanish.Goals as goal
 
 pub returns : goal.returns

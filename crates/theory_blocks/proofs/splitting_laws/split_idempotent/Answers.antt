@@ -1,4 +1,4 @@
-use Rattle.theory_blocks.proofs.SplitIdempotents.{split_idempotent}
+use Rattle.theory_blocks.proofs.Commutative.SplitIdempotents.{split_idempotent}
 use Rattle.theory_blocks.proofs.splitting_laws.split_idempotent.Goals as goal
 
 pub returns : goal.returns

@@ -1,4 +1,4 @@
-use Rattle.theory_blocks.proofs.ZeroDivisors.{zero_divisors}
+use Rattle.theory_blocks.proofs.Commutative.ZeroDivisors.{zero_divisors}
 use Rattle.theory_blocks.proofs.splitting_laws.zero_divisors.Goals as goal
 
 pub returns : goal.returns

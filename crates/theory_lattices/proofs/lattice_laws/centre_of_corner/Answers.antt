@@ -1,4 +1,4 @@
-use Rattle.theory_spaces.proofs.Corners.{corner_centre}
+use Rattle.theory_spaces.proofs.Algebras.Corners.{corner_centre}
 use Rattle.theory_lattices.proofs.lattice_laws.centre_of_corner.Goals as goal
 
 pub returns : goal.returns

@@ -1,5 +1,5 @@
-use Rattle.theory_spaces.proofs.Corners.{corner_centre}
-use Rattle.theory_spaces.proofs.MinimalIdempotents.{one_through}
+use Rattle.theory_spaces.proofs.Algebras.Corners.{corner_centre}
+use Rattle.theory_spaces.proofs.Algebras.MinimalIdempotents.{one_through}
 use Rattle.theory_lattices.proofs.lattice_laws.centre_of_simple_corner.Goals as goal
 
 pub returns : goal.returns

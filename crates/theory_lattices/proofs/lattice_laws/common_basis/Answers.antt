@@ -1,4 +1,4 @@
-use Rattle.theory_lattices.proofs.CommonBases as bases
+use Rattle.theory_lattices.proofs.Common.CommonBases as bases
 use Rattle.theory_lattices.proofs.lattice_laws.common_basis.Goals as goal
 
 pub returns : goal.returns

@@ -1,5 +1,5 @@
-use Rattle.theory_lattices.proofs.FractionDegrees.{polynomial_degree, polynomial_degree-is}
-use Rattle.theory_lattices.proofs.PolynomialRows.{polynomial_euclidean}
+use Rattle.theory_lattices.proofs.Degree.FractionDegrees.{polynomial_degree, polynomial_degree-is}
+use Rattle.theory_lattices.proofs.Rows.PolynomialRows.{polynomial_euclidean}
 use Rattle.theory_lattices.proofs.rational_laws.degree_of_polynomials.Goals as goal
 
 pub returns-clause-exists : goal.returns-clause-exists

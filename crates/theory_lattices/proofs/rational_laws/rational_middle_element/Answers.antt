@@ -1,6 +1,6 @@
 use Rattle.theory_lattices.specs.RationalFunctions.{IsPolynomial, of_constant, power_of_x}
-use Rattle.theory_lattices.proofs.RationalMembers.{constants_hom, power_of_x-zero, polynomials_of}
-use Rattle.theory_lattices.proofs.MiddleElements.{middle_exists}
+use Rattle.theory_lattices.proofs.Common.RationalMembers.{constants_hom, power_of_x-zero, polynomials_of}
+use Rattle.theory_lattices.proofs.Duals.MiddleElements.{middle_exists}
 use Rattle.theory_lattices.proofs.rational_laws.rational_middle_element.Goals as goal
 
 pub returns : goal.returns

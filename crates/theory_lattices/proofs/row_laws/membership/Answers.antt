@@ -1,5 +1,5 @@
-use Rattle.theory_lattices.proofs.RowSpans.{InRows-less_multiple, InRows_of_less_multiple}
-use Rattle.theory_lattices.proofs.Membership.{member_or_not, member_leads}
+use Rattle.theory_lattices.proofs.Rows.RowSpans.{InRows-less_multiple, InRows_of_less_multiple}
+use Rattle.theory_lattices.proofs.Rows.Membership.{member_or_not, member_leads}
 use Rattle.theory_lattices.proofs.row_laws.membership.Goals as goal
 
 pub returns-clause-decided : goal.returns-clause-decided

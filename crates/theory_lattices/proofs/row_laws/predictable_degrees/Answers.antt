@@ -1,4 +1,4 @@
-use Rattle.theory_lattices.proofs.PredictableDegrees as rows
+use Rattle.theory_lattices.proofs.Rows.PredictableDegrees as rows
 use Rattle.theory_lattices.proofs.row_laws.predictable_degrees.Goals as goal
 
 pub returns-clause-predicted : goal.returns-clause-predicted

@@ -1,5 +1,5 @@
-use Rattle.theory_lattices.proofs.Reduction.{reduction}
-use Rattle.theory_lattices.proofs.ReducedBases.{reduced_basis}
+use Rattle.theory_lattices.proofs.Rows.Reduction.{reduction}
+use Rattle.theory_lattices.proofs.Rows.ReducedBases.{reduced_basis}
 use Rattle.theory_lattices.proofs.row_laws.reduced_rows.Goals as goal
 
 pub returns-clause-weak_popov : goal.returns-clause-weak_popov

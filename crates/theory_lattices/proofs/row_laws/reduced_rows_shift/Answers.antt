@@ -1,4 +1,4 @@
-use Rattle.theory_lattices.proofs.ReductionStep.{reduced_shift}
+use Rattle.theory_lattices.proofs.Rows.ReductionStep.{reduced_shift}
 use Rattle.theory_lattices.proofs.row_laws.reduced_rows_shift.Goals as goal
 
 pub returns : goal.returns

@@ -1,4 +1,4 @@
-use Rattle.theory_lattices.proofs.ReductionStep.{lead_of, step_lower}
+use Rattle.theory_lattices.proofs.Rows.ReductionStep.{lead_of, step_lower}
 use Rattle.theory_lattices.proofs.row_laws.reduction_step.Goals as goal
 
 pub returns-clause-leads : goal.returns-clause-leads

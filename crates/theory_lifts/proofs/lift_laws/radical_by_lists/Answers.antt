@@ -1,6 +1,6 @@
 use Rattle.theory_rings.proofs.FiniteFields.ElementsByDigits.{prime_by_digits}
-use Rattle.theory_radical.proofs.NextIdeal.{next_functional}
-use Rattle.theory_radical.proofs.ChainLaws.{is_radical_chain}
+use Rattle.theory_radical.proofs.Chain.NextIdeal.{next_functional}
+use Rattle.theory_radical.proofs.Chain.ChainLaws.{is_radical_chain}
 use Rattle.theory_lifts.proofs.DigitLifts.{tower, has_digit_moduli}
 use Rattle.theory_lifts.proofs.ResidueRoots.{residue_roots}
 use Rattle.theory_lifts.proofs.RadicalSpan.{chain_bases}

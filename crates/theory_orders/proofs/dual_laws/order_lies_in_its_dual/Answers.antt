@@ -1,4 +1,4 @@
-use Rattle.theory_orders.proofs.Dual.{in_dual}
+use Rattle.theory_orders.proofs.Lattices.Dual.{in_dual}
 use Rattle.theory_orders.proofs.dual_laws.order_lies_in_its_dual.Goals as goal
 
 pub returns : goal.returns

@@ -1,4 +1,4 @@
-use Rattle.theory_orders.proofs.Dual.{self_dual_of_unimodular}
+use Rattle.theory_orders.proofs.Lattices.Dual.{self_dual_of_unimodular}
 use Rattle.theory_orders.proofs.dual_laws.unimodular_order_is_its_dual.Goals as goal
 
 pub returns : goal.returns

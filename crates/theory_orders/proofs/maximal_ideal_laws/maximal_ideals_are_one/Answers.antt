@@ -1,4 +1,4 @@
-use Rattle.theory_orders.proofs.OnlyMaximal.{same_in_family}
+use Rattle.theory_orders.proofs.Ideals.OnlyMaximal.{same_in_family}
 use Rattle.theory_orders.proofs.maximal_ideal_laws.maximal_ideals_are_one.Goals as goal
 
 pub returns : goal.returns

@@ -1,4 +1,4 @@
-use Rattle.theory_orders.proofs.LeftOrders.{left_order_is_order, in_left_order, left_order_bounded}
+use Rattle.theory_orders.proofs.LeftOrder.LeftOrders.{left_order_is_order, in_left_order, left_order_bounded}
 use Rattle.theory_orders.proofs.order_laws.left_order_between.Goals as goal
 
 pub returns-clause-order : goal.returns-clause-order

@@ -1,4 +1,4 @@
-use Rattle.theory_orders.proofs.OnlyMaximal.{ramified_radical}
+use Rattle.theory_orders.proofs.Ideals.OnlyMaximal.{ramified_radical}
 use Rattle.theory_orders.proofs.ramified_laws.radical_of_ramified_place.Goals as goal
 
 pub returns : goal.returns

@@ -1,4 +1,4 @@
-use Rattle.theory_orders.proofs.Ramified.{not_isomorphic}
+use Rattle.theory_orders.proofs.Splitting.Ramified.{not_isomorphic}
 use Rattle.theory_orders.proofs.ramified_laws.ramified_excludes_isomorphism.Goals as goal
 
 pub returns : goal.returns

@@ -1,4 +1,4 @@
-use Rattle.theory_orders.proofs.Example.{root_algebra, order_vectors, radical_vectors, ramified_example}
+use Rattle.theory_orders.proofs.Splitting.Example.{root_algebra, order_vectors, radical_vectors, ramified_example}
 use Rattle.theory_orders.proofs.ramified_laws.ramified_place_exists.Goals as goal
 
 pub returns : goal.returns

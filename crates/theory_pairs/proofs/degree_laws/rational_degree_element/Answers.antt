@@ -1,5 +1,5 @@
 use Rattle.theory_lattices.specs.RationalFunctions.{IsPolynomial, of_constant, power_of_x}
-use Rattle.theory_lattices.proofs.RationalMembers.{constants_hom, power_of_x-zero, polynomials_of}
+use Rattle.theory_lattices.proofs.Common.RationalMembers.{constants_hom, power_of_x-zero, polynomials_of}
 use Rattle.theory_pairs.proofs.DegreeElements.{first_greatest, pair_natural, pair_element}
 use Rattle.theory_pairs.proofs.degree_laws.rational_degree_element.Goals as goal
 

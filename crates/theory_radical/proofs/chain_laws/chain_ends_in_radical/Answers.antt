@@ -1,4 +1,4 @@
-use Rattle.theory_radical.proofs.ChainLaws.{ends_in_radical}
+use Rattle.theory_radical.proofs.Chain.ChainLaws.{ends_in_radical}
 use Rattle.theory_radical.proofs.chain_laws.chain_ends_in_radical.Goals as goal
 
 pub returns : goal.returns

@@ -1,4 +1,4 @@
-use Rattle.theory_radical.proofs.ChainEnd.{chain_holds}
+use Rattle.theory_radical.proofs.Chain.ChainEnd.{chain_holds}
 use Rattle.theory_radical.proofs.chain_laws.chain_holds_nilpotent_ideals.Goals as goal
 
 pub returns : goal.returns

@@ -1,4 +1,4 @@
-use Rattle.theory_radical.proofs.ChainLaws.{may_stop}
+use Rattle.theory_radical.proofs.Chain.ChainLaws.{may_stop}
 use Rattle.theory_radical.proofs.chain_laws.chain_may_stop.Goals as goal
 
 pub returns : goal.returns

@@ -1,4 +1,4 @@
-use Rattle.theory_radical.proofs.AlgebraChain.{chain_ideal}
+use Rattle.theory_radical.proofs.Chain.AlgebraChain.{chain_ideal}
 use Rattle.theory_radical.proofs.chain_laws.chain_of_ideals.Goals as goal
 
 pub returns : goal.returns

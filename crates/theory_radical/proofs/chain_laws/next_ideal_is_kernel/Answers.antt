@@ -1,4 +1,4 @@
-use Rattle.theory_radical.proofs.ChainLaws.{next_is_kernel}
+use Rattle.theory_radical.proofs.Chain.ChainLaws.{next_is_kernel}
 use Rattle.theory_radical.proofs.chain_laws.next_ideal_is_kernel.Goals as goal
 
 pub returns : goal.returns

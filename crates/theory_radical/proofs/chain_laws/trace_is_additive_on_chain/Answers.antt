@@ -1,4 +1,4 @@
-use Rattle.theory_radical.proofs.ChainLaws.{additive_on_chain}
+use Rattle.theory_radical.proofs.Chain.ChainLaws.{additive_on_chain}
 use Rattle.theory_radical.proofs.chain_laws.trace_is_additive_on_chain.Goals as goal
 
 pub returns : goal.returns

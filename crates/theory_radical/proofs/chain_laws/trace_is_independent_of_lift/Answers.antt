@@ -1,4 +1,4 @@
-use Rattle.theory_radical.proofs.ChainLaws.{independent_of_lift}
+use Rattle.theory_radical.proofs.Chain.ChainLaws.{independent_of_lift}
 use Rattle.theory_radical.proofs.chain_laws.trace_is_independent_of_lift.Goals as goal
 
 pub returns : goal.returns

@@ -1,4 +1,4 @@
-use Rattle.theory_radical.proofs.ChainEnd.{special_traces}
+use Rattle.theory_radical.proofs.Chain.ChainEnd.{special_traces}
 use Rattle.theory_radical.proofs.chain_laws.traces_of_nilpotents_and_idempotents.Goals as goal
 
 pub returns : goal.returns

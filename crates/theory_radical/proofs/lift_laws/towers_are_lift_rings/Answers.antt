@@ -1,4 +1,5 @@
-use Rattle.theory_radical.proofs.Towers.{tower_down, tower_down_coefficientwise, tower_lift, tower_times-modulus, lifted_tower, lifted_tower_reduces, lifted_tower_numbers}
+use Rattle.theory_radical.proofs.Lifts.Towers.{tower_down, tower_down_coefficientwise, tower_lift, tower_times-modulus}
+use Rattle.theory_radical.proofs.Lifts.Towers.{lifted_tower, lifted_tower_reduces, lifted_tower_numbers}
 use Rattle.theory_radical.proofs.lift_laws.towers_are_lift_rings.Goals as goal
 
 pub returns-clause-lift : goal.returns-clause-lift

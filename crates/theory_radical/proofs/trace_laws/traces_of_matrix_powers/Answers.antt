@@ -1,4 +1,4 @@
-use Rattle.theory_radical.proofs.ChainLaws.{traces_of_matrix_powers}
+use Rattle.theory_radical.proofs.Chain.ChainLaws.{traces_of_matrix_powers}
 use Rattle.theory_radical.proofs.trace_laws.traces_of_matrix_powers.Goals as goal
 
 pub returns : goal.returns

@@ -1,4 +1,4 @@
-use Rattle.theory_radical.proofs.PowersOfSums.{trace-power_congr}
+use Rattle.theory_radical.proofs.Words.PowersOfSums.{trace-power_congr}
 use Rattle.theory_radical.proofs.trace_laws.traces_of_powers.Goals as goal
 
 pub returns : goal.returns

@@ -1,4 +1,4 @@
-use Rattle.theory_spaces.proofs.Simple.{central_simple}
+use Rattle.theory_spaces.proofs.Algebras.Simple.{central_simple}
 use Rattle.theory_spaces.proofs.algebra_laws.central_simple.Goals as goal
 
 pub returns : goal.returns

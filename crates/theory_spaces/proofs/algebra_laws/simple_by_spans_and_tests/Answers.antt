@@ -1,4 +1,4 @@
-use Rattle.theory_spaces.proofs.SimpleTests.{simple_to_tests, simple_of_tests}
+use Rattle.theory_spaces.proofs.Algebras.SimpleTests.{simple_to_tests, simple_of_tests}
 use Rattle.theory_spaces.proofs.algebra_laws.simple_by_spans_and_tests.Goals as goal
 
 pub returns : goal.returns

@@ -1,4 +1,4 @@
-use Rattle.theory_spaces.proofs.Matrices.{mat_trace_comm}
+use Rattle.theory_spaces.proofs.Matrices.Matrices.{mat_trace_comm}
 use Rattle.theory_spaces.proofs.algebra_laws.trace_of_matrix_product.Goals as goal
 
 pub returns : goal.returns

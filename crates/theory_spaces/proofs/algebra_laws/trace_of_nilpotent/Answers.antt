@@ -1,4 +1,4 @@
-use Rattle.theory_spaces.proofs.Traces.{trace-nilpotent}
+use Rattle.theory_spaces.proofs.Forms.Traces.{trace-nilpotent}
 use Rattle.theory_spaces.proofs.algebra_laws.trace_of_nilpotent.Goals as goal
 
 pub returns : goal.returns

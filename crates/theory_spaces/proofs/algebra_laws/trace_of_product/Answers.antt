@@ -1,4 +1,4 @@
-use Rattle.theory_spaces.proofs.Traces.{trace_comm}
+use Rattle.theory_spaces.proofs.Forms.Traces.{trace_comm}
 use Rattle.theory_spaces.proofs.algebra_laws.trace_of_product.Goals as goal
 
 pub returns : goal.returns

@@ -1,4 +1,4 @@
-use Rattle.theory_spaces.proofs.Isomorphisms.{iso_basis, iso_central, iso_simple, iso_central_simple}
+use Rattle.theory_spaces.proofs.Algebras.Isomorphisms.{iso_basis, iso_central, iso_simple, iso_central_simple}
 use Rattle.theory_spaces.proofs.matrix_laws.isomorphic_to_central_simple.Goals as goal
 
 pub returns-clause-central_simple : goal.returns-clause-central_simple

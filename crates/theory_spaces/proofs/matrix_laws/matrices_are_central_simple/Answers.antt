@@ -1,5 +1,6 @@
 use Rattle.theory_rings.proofs.Rings.Fields.{field_set}
-use Rattle.theory_spaces.proofs.MatrixAlgebra.{matrix_algebra, matrix_algebra_is, matrix_units, matrices_central_simple, matrices_one-ne-zero}
+use Rattle.theory_spaces.proofs.Matrices.MatrixAlgebra.{matrix_algebra, matrix_algebra_is, matrix_units}
+use Rattle.theory_spaces.proofs.Matrices.MatrixAlgebra.{matrices_central_simple, matrices_one-ne-zero}
 use Rattle.theory_spaces.proofs.matrix_laws.matrices_are_central_simple.Goals as goal
 
 pub returns-clause-algebra : goal.returns-clause-algebra

@@ -1,5 +1,5 @@
-use Rattle.theory_spaces.proofs.MinimalIdempotents.{one_through, multiplier-mul, left_ideal_basis}
-use Rattle.theory_spaces.proofs.LeftMatrices.{left_matrices, dimension_square}
+use Rattle.theory_spaces.proofs.Algebras.MinimalIdempotents.{one_through, multiplier-mul, left_ideal_basis}
+use Rattle.theory_spaces.proofs.Matrices.LeftMatrices.{left_matrices, dimension_square}
 use Rattle.theory_spaces.proofs.matrix_laws.matrices_from_minimal_idempotent.Goals as goal
 
 pub returns-clause-one : goal.returns-clause-one
@@ -13,9 +13,11 @@ returns-clause-left_ideal g c = let a = g.A.BasedAlgebra in left_ideal_basis a.f
 
 pub returns-clause-matrices : goal.returns-clause-matrices
 returns-clause-matrices g c = λ simple e h.
-    let a = g.A.BasedAlgebra in left_matrices a.field a.algebra e h (one_through a.algebra a.dimension a.basis e simple h.nonzero)
+    let a = g.A.BasedAlgebra in
+    left_matrices a.field a.algebra e h (one_through a.algebra a.dimension a.basis e simple h.nonzero)
 
 pub returns-clause-dimension : goal.returns-clause-dimension
 returns-clause-dimension g c = λ simple e h k W.
     let a = g.A.BasedAlgebra in
-    dimension_square a.field a.algebra e h (one_through a.algebra a.dimension a.basis e simple h.nonzero) k W a.dimension a.basis
+    dimension_square a.field a.algebra e h
+    (one_through a.algebra a.dimension a.basis e simple h.nonzero) k W a.dimension a.basis

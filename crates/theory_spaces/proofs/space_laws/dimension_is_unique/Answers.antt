@@ -1,4 +1,4 @@
-use Rattle.theory_spaces.proofs.Dimension.{dimension_unique}
+use Rattle.theory_spaces.proofs.Linear.Dimension.{dimension_unique}
 use Rattle.theory_spaces.proofs.space_laws.dimension_is_unique.Goals as goal
 
 pub returns : goal.returns

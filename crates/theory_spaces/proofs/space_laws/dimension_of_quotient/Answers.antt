@@ -1,4 +1,4 @@
-use Rattle.theory_spaces.proofs.Quotients.{quotient_basis}
+use Rattle.theory_spaces.proofs.Linear.Quotients.{quotient_basis}
 use Rattle.theory_spaces.proofs.space_laws.dimension_of_quotient.Goals as goal
 
 pub returns : goal.returns

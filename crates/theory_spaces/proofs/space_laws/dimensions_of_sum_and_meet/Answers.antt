@@ -1,4 +1,4 @@
-use Rattle.theory_spaces.proofs.Subspaces.{sum_and_meet}
+use Rattle.theory_spaces.proofs.Linear.Subspaces.{sum_and_meet}
 use Rattle.theory_spaces.proofs.space_laws.dimensions_of_sum_and_meet.Goals as goal
 
 pub returns : goal.returns

@@ -1,4 +1,4 @@
-use Rattle.theory_spaces.proofs.Dimension.{exchange}
+use Rattle.theory_spaces.proofs.Linear.Dimension.{exchange}
 use Rattle.theory_spaces.proofs.space_laws.exchange.Goals as goal
 
 pub returns : goal.returns

@@ -1,4 +1,4 @@
-use Rattle.theory_spaces.proofs.Spaces.{extend_basis}
+use Rattle.theory_spaces.proofs.Linear.Spaces.{extend_basis}
 use Rattle.theory_spaces.proofs.space_laws.independent_vectors_extend.Goals as goal
 
 pub returns : goal.returns

@@ -1,4 +1,4 @@
-use Rattle.theory_spaces.proofs.Lattices.{lattice_basis}
+use Rattle.theory_spaces.proofs.Linear.Lattices.{lattice_basis}
 use Rattle.theory_spaces.proofs.space_laws.lattices_have_bases.Goals as goal
 
 pub returns : goal.returns

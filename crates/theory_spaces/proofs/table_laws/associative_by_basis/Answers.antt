@@ -1,4 +1,4 @@
-use Rattle.theory_spaces.proofs.TupleProducts.{product_assoc}
+use Rattle.theory_spaces.proofs.Tuples.TupleProducts.{product_assoc}
 use Rattle.theory_spaces.proofs.table_laws.associative_by_basis.Goals as goal
 
 pub returns : goal.returns

@@ -1,4 +1,4 @@
-use Rattle.theory_spaces.proofs.TupleProducts.{tuple_algebra, tuple_algebra_is, tuple_basis}
+use Rattle.theory_spaces.proofs.Tuples.TupleProducts.{tuple_algebra, tuple_algebra_is, tuple_basis}
 use Rattle.theory_spaces.proofs.table_laws.table_is_algebra.Goals as goal
 
 pub returns : goal.returns

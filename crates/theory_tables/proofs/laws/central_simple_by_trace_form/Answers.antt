@@ -1,4 +1,4 @@
-use Rattle.theory_tables.proofs.CentralSimple.{central_simple_by_trace_form}
+use Rattle.theory_tables.proofs.Algebras.CentralSimple.{central_simple_by_trace_form}
 use Rattle.theory_tables.proofs.laws.central_simple_by_trace_form.Goals as goal
 
 pub returns : goal.returns

@@ -1,4 +1,4 @@
-use Rattle.theory_tables.proofs.Exclusions.{claims_exclude}
+use Rattle.theory_tables.proofs.Algebras.Exclusions.{claims_exclude}
 use Rattle.theory_tables.proofs.laws.claims_exclude_central_simple.Goals as goal
 
 pub returns : goal.returns

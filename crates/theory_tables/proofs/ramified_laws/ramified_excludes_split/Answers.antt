@@ -1,4 +1,4 @@
-use Rattle.theory_tables.proofs.Ramified.{ramified_excludes_split, ramified_excludes_split_claim}
+use Rattle.theory_tables.proofs.Split.Ramified.{ramified_excludes_split, ramified_excludes_split_claim}
 use Rattle.theory_tables.proofs.ramified_laws.ramified_excludes_split.Goals as goal
 
 pub returns : goal.returns

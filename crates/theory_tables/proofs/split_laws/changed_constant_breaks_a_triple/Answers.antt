@@ -1,4 +1,4 @@
-use Rattle.theory_tables.proofs.Examples.{triple_differs, twice_differs}
+use Rattle.theory_tables.proofs.Split.Examples.{triple_differs, twice_differs}
 use Rattle.theory_tables.proofs.split_laws.changed_constant_breaks_a_triple.Goals as goal
 
 pub returns : goal.returns

@@ -1,4 +1,4 @@
-use Rattle.theory_tables.proofs.SplitClaims.{split_claim_splits}
+use Rattle.theory_tables.proofs.Split.SplitClaims.{split_claim_splits}
 use Rattle.theory_tables.proofs.split_laws.split_claim_splits.Goals as goal
 
 pub returns : goal.returns

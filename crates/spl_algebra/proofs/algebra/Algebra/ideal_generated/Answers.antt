@@ -15,9 +15,11 @@ loop-constants-init g c =
     let ideal = c.in_ok-ideal in
     let W : ℕ → Type 0 = λ w. IsReducedBasis o w by.rows in
     let wide : by.width ≡ c.dim-m.result = c.requires.width ∙ sym c.dim-m.ensures.dim in
-    let cs_elems = subst (λ xs. All (IsElem o) xs) (sym c.constants-constants.ensures.value) c.requires.over.of_elements in
+    let cs_elems = subst (λ xs. All (IsElem o) xs)
+    (sym c.constants-constants.ensures.value) c.requires.over.of_elements in
     record {
-      between = IsBetween-self o L c.dim-m.result c.constants-constants.result.now cs_elems by.rows ideal.ideal.rows (subst W wide c.requires.by) (ap (λ s. s.rows) ideal.ensures);
+      between = IsBetween-self o L c.dim-m.result c.constants-constants.result.now cs_elems by.rows ideal.ideal.rows
+          (subst W wide c.requires.by) (ap (λ s. s.rows) ideal.ensures);
       wide = ap (λ s. s.width) ideal.ensures ∙ wide;
       next_basis = c.in_ok-next.ensures.basis;
       next_wide = c.in_ok-next.ensures.width;
@@ -40,9 +42,11 @@ loop-constants-preserved g c =
     let L = g.met.F.Field.laws c.args.f.now in
     let l = c.loop-constants in
     let next = c.in_ok-next-2 in
-    let cs_elems = subst (λ xs. All (IsElem o) xs) (sym c.constants-constants.ensures.value) c.requires.over.of_elements in
+    let cs_elems = subst (λ xs. All (IsElem o) xs)
+    (sym c.constants-constants.ensures.value) c.requires.over.of_elements in
     record {
-      between = IsBetween-more o L c.dim-m.result c.constants-constants.result.now cs_elems c.args.by.now.rows l.ideal.rows l.next.rows l.invariant.between l.invariant.next_basis l.invariant.multiples;
+      between = IsBetween-more o L c.dim-m.result c.constants-constants.result.now cs_elems c.args.by.now.rows
+          l.ideal.rows l.next.rows l.invariant.between l.invariant.next_basis l.invariant.multiples;
       wide = l.invariant.next_wide;
       next_basis = next.ensures.basis;
       next_wide = next.ensures.width;
@@ -58,11 +62,14 @@ returns-clause-members g c =
     let l = c.loop-constants in
     let m = c.dim-m.result in
     let cs = c.constants-constants.result.now in
-    let cs_elems = subst (λ xs. All (IsElem o) xs) (sym c.constants-constants.ensures.value) c.requires.over.of_elements in
+    let cs_elems = subst (λ xs. All (IsElem o) xs)
+    (sym c.constants-constants.ensures.value) c.requires.over.of_elements in
     let wide : by.width ≡ m = c.requires.width ∙ sym c.dim-m.ensures.dim in
     let W : ℕ → Type 0 = λ w. IsMatrix o w by.rows in
     let short : length l.next.rows ≤ length l.ideal.rows = omega arith in
     let M : ℕ → Type 0 = λ d. GeneratesIdeal o (record { dim = d; constants = cs }) by.rows l.ideal.rows in
-    let C : List g.row.F-Elem.Denot → Type 0 = λ xs. GeneratesIdeal o (record { dim = A.dim; constants = xs }) by.rows l.ideal.rows in
+    let C : List g.row.F-Elem.Denot
+    → Type 0 = λ xs. GeneratesIdeal o (record { dim = A.dim; constants = xs }) by.rows l.ideal.rows in
     subst C c.constants-constants.ensures.value (subst M c.dim-m.ensures.dim
-    (generates o L m cs cs_elems by.rows l.ideal.rows l.next.rows (subst W wide c.requires.by.shape) l.invariant.between l.invariant.next_basis l.invariant.multiples short))
+    (generates o L m cs cs_elems by.rows l.ideal.rows l.next.rows
+    (subst W wide c.requires.by.shape) l.invariant.between l.invariant.next_basis l.invariant.multiples short))

@@ -15,11 +15,15 @@ returns-in-Solved g c =
     let rows = c.in_ok-rows.rows in
     let elems = subst (λ xs. All (IsElem o) xs) (sym c.constants.ensures.value) c.requires.of_elements in
     let solution = rw c.in-Solved.is at c.in_ok-vector.ensures in
-    let solved = subst (λ right. IsSolved o (length rows) (width_of rows) rows right c.in-Solved.vector) (c.as_slice.ensures ∙ c.in_ok-right.ensures.value) solution in
-    let front = subst (λ xs. ListsMultipliers o m xs c.in_ok-left-in-Solved.left) (c.split_at.ensures.front ∙ ap (take (m * m)) c.as_slice-in-Solved.ensures) c.in_ok-left-in-Solved.ensures in
-    let back = subst (λ xs. ListsMultipliers o m xs c.in_ok-right-in-Solved.right) (c.split_at.ensures.back ∙ ap (drop (m * m)) c.as_slice-in-Solved.ensures) c.in_ok-right-in-Solved.ensures in
+    let solved = subst (λ right. IsSolved o (length rows) (width_of rows) rows right c.in-Solved.vector)
+    (c.as_slice.ensures ∙ c.in_ok-right.ensures.value) solution in
+    let front = subst (λ xs. ListsMultipliers o m xs c.in_ok-left-in-Solved.left)
+    (c.split_at.ensures.front ∙ ap (take (m * m)) c.as_slice-in-Solved.ensures) c.in_ok-left-in-Solved.ensures in
+    let back = subst (λ xs. ListsMultipliers o m xs c.in_ok-right-in-Solved.right)
+    (c.split_at.ensures.back ∙ ap (drop (m * m)) c.as_slice-in-Solved.ensures) c.in_ok-right-in-Solved.ensures in
     rw (← c.dim-m.ensures.dim, ← c.constants.ensures.value)
-    (refutes_identity o laws m cs elems rows c.in_ok-rows.ensures c.in-Solved.vector c.in_ok-left-in-Solved.left c.in_ok-right-in-Solved.right
+    (refutes_identity o laws m cs elems rows c.in_ok-rows.ensures c.in-Solved.vector c.in_ok-left-in-Solved.left
+    c.in_ok-right-in-Solved.right
     solved front back)
 
 pub returns : goal.returns
@@ -31,6 +35,12 @@ returns g c =
     let rows = c.in_ok-rows.rows in
     let elems = subst (λ xs. All (IsElem o) xs) (sym c.constants.ensures.value) c.requires.of_elements in
     let solution = rw c.in-Refuted.is at c.in_ok-vector.ensures in
-    let refuted = subst (λ right. IsRefuted o (length rows) (width_of rows) rows right c.in-Refuted.multipliers) (c.as_slice.ensures ∙ c.in_ok-right.ensures.value) solution in
-    rw (← c.dim-m.ensures.dim, ← c.constants.ensures.value, c.in_ok-tuple-in-Refuted.ensures.value, c.as_slice-in-Refuted.ensures)
+    let refuted = subst (λ right. IsRefuted o (length rows) (width_of rows) rows right c.in-Refuted.multipliers)
+    (c.as_slice.ensures ∙ c.in_ok-right.ensures.value) solution in
+    rw (
+      ← c.dim-m.ensures.dim,
+      ← c.constants.ensures.value,
+      c.in_ok-tuple-in-Refuted.ensures.value,
+      c.as_slice-in-Refuted.ensures,
+    )
     (opposite_is_one o laws m cs elems rows c.in_ok-rows.ensures c.in-Refuted.multipliers refuted)

@@ -7,12 +7,18 @@ invariant_of-result c =
     let f = c.args.self.now in
     let p = f.p in
     let q = f.size in
-    let em : f.modulus.items ≡ c.in_ok-from_slice.field-0.items = sym (c.in_ok-from_slice.ensures.items ∙ c.deref.ensures.value) in
-    let es : f.sums.items ≡ c.in_ok-from_slice-2.field-0.items = sym (c.in_ok-from_slice-2.ensures.items ∙ c.deref-2.ensures.value) in
-    let en : f.negatives.items ≡ c.in_ok-from_slice-3.field-0.items = sym (c.in_ok-from_slice-3.ensures.items ∙ c.deref-3.ensures.value) in
-    let ep : f.products.items ≡ c.in_ok-from_slice-4.field-0.items = sym (c.in_ok-from_slice-4.ensures.items ∙ c.deref-4.ensures.value) in
-    let ei : f.inverses.items ≡ c.in_ok-from_slice-5.field-0.items = sym (c.in_ok-from_slice-5.ensures.items ∙ c.deref-5.ensures.value) in
-    let er : f.roots.items ≡ c.in_ok-from_slice-6.field-0.items = sym (c.in_ok-from_slice-6.ensures.items ∙ c.deref-6.ensures.value) in
+    let em : f.modulus.items ≡ c.in_ok-from_slice.field-0.items =
+    sym (c.in_ok-from_slice.ensures.items ∙ c.deref.ensures.value) in
+    let es : f.sums.items ≡ c.in_ok-from_slice-2.field-0.items =
+    sym (c.in_ok-from_slice-2.ensures.items ∙ c.deref-2.ensures.value) in
+    let en : f.negatives.items ≡ c.in_ok-from_slice-3.field-0.items =
+    sym (c.in_ok-from_slice-3.ensures.items ∙ c.deref-3.ensures.value) in
+    let ep : f.products.items ≡ c.in_ok-from_slice-4.field-0.items =
+    sym (c.in_ok-from_slice-4.ensures.items ∙ c.deref-4.ensures.value) in
+    let ei : f.inverses.items ≡ c.in_ok-from_slice-5.field-0.items =
+    sym (c.in_ok-from_slice-5.ensures.items ∙ c.deref-5.ensures.value) in
+    let er : f.roots.items ≡ c.in_ok-from_slice-6.field-0.items =
+    sym (c.in_ok-from_slice-6.ensures.items ∙ c.deref-6.ensures.value) in
     record {
       least = f.least;
       some_number = subst (λ (m : List ℕ). 1 ≤ length m) em f.some_number;
@@ -31,5 +37,6 @@ invariant_of-result c =
       inverses_are = subst₂ (λ m t. AreInverses p m q t) em ei f.inverses_are;
       roots_full = subst (λ (t : List ℕ). length t ≡ q) er f.roots_full;
       roots_below = subst (λ t. AreElements q q t) er f.roots_below;
-      roots_are = subst₂ (λ (t r : List ℕ). (a : ℕ) → a < q → table_power q t (slice_index r a) p ≡ a) ep er f.roots_are;
+      roots_are = subst₂ (λ (t r : List ℕ). (a : ℕ) → a < q
+          → table_power q t (slice_index r a) p ≡ a) ep er f.roots_are;
     }

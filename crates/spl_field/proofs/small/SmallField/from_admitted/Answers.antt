@@ -7,7 +7,8 @@ use Rattle.spl_field.proofs.Roots.{roots_of_powers}
 use Rattle.spl_field.proofs.small.SmallField.from_admitted.Goals as goal
 
 pub root_table-requires-clause-least : goal.root_table-requires-clause-least
-root_table-requires-clause-least c = two_le_size c.args.p c.args.modulus.now c.requires.admitted.fits c.args.size c.requires.size
+root_table-requires-clause-least c =
+    two_le_size c.args.p c.args.modulus.now c.requires.admitted.fits c.args.size c.requires.size
 
 pub invariant_of-result : goal.invariant_of-result
 invariant_of-result c =
@@ -25,7 +26,8 @@ invariant_of-result c =
     let power : q ≡ p ^ length m = subst (λ (l : List ℕ). q ≡ p ^ length l) em c.requires.size in
     let S : AreSums p m q sums = subst (λ l. AreSums p l q sums) em
     (get_or-row q (λ a b n. IsSumByDigits p c.args.modulus.now a b n) sums c.in_ok-sum_table.ensures.entries) in
-    let N : AreNegatives p m q negatives = subst (λ l. AreNegatives p l q negatives) em c.in_ok-negative_table.ensures.entries in
+    let N : AreNegatives p m q negatives =
+    subst (λ l. AreNegatives p l q negatives) em c.in_ok-negative_table.ensures.entries in
     let P : AreProducts p m q products = subst (λ l. AreProducts p l q products) em
     (λ a b la lb. ∣ c.in_ok-products.ensures.entries a b la lb ∣₁) in
     let I : AreInverses p m q inverses = subst (λ l. AreInverses p l q inverses) em
@@ -50,6 +52,7 @@ invariant_of-result c =
       roots_below = c.in_ok-roots.ensures.elements;
       roots_are = roots_of_powers p fits.least m some q power sums negatives products inverses
           S c.in_ok-negative_table.ensures.elements N P c.in_ok-inverse_table.ensures.elements I roots
-          (subst (λ (t : List ℕ). (r : ℕ) → r < q → table_power q t (slice_index roots (table_power q t r p)) p ≡ table_power q t r p)
+          (subst (λ (t : List ℕ). (r : ℕ) → r < q
+          → table_power q t (slice_index roots (table_power q t r p)) p ≡ table_power q t r p)
           c.deref.ensures.value c.in_ok-roots.ensures.roots);
     }

@@ -9,5 +9,6 @@ returns-clause-value c =
     let a = c.args.a in
     let full = f.negatives_full in
     let below = c.requires in
-    let e : slice_index f.negatives.items a ≡ c.index.result.now = get_or-read f.negatives.items _ a _ c.index.ensures c.from.ensures (omega arith) in
+    let e : slice_index f.negatives.items a ≡ c.index.result.now =
+    get_or-read f.negatives.items _ a _ c.index.ensures c.from.ensures (omega arith) in
     subst (λ n. IsSumByDigits f.p f.modulus.items a n 0) e (f.negatives_are a below)

@@ -11,11 +11,13 @@ returns-clause-elem c =
     let f = c.args.self.now in
     let a = c.args.a in
     let b = c.args.b in
-    let s = product_of_merely f.p f.least f.modulus.items a b (entry_at f.size f.products.items a b) (f.products_are a b c.requires.left c.requires.right) in
+    let s = product_of_merely f.p f.least f.modulus.items a b (entry_at f.size f.products.items a b)
+    (f.products_are a b c.requires.left c.requires.right) in
     let e : entry_at f.size f.products.items a b ≡ c.index.result.now =
     get_or-read f.products.items _ (a * f.size + b) _ c.index.ensures
     (ap₂ (λ x y. x + y) (ap₂ (λ x y. x * y) c.from.ensures c.from-2.ensures) c.from-3.ensures)
-    (subst (λ n. a * f.size + b < n) (sym f.products_full) (mul-add-lt a f.size b f.size c.requires.left c.requires.right)) in
+    (subst (λ n. a * f.size + b < n) (sym f.products_full)
+    (mul-add-lt a f.size b f.size c.requires.left c.requires.right)) in
     subst₂ (λ x n. x < n) e (sym f.power) s.below
 
 pub returns-clause-value : goal.returns-clause-value
@@ -23,9 +25,11 @@ returns-clause-value c =
     let f = c.args.self.now in
     let a = c.args.a in
     let b = c.args.b in
-    let s = product_of_merely f.p f.least f.modulus.items a b (entry_at f.size f.products.items a b) (f.products_are a b c.requires.left c.requires.right) in
+    let s = product_of_merely f.p f.least f.modulus.items a b (entry_at f.size f.products.items a b)
+    (f.products_are a b c.requires.left c.requires.right) in
     let e : entry_at f.size f.products.items a b ≡ c.index.result.now =
     get_or-read f.products.items _ (a * f.size + b) _ c.index.ensures
     (ap₂ (λ x y. x + y) (ap₂ (λ x y. x * y) c.from.ensures c.from-2.ensures) c.from-3.ensures)
-    (subst (λ n. a * f.size + b < n) (sym f.products_full) (mul-add-lt a f.size b f.size c.requires.left c.requires.right)) in
+    (subst (λ n. a * f.size + b < n) (sym f.products_full)
+    (mul-add-lt a f.size b f.size c.requires.left c.requires.right)) in
     subst (IsProductByDigits f.p f.modulus.items a b) e s

@@ -14,7 +14,8 @@ returns-clause-elem c =
     let e : entry_at f.size f.sums.items a b ≡ c.index.result.now =
     get_or-read f.sums.items _ (a * f.size + b) _ c.index.ensures
     (ap₂ (λ x y. x + y) (ap₂ (λ x y. x * y) c.from.ensures c.from-2.ensures) c.from-3.ensures)
-    (subst (λ n. a * f.size + b < n) (sym f.sums_full) (mul-add-lt a f.size b f.size c.requires.left c.requires.right)) in
+    (subst (λ n. a * f.size + b < n) (sym f.sums_full)
+    (mul-add-lt a f.size b f.size c.requires.left c.requires.right)) in
     subst₂ (λ x n. x < n) e (sym f.power) s.below
 
 pub returns-clause-value : goal.returns-clause-value
@@ -25,5 +26,6 @@ returns-clause-value c =
     let e : entry_at f.size f.sums.items a b ≡ c.index.result.now =
     get_or-read f.sums.items _ (a * f.size + b) _ c.index.ensures
     (ap₂ (λ x y. x + y) (ap₂ (λ x y. x * y) c.from.ensures c.from-2.ensures) c.from-3.ensures)
-    (subst (λ n. a * f.size + b < n) (sym f.sums_full) (mul-add-lt a f.size b f.size c.requires.left c.requires.right)) in
+    (subst (λ n. a * f.size + b < n) (sym f.sums_full)
+    (mul-add-lt a f.size b f.size c.requires.left c.requires.right)) in
     subst (IsSumByDigits f.p f.modulus.items a b) e (f.sums_are a b c.requires.left c.requires.right)

@@ -4,15 +4,20 @@ use Rattle.theory_fractions.proofs.ElementClauses.{lowest_of_elem, elem_of_lowes
 use Rattle.spl_fraction.proofs.field.FractionsField.add.Goals as goal
 
 pub sum_of-requires-clause-left : goal.sum_of-requires-clause-left
-sum_of-requires-clause-left c = lowest_of_elem (small_ops c.args.self.now.field) (small_laws c.args.self.now.field) c.args.a.now c.requires.left
+sum_of-requires-clause-left c =
+    lowest_of_elem (small_ops c.args.self.now.field) (small_laws c.args.self.now.field) c.args.a.now c.requires.left
 
 pub sum_of-requires-clause-right : goal.sum_of-requires-clause-right
-sum_of-requires-clause-right c = lowest_of_elem (small_ops c.args.self.now.field) (small_laws c.args.self.now.field) c.args.b.now c.requires.right
+sum_of-requires-clause-right c =
+    lowest_of_elem (small_ops c.args.self.now.field) (small_laws c.args.self.now.field) c.args.b.now c.requires.right
 
 pub returns-clause-elem : goal.returns-clause-elem
-returns-clause-elem c = elem_of_lowest (small_ops c.args.self.now.field) (small_laws c.args.self.now.field) c.in_ok-sum_of.field-0 c.in_ok-sum_of.ensures.lowest
+returns-clause-elem c =
+    elem_of_lowest (small_ops c.args.self.now.field)
+    (small_laws c.args.self.now.field) c.in_ok-sum_of.field-0 c.in_ok-sum_of.ensures.lowest
 
 pub returns-clause-value : goal.returns-clause-value
 returns-clause-value c =
-    add_is (small_ops c.args.self.now.field) (small_laws c.args.self.now.field) c.args.a.now c.args.b.now c.in_ok-sum_of.field-0
+    add_is (small_ops c.args.self.now.field)
+    (small_laws c.args.self.now.field) c.args.a.now c.args.b.now c.in_ok-sum_of.field-0
     c.requires.left c.requires.right c.in_ok-sum_of.ensures.lowest c.in_ok-sum_of.ensures.sum

@@ -6,8 +6,10 @@ use Rattle.spl_fraction.proofs.field.FractionsField.one.Goals as goal
 
 pub returns-clause-elem : goal.returns-clause-elem
 returns-clause-elem c =
-    one_elem (small_ops c.args.self.now.field) (small_laws c.args.self.now.field) c.of.result (c.of.ensures ∙ ap₂ (λ x y. (x, y)) c.in_ok-numerator.ensures c.in_ok-one.ensures)
+    one_elem (small_ops c.args.self.now.field) (small_laws c.args.self.now.field) c.of.result
+    (c.of.ensures ∙ ap₂ (λ x y. (x, y)) c.in_ok-numerator.ensures c.in_ok-one.ensures)
 
 pub returns-clause-value : goal.returns-clause-value
 returns-clause-value c =
-    c.of.ensures ∙ ap₂ (λ x y. (x, y)) c.in_ok-numerator.ensures c.in_ok-one.ensures ∙ sym (one_is (small_ops c.args.self.now.field) (small_laws c.args.self.now.field))
+    c.of.ensures ∙ ap₂ (λ x y. (x, y)) c.in_ok-numerator.ensures c.in_ok-one.ensures
+    ∙ sym (one_is (small_ops c.args.self.now.field) (small_laws c.args.self.now.field))

@@ -21,7 +21,8 @@ returns-then-exponent-eq0-clause-value t c =
     c.args.self.now c.requires.self_over c.requires.self_trimmed r
     (λ k. ap (λ l. get_or l k 0) c.in_ok-from_slice.ensures.value ∙ one_coefficients k)
     (omega (arith, ap length c.in_ok-from_slice.ensures.value, c.requires.modulus_degree))
-    (subst (IsOver o) (sym c.in_ok-from_slice.ensures.value) (All-cons (IsElem o) 1 [] c.know_laws.ensures.one-elem (All-nil (IsElem o)))))
+    (subst (IsOver o) (sym c.in_ok-from_slice.ensures.value)
+    (All-cons (IsElem o) 1 [] c.know_laws.ensures.one-elem (All-nil (IsElem o)))))
 
 pub returns-then-exponent-eq0-2-clause-value : goal.returns-then-exponent-eq0-2-clause-value
 returns-then-exponent-eq0-2-clause-value t c =
@@ -41,8 +42,10 @@ returns-clause-value t c =
     let e : suc (n + n) ≡ c.args.exponent = omega arith in
     subst (λ n. IsPowerRemainder o c.args.self.now n c.args.modulus.now c.in_ok-product_rest.field-0) e
     (power_remainder_next o c.know_laws.ensures c.args.modulus.now c.requires.modulus_over c.requires.modulus_trimmed
-    c.args.self.now c.requires.self_over c.requires.self_trimmed (n + n) c.in_ok-square.square c.in_ok-product_rest.field-0
-    c.in_ok-square.ensures.over c.in_ok-square.ensures.trimmed c.in_ok-product_rest.ensures.over c.in_ok-product_rest.ensures.trimmed
+    c.args.self.now c.requires.self_over c.requires.self_trimmed
+    (n + n) c.in_ok-square.square c.in_ok-product_rest.field-0
+    c.in_ok-square.ensures.over c.in_ok-square.ensures.trimmed c.in_ok-product_rest.ensures.over
+    c.in_ok-product_rest.ensures.trimmed
     (power_remainder_square o c.know_laws.ensures c.args.modulus.now c.requires.modulus_over c.requires.modulus_trimmed
     c.args.self.now c.requires.self_over c.requires.self_trimmed n c.in_ok-half.half c.in_ok-square.square
     c.in_ok-half.ensures.over c.in_ok-half.ensures.trimmed c.in_ok-square.ensures.over c.in_ok-square.ensures.trimmed

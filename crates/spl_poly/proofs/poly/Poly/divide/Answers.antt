@@ -1,4 +1,5 @@
-use Rattle.std.proofs.Common.{arith, sym, ◌∙◌, ap, subst, get_or, length, replicate, List, ℕ, ◌≡◌, ◌<◌, ◌≤◌, ◌-◌, ⊎_elim}
+use Rattle.std.proofs.Common.{arith, sym, ◌∙◌, ap, subst, get_or, length, replicate, List, ℕ, ◌≡◌, ◌<◌, ◌≤◌, ◌-◌}
+use Rattle.std.proofs.Common.{⊎_elim}
 use Rattle.std.proofs.lemmas.Bool.{cases_lt}
 use Rattle.std.proofs.lemmas.List.{get_or-replicate, get_or_past, length-replicate}
 use Rattle.theory_rings.specs.Polynomial.{IsTrimmed}
@@ -18,7 +19,8 @@ zeros-read n k = ⊎_elim
 pub inverse-unit-requires-clause-nonzero : goal.inverse-unit-requires-clause-nonzero
 inverse-unit-requires-clause-nonzero c =
     let ed : c.as_slice-divisor.result.now ≡ c.args.by.now = c.as_slice-divisor.ensures ∙ c.by.view_is in
-    last-ne-zero_of_pos 0 c.as_slice-divisor.result.now (subst (IsTrimmed 0) (sym c.as_slice-divisor.ensures) c.by.invariant)
+    last-ne-zero_of_pos 0 c.as_slice-divisor.result.now
+    (subst (IsTrimmed 0) (sym c.as_slice-divisor.ensures) c.by.invariant)
     (omega (arith, length_pos_of_ne c.args.by.now c.requires.nonzero, ap length ed))
 
 pub divide_row-requires-clause-is_unit : goal.divide_row-requires-clause-is_unit
@@ -28,8 +30,10 @@ divide_row-requires-clause-is_unit c =
     let d : List ℕ = c.as_slice-divisor.result.now in
     let ed : d ≡ c.args.by.now = c.as_slice-divisor.ensures ∙ c.by.view_is in
     let over : IsOver o d = subst (IsOver o) (sym ed) c.requires.by_over in
-    L.mul_comm (get_or d (length d - 1) 0) c.inverse-unit.result (at-elem o L d over (length d - 1)) c.inverse-unit.ensures.elem
-    ∙ lead-inverse o L d c.inverse-unit.result over (subst (IsTrimmed 0) (sym c.as_slice-divisor.ensures) c.by.invariant)
+    L.mul_comm (get_or d (length d - 1) 0) c.inverse-unit.result
+    (at-elem o L d over (length d - 1)) c.inverse-unit.ensures.elem
+    ∙ lead-inverse o L d c.inverse-unit.result over
+    (subst (IsTrimmed 0) (sym c.as_slice-divisor.ensures) c.by.invariant)
     (omega (arith, length_pos_of_ne c.args.by.now c.requires.nonzero, ap length ed)) c.inverse-unit.ensures.value
 
 pub returns-clause-value : goal.returns-clause-value
@@ -39,12 +43,17 @@ returns-clause-value c =
     let q : List ℕ = c.divide_row.new.q in
     let r : List ℕ = c.divide_row.new.r in
     let ed : d ≡ c.args.by.now = c.as_slice-divisor.ensures ∙ c.by.view_is in
-    let er : c.as_mut_slice-2.result.now ≡ c.args.self.now = c.as_mut_slice-2.ensures.value ∙ c.in_ok-rest.ensures.ok ∙ c.as_slice.ensures ∙ c.self.view_is in
-    let qlen : length q ≡ length c.in_ok-quotient.quotient.items = omega (arith, c.divide_row.auto.q, ap length c.as_mut_slice.ensures.value) in
-    let rlen : length r ≡ length c.in_ok-rest.rest.items = omega (arith, c.divide_row.auto.r, ap length c.as_mut_slice-2.ensures.value) in
+    let er : c.as_mut_slice-2.result.now ≡ c.args.self.now = c.as_mut_slice-2.ensures.value ∙ c.in_ok-rest.ensures.ok
+    ∙ c.as_slice.ensures ∙ c.self.view_is in
+    let qlen : length q ≡ length c.in_ok-quotient.quotient.items =
+    omega (arith, c.divide_row.auto.q, ap length c.as_mut_slice.ensures.value) in
+    let rlen : length r ≡ length c.in_ok-rest.rest.items =
+    omega (arith, c.divide_row.auto.r, ap length c.as_mut_slice-2.ensures.value) in
     subst (λ b. IsDivision o c.args.self.now b c.without_zeros_at_end.result c.without_zeros_at_end-2.result) ed
-    (division_done o c.know_laws.ensures c.args.self.now d q c.without_zeros_at_end.result r c.without_zeros_at_end-2.result
-    (λ k. c.without_zeros_at_end.ensures.same k ∙ ap (λ s. get_or s k 0) (refill_same c.in_ok-quotient.quotient.items q qlen))
+    (division_done o c.know_laws.ensures c.args.self.now d q c.without_zeros_at_end.result r
+    c.without_zeros_at_end-2.result
+    (λ k. c.without_zeros_at_end.ensures.same k
+    ∙ ap (λ s. get_or s k 0) (refill_same c.in_ok-quotient.quotient.items q qlen))
     (λ k. c.without_zeros_at_end-2.ensures.same k ∙ ap (λ s. get_or s k 0) (refill_same c.in_ok-rest.rest.items r rlen))
     (λ k. c.divide_row.ensures.whole k ∙ ap (λ s. get_or s k 0) er)
     c.without_zeros_at_end-2.ensures.trimmed
@@ -55,15 +64,19 @@ pub returns-clause-quotient_over : goal.returns-clause-quotient_over
 returns-clause-quotient_over c =
     let o = small_ops c.args.f.now in
     let q : List ℕ = c.divide_row.new.q in
-    let qlen : length q ≡ length c.in_ok-quotient.quotient.items = omega (arith, c.divide_row.auto.q, ap length c.as_mut_slice.ensures.value) in
-    c.without_zeros_at_end.ensures.over o (subst (IsOver o) (sym (refill_same c.in_ok-quotient.quotient.items q qlen)) c.divide_row.ensures.q_over)
+    let qlen : length q ≡ length c.in_ok-quotient.quotient.items =
+    omega (arith, c.divide_row.auto.q, ap length c.as_mut_slice.ensures.value) in
+    c.without_zeros_at_end.ensures.over o
+    (subst (IsOver o) (sym (refill_same c.in_ok-quotient.quotient.items q qlen)) c.divide_row.ensures.q_over)
 
 pub returns-clause-remainder_over : goal.returns-clause-remainder_over
 returns-clause-remainder_over c =
     let o = small_ops c.args.f.now in
     let r : List ℕ = c.divide_row.new.r in
-    let rlen : length r ≡ length c.in_ok-rest.rest.items = omega (arith, c.divide_row.auto.r, ap length c.as_mut_slice-2.ensures.value) in
-    c.without_zeros_at_end-2.ensures.over o (subst (IsOver o) (sym (refill_same c.in_ok-rest.rest.items r rlen)) c.divide_row.ensures.r_over)
+    let rlen : length r ≡ length c.in_ok-rest.rest.items =
+    omega (arith, c.divide_row.auto.r, ap length c.as_mut_slice-2.ensures.value) in
+    c.without_zeros_at_end-2.ensures.over o
+    (subst (IsOver o) (sym (refill_same c.in_ok-rest.rest.items r rlen)) c.divide_row.ensures.r_over)
 
 pub divide_row-requires-clause-r_over : goal.divide_row-requires-clause-r_over
 divide_row-requires-clause-r_over c =
@@ -77,11 +90,16 @@ divide_row-requires-clause-by_over c =
 
 pub divide_row-requires-clause-nonzero : goal.divide_row-requires-clause-nonzero
 divide_row-requires-clause-nonzero c =
-    omega (arith, length_pos_of_ne c.args.by.now c.requires.nonzero, ap length (c.as_slice-divisor.ensures ∙ c.by.view_is))
+    omega (
+      arith,
+      length_pos_of_ne c.args.by.now c.requires.nonzero,
+      ap length (c.as_slice-divisor.ensures ∙ c.by.view_is),
+    )
 
 pub divide_row-requires-clause-empty : goal.divide_row-requires-clause-empty
 divide_row-requires-clause-empty c k =
-    ap (λ s. get_or s k 0) (c.as_mut_slice.ensures.value ∙ c.in_ok-quotient.ensures) ∙ zeros-read c.saturating_sub.result k
+    ap (λ s. get_or s k 0) (c.as_mut_slice.ensures.value ∙ c.in_ok-quotient.ensures)
+    ∙ zeros-read c.saturating_sub.result k
 
 pub divide_row-requires-clause-room : goal.divide_row-requires-clause-room
 divide_row-requires-clause-room c =

@@ -11,8 +11,12 @@ loop-alloc-preserved c =
     let l = c.loop-alloc in
     let more = length_push l.constants c.in_ok-zero.field-0 c.push.new.self c.in_ok-push.ensures.ok in
     record {
-      items = zeros_more c.args.constants.now l.constants c.push.new.self ([], 1 ∷ []) c.in_ok-zero.field-0 l.invariant.items l.invariant.more c.in_ok-zero.ensures.pair c.in_ok-push.ensures.ok;
+      items = zeros_more c.args.constants.now l.constants c.push.new.self
+          ([], 1 ∷ []) c.in_ok-zero.field-0 l.invariant.items l.invariant.more c.in_ok-zero.ensures.pair
+          c.in_ok-push.ensures.ok;
       more = omega (arith, more, l.invariant.more);
       within = omega arith;
-      over = λ old. rw c.in_ok-push.ensures.ok (All-push (IsElem (fractions_over (field_of c.args.k.now))) l.constants c.in_ok-zero.field-0 (l.invariant.over old) c.in_ok-zero.ensures.elem);
+      over = λ old. rw c.in_ok-push.ensures.ok
+          (All-push (IsElem (fractions_over (field_of c.args.k.now))) l.constants c.in_ok-zero.field-0
+          (l.invariant.over old) c.in_ok-zero.ensures.elem);
     }

@@ -11,7 +11,8 @@ invariant-loop-alloc l = record {
   items : l.constants ≡ l.fn.constants ++ replicate (length l.constants - length l.fn.constants) ([], 1 ∷ []);
   more : length l.fn.constants ≤ length l.constants;
   within : length l.constants ≤ l.fn.count;
-  over : All (IsElem (fractions_over (field_of l.k))) l.fn.constants → All (IsElem (fractions_over (field_of l.k))) l.constants;
+  over : All (IsElem (fractions_over (field_of l.k))) l.fn.constants
+      → All (IsElem (fractions_over (field_of l.k))) l.constants;
 }
 
 abbrev pub decreases-loop-alloc : goal.decreases-loop-alloc

@@ -8,4 +8,8 @@ returns-in-Some-fault-clause-fault c =
     let h = head_of c.args.f.now c.args.n in
     let spelled = rw c.in-Some.is at c.in_ok-entry.ensures in
     λ previous after is.
-    rw c.at-in-Some-fault.ensures (refl, fault_of_entry h previous c.args.text.now after (entry_of c.in-Some.entry) spelled.0 spelled.1 c.in-Some-fault.kind (c.in-Some-fault.ensures previous is))
+    rw c.at-in-Some-fault.ensures (
+      refl,
+      fault_of_entry h previous c.args.text.now after
+          (entry_of c.in-Some.entry) spelled.0 spelled.1 c.in-Some-fault.kind (c.in-Some-fault.ensures previous is),
+    )

@@ -12,5 +12,9 @@ pub of-requires-clause-over : goal.of-requires-clause-over
 of-requires-clause-over c =
     let f = c.args.field in
     let k = base_of c.in_ok-fractions.fractions in
-    let there = subst (λ (x : SmallField). (u v : List ℕ) → IsElem (fractions_over x) (u, v) ↔ IsLowestTerms (small_ops x) u v) c.field.ensures c.elements_are_lowest_terms-2.ensures in
-    elements_over (small_ops f) (small_ops k) (fractions_over f) (fractions_over k) c.in_ok-fractions.ensures.ops c.elements_are_lowest_terms.ensures there c.args.constants c.requires.over
+    let there = subst (λ (x : SmallField). (u v : List ℕ)
+    → IsElem (fractions_over x) (u, v) ↔ IsLowestTerms
+    (small_ops x) u v) c.field.ensures c.elements_are_lowest_terms-2.ensures in
+    elements_over (small_ops f) (small_ops k) (fractions_over f)
+    (fractions_over k) c.in_ok-fractions.ensures.ops c.elements_are_lowest_terms.ensures there c.args.constants
+    c.requires.over

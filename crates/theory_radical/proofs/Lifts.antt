@@ -1,0 +1,8 @@
+-- Lift rings.
+pub mod IntegerLifts
+pub mod LiftRings
+pub mod LiftedMatrices
+pub mod RemainderLifts
+pub mod RemainderRings
+pub mod TowerFields
+pub mod Towers

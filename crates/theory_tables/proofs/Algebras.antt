@@ -1,0 +1,5 @@
+-- Algebras by structure constants as algebras.
+pub mod Bridge
+pub mod CentralSimple
+pub mod TraceRadical
+pub mod Exclusions

@@ -1,0 +1,6 @@
+-- Split algebras and ramified places.
+pub mod Splittings
+pub mod SplitCentralSimple
+pub mod SplitClaims
+pub mod Ramified
+pub mod Examples
