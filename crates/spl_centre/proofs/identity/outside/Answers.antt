@@ -2,7 +2,7 @@ use Rattle.std.proofs.Common.{◌≡◌, ◌<◌, ◌≤◌, [], length, get_or,
 use Rattle.std.proofs.lemmas.Bool.{both_ways}
 use Rattle.std.proofs.lemmas.Result.{IfOk-weaker}
 use Rattle.theory_tables.specs.Subspace.{InSpan}
-use Rattle.theory_tables.proofs.Sums.{row_at}
+use Rattle.theory_tables.proofs.Rows.Sums.{row_at}
 use Rattle.theory_tables.specs.Claims.{CentralClaim}
 use Rattle.spl_centre.proofs.Multiples.{first_row_claim, second_row_claim}
 use Rattle.spl_centre.proofs.identity.outside.Goals as goal
