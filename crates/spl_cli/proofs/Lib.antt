@@ -1,2 +1,4 @@
 mod Answering
+mod Correctness
 mod Running
+mod Taking

@@ -1,14 +1,15 @@
 -- A run, put together from its parts.
-use Rattle.std.specs.Prelude.{◌≡◌, ◌⊎◌, ℕ, ◌+◌, ◌<◌, ◌≤◌, List, [], ◌++◌, length, drop, Option, None, Some, is_some}
-use Rattle.std.specs.Prelude.{IfSome, refl}
+use Rattle.std.specs.Prelude.{◌≡◌, ◌≢◌, ◌⊎◌, ℕ, ◌+◌, ◌<◌, ◌≤◌, Bool, true, false, if◌then◌else◌, refl}
+use Rattle.std.specs.Prelude.{List, [], ◌∷◌, ◌++◌, length, drop, Option, None, Some, is_some, IfSome, codes, bytes_eq}
+use Rattle.std.specs.Cmp.Lexicographic.{same_text}
 use Rattle.std.proofs.Common.{inl, inr, ⊎_elim, sym, ◌∙◌, ap, subst, arith, length-append, append-nil}
 use Rattle.std.proofs.lemmas.Bool.{cases_lt}
 use Rattle.std.proofs.Math.Seq.{drop-append_seam}
 use Rattle.std.proofs.Math.ListN.{drop_of_length-le}
 use Rattle.std.specs.Option.{option_map}
-use Rattle.std.specs.Io.KnownBytes.{Keeps, Appends, Consumes, IsAtEnd}
+use Rattle.std.specs.Io.KnownBytes.{Appends, Consumes, IsAtEnd}
 use Rattle.spl_outside.specs.Faults.{Rose}
-use Rattle.spl_outside.specs.Prefix.{AppendsPart}
+use Rattle.spl_outside.specs.Prefix.{AppendsPart, ConsumesAtMost}
 use Rattle.spl_table.specs.Refusal.{table_limit, whole, IsFirstFault, IsRefusal}
 use Rattle.spl_table.specs.declared.refusal.Refusal.{Refusal}
 use Rattle.spl_table.specs.declared.refusal.Kind.{Kind}
@@ -17,15 +18,10 @@ use Rattle.spl_table.specs.declared.refusal.Kind.TheVariants.{Characteristic, En
 use Rattle.spl_table.specs.declared.refusal.Kind.TheVariants.{ZeroDenominator, PolyDegree, NoEnd, AfterEnd, NotBuilt}
 use Rattle.spl_cli.specs.declared.status.Status.{Status}
 use Rattle.spl_cli.specs.declared.status.Status.TheVariants.{Done, No, Usage, Refused, ReadFault, WriteFault, Memory}
-use Rattle.spl_cli.specs.Forms.{IsForm, usage_text}
+use Rattle.spl_cli.specs.Forms.{IsForm, limit_of, usage_text}
 use Rattle.spl_cli.specs.Report.{Report, IsUndecided}
-use Rattle.spl_cli.specs.Run.{SourceState, SinkState, SourceStands, SinkStands, IsAnswer, IsRun, read_limit}
+use Rattle.spl_cli.specs.Run.{SourceState, SinkState, SourceStands, SinkStands, IsAnswer, Reads, ReadsUpTo, IsRun}
 use Rattle.spl_cli.specs.Finish.{Finishes, Answers}
-
--- known bytes that nothing was done to
-pub Keeps-refl : (known : Option (List ℕ)) → Keeps known known
-Keeps-refl None = tt
-Keeps-refl (Some xs) = refl
 
 pub SinkStands-refl : (sink : SinkState) → SinkStands sink sink
 SinkStands-refl sink = record { faults = omega arith; told = refl; steady = refl }
@@ -85,6 +81,7 @@ pub record Taken (source source' : SourceState) (read : List ℕ) : Type 0 where
   pub taken : Consumes source.left source'.left read
   pub most : length read ≤ table_limit + 1
   pub whole : length read ≤ table_limit → IsAtEnd source'.left
+  pub no_fault : source'.faults ≡ source.faults
   pub stands : SourceStands source source'
 
 pub record Whole (words : List (List ℕ)) (left : Option (List ℕ)) (answer : Status) (bytes : List ℕ) : Type 0 where
@@ -118,18 +115,18 @@ whole_report words (Some xs) (Some ys) read answer bytes t w r = ⊎_elim
 -- how the source is left
 left_after : (left left' : Option (List ℕ)) (read : List ℕ) → Consumes left left' read → length read ≤ table_limit + 1
     → (length read ≤ table_limit → IsAtEnd left') → is_some left' ≡ is_some left
-    → left' ≡ option_map (drop (read_limit + 1)) left
+    → left' ≡ option_map (drop (table_limit + 1)) left
 left_after None None read t m w told = refl
 left_after None (Some ys) read t m w told = absurd (cc)
 left_after (Some xs) None read t m w told = absurd t
 left_after (Some xs) (Some ys) read t m w told = ap Some (⊎_elim
     (λ (long : table_limit < length read).
-    let e : read_limit + 1 ≡ length read = omega arith in
-    sym (ap (drop (read_limit + 1)) t ∙ ap (λ n. drop n (read ++ ys)) e ∙ drop-append_seam read ys))
+    let e : table_limit + 1 ≡ length read = omega arith in
+    sym (ap (drop (table_limit + 1)) t ∙ ap (λ n. drop n (read ++ ys)) e ∙ drop-append_seam read ys))
     (λ (short : length read ≤ table_limit).
     let e : ys ≡ [] = w short in
     let f : xs ≡ read = t ∙ ap (λ zs. read ++ zs) e ∙ append-nil read in
-    let g : length xs ≤ read_limit + 1 = omega (arith, ap length f) in
+    let g : length xs ≤ table_limit + 1 = omega (arith, ap length f) in
     e ∙ sym (drop_of_length-le xs g))
     (cases_lt table_limit (length read)))
 
@@ -147,6 +144,12 @@ answer-or-write_fault : (status : Status) → IsAnswer status → status ≡ Wri
 answer-or-write_fault status a e =
     elim a [ inl x ↦ cc | inr y ↦ elim y [ inl x ↦ cc | inr z ↦ elim z [ inl x ↦ cc | inr x ↦ cc ] ] ]
 
+fault-or-write_fault : (status : Status) → (status ≡ ReadFault) ⊎ (status ≡ Memory) → status ≡ WriteFault → ⊥
+fault-or-write_fault status which e = ⊎_elim (λ (x : status ≡ ReadFault). cc) (λ (x : status ≡ Memory). cc) which
+
+done-answers : (status : Status) → (status ≡ Done) ⊎ (status ≡ No) → IsAnswer status
+done-answers status e = ⊎_elim (λ (x : status ≡ Done). inl x) (λ (x : status ≡ No). inr (inl x)) e
+
 answer-or-fault : (status : Status) → IsAnswer status → (status ≡ ReadFault) ⊎ (status ≡ Memory) → ⊥
 answer-or-fault status a e = ⊎_elim
     (λ (r : status ≡ ReadFault).
@@ -155,79 +158,110 @@ answer-or-fault status a e = ⊎_elim
     elim a [ inl x ↦ cc | inr y ↦ elim y [ inl x ↦ cc | inr z ↦ elim z [ inl x ↦ cc | inr x ↦ cc ] ] ])
     e
 
+-- words of a form read up to the limit of tables
+limit_of-form : (words : List (List ℕ)) → IsForm words → limit_of words ≡ Some table_limit
+limit_of-form words form = ap limit_of form
+
+-- words of no form read nothing
+limit_of-no_form : (words : List (List ℕ)) → (IsForm words → ⊥) → limit_of words ≡ None
+limit_of-no_form [] none = refl
+limit_of-no_form (word ∷ []) none = go (bytes_eq word (codes "decide")) refl
+  where
+    go : (b : Bool) → bytes_eq word (codes "decide") ≡ b → (if b then Some table_limit else None) ≡ None
+    go true e = absurd (none (ap (λ w. w ∷ []) (same_text word (codes "decide") (sym e))))
+    go false e = refl
+limit_of-no_form (word ∷ next ∷ words) none = refl
+
+reads_up_to : (words : List (List ℕ)) (source source' : SourceState) (status : Status) → IsForm words
+    → ReadsUpTo table_limit source source' status → Reads (limit_of words) source source' status
+reads_up_to words source source' status form r =
+    let P : Option ℕ → Type 0 = λ limit. Reads limit source source' status in subst P (sym (limit_of-form words form)) r
+
+reads_nothing : (words : List (List ℕ)) (source : SourceState) (status : Status) → (IsForm words → ⊥)
+    → status ≢ ReadFault → Reads (limit_of words) source source status
+reads_nothing words source status none other =
+    let P : Option ℕ → Type 0 = λ limit. Reads limit source source status in
+    subst P (sym (limit_of-no_form words none)) (refl, other)
+
 -- words of no form
 pub IsRun-usage : (words : List (List ℕ)) (source : SourceState) (sink sink' : SinkState) (status : Status)
-    → (IsForm words → ⊥)
-    → Finishes Usage usage_text sink sink' status → IsRun words source source sink sink' status
+    → (IsForm words → ⊥) → Finishes Usage usage_text sink sink' status → IsRun words source source sink sink' status
 IsRun-usage words source sink sink' status none f = ⊎_elim
-    (λ (w : (status ≡ Usage) × Appends sink.written sink'.written usage_text). record {
+    (λ (w : (status ≡ Usage) × Appends sink.written sink'.written usage_text × (sink'.faults ≡ sink.faults)). record {
       report = λ _. record {
         input = told_or_nothing source.left;
         told = told_is source.left;
         bytes = usage_text;
-        report = (let P : Status
-            → Type 0 = λ s. Report words (told_or_nothing source.left) s usage_text in subst P (sym w.0) (none, refl));
+        report =
+            let P : Status → Type 0 = λ s. Report words (told_or_nothing source.left) s usage_text in
+            subst P (sym w.0) (none, refl);
         written = w.1;
       };
       part = λ e. absurd (let q = w.0 in cc);
-      nothing = λ e. absurd
-          (⊎_elim (λ (x : status ≡ ReadFault). let q = w.0 in cc) (λ (x : status ≡ Memory). let q = w.0 in cc) e);
+      nothing = λ e. absurd (⊎_elim
+          (λ (x : status ≡ ReadFault). let q = w.0 in cc)
+          (λ (x : status ≡ Memory). let q = w.0 in cc)
+          e);
       no_form = λ _. inl w.0;
       read_fault = λ e. absurd (let q = w.0 in cc);
       write_fault = λ e. absurd (let q = w.0 in cc);
-      untouched = λ _. refl;
-      taken = λ form _. absurd (none form);
-      to_the_end = λ e. absurd
-          (⊎_elim (λ (x : status ≡ Done). let q = w.0 in cc) (λ (x : status ≡ No). let q = w.0 in cc) e);
+      no_read_fault = λ _. refl;
+      no_write_fault = λ _. w.2;
+      reads = reads_nothing words source status none (λ e. let q = w.0 in cc);
       source_stands = SourceStands-refl source;
       sink_stands = f.stands;
     })
-    (λ (w : (status ≡ WriteFault) × AppendsPart sink.written sink'.written usage_text
-    × Rose sink.faults sink'.faults). record {
+    (λ (w : (status ≡ WriteFault) × AppendsPart sink.written sink'.written usage_text × Rose sink.faults sink'.faults).
+    record {
       report = λ a. absurd (answer-or-write_fault status a w.0);
       part = λ _. record {
         input = told_or_nothing source.left;
         told = told_is source.left;
         status = Usage;
-        bytes =
-            usage_text;
+        bytes = usage_text;
         report = (none, refl);
         written = w.1;
       };
-      nothing = λ e. absurd
-          (⊎_elim (λ (x : status ≡ ReadFault). let q = w.0 in cc) (λ (x : status ≡ Memory). let q = w.0 in cc) e);
+      nothing = λ e. absurd (⊎_elim
+          (λ (x : status ≡ ReadFault). let q = w.0 in cc)
+          (λ (x : status ≡ Memory). let q = w.0 in cc)
+          e);
       no_form = λ _. inr w.0;
       read_fault = λ e. absurd (let q = w.0 in cc);
       write_fault = λ _. w.2;
-      untouched = λ _. refl;
-      taken = λ form _. absurd (none form);
-      to_the_end = λ e. absurd
-          (⊎_elim (λ (x : status ≡ Done). let q = w.0 in cc) (λ (x : status ≡ No). let q = w.0 in cc) e);
+      no_read_fault = λ _. refl;
+      no_write_fault = λ other. absurd (other w.0);
+      reads = reads_nothing words source status none (λ e. let q = w.0 in cc);
       source_stands = SourceStands-refl source;
       sink_stands = f.stands;
     })
     f.ends
 
 -- a run that ends with nothing written: a fault of reading, or want of memory
-pub IsRun-silent : (words : List (List ℕ)) (source source' : SourceState) (sink sink' : SinkState) (status : Status)
+pub IsRun-silent : (words : List (List ℕ)) (source source' : SourceState) (sink : SinkState) (status : Status)
     → IsForm words
     → (status ≡ ReadFault) ⊎ (status ≡ Memory) → (status ≡ ReadFault → Rose source.faults source'.faults)
-    → SourceStands source source' → Keeps sink.written sink'.written → SinkStands sink sink'
-    → IsRun words source source' sink sink' status
-IsRun-silent words source source' sink sink' status form which rose stands keeps sink_stands = record {
+    → (status ≢ ReadFault → source'.faults ≡ source.faults) → ConsumesAtMost (table_limit + 1) source.left source'.left
+    → SourceStands source source' → IsRun words source source' sink sink status
+IsRun-silent words source source' sink status form which rose no_fault bounded stands = record {
   report = λ a. absurd (answer-or-fault status a which);
-  part = λ e. absurd (⊎_elim (λ (x : status ≡ ReadFault). cc) (λ (x : status ≡ Memory). cc) which);
-  nothing = λ _. keeps;
+  part = λ e. absurd (fault-or-write_fault status which e);
+  nothing = λ _. refl;
   no_form = λ none. absurd (none form);
   read_fault = rose;
-  write_fault = λ e. absurd (⊎_elim (λ (x : status ≡ ReadFault). cc) (λ (x : status ≡ Memory). cc) which);
-  untouched = λ none. absurd (none form);
-  taken = λ _ e. absurd (⊎_elim (λ a. answer-or-fault status a which)
-      (λ (w : status ≡ WriteFault). ⊎_elim (λ (x : status ≡ ReadFault). cc) (λ (x : status ≡ Memory). cc) which) e);
-  to_the_end = λ e. absurd
-      (answer-or-fault status (⊎_elim (λ (x : status ≡ Done). inl x) (λ (x : status ≡ No). inr (inl x)) e) which);
+  write_fault = λ e. absurd (fault-or-write_fault status which e);
+  no_read_fault = no_fault;
+  no_write_fault = λ _. refl;
+  reads = reads_up_to words source source' status form (record {
+    bounded = bounded;
+    taken = λ e. absurd (⊎_elim
+        (λ a. answer-or-fault status a which)
+        (λ (w : status ≡ WriteFault). fault-or-write_fault status which w)
+        e);
+    to_the_end = λ e. absurd (answer-or-fault status (done-answers status e) which);
+  });
   source_stands = stands;
-  sink_stands = sink_stands;
+  sink_stands = SinkStands-refl sink;
 }
 
 -- no report goes with a fault or with want of memory
@@ -256,27 +290,37 @@ Done-short words input Memory bytes r e = absurd r
 
 -- a run that has read its input and answers it
 pub IsRun-answered : (words : List (List ℕ)) (source source' : SourceState) (sink sink' : SinkState) (status : Status)
-    (read : List ℕ) → IsForm words
-    → Taken source source' read → Answers words read sink sink' status → IsRun words source source' sink sink' status
+    (read : List ℕ)
+    → IsForm words → Taken source source' read → Answers words read sink sink' status
+    → IsRun words source source' sink sink' status
 IsRun-answered words source source' sink sink' status read form t a = ⊎_elim
-    (λ (m : (status ≡ Memory) × Keeps sink.written sink'.written).
-    IsRun-silent words source source' sink sink' status form (inr m.0)
-    (λ e. absurd (let q = m.0 in cc)) t.stands m.1 a.stands)
+    (λ (m : (status ≡ Memory) × (sink' ≡ sink)). silent m.0 m.1)
     (λ (w : (answer : Status) × (bytes : List ℕ) × Report words read answer bytes
     × Finishes answer bytes sink sink' status).
     answered w.0 w.1 w.2 w.3)
     a.ends
   where
-    left_is : source'.left ≡ option_map (drop (read_limit + 1)) source.left
+    bounded : ConsumesAtMost (table_limit + 1) source.left source'.left
+    bounded = (read, t.most, t.taken)
+
+    silent : status ≡ Memory → sink' ≡ sink → IsRun words source source' sink sink' status
+    silent e same =
+        let P : SinkState → Type 0 = λ s. IsRun words source source' sink s status in
+        subst P (sym same) (IsRun-silent words source source' sink status form (inr e) (λ r. absurd (cc))
+        (λ _. t.no_fault)
+        bounded t.stands)
+
+    left_is : source'.left ≡ option_map (drop (table_limit + 1)) source.left
     left_is = let s = t.stands in left_after source.left source'.left read t.taken t.most t.whole s.told
 
     whole : (answer : Status) (bytes : List ℕ) → Report words read answer bytes → Whole words source.left answer bytes
     whole answer bytes r = whole_report words source.left source'.left read answer bytes t.taken t.whole r
 
     answered : (answer : Status) (bytes : List ℕ) → Report words read answer bytes
-        → Finishes answer bytes sink sink' status → IsRun words source source' sink sink' status
+        → Finishes answer bytes sink sink' status
+        → IsRun words source source' sink sink' status
     answered answer bytes r f = ⊎_elim
-        (λ (g : (status ≡ answer) × Appends sink.written sink'.written bytes).
+        (λ (g : (status ≡ answer) × Appends sink.written sink'.written bytes × (sink'.faults ≡ sink.faults)).
         let x = whole answer bytes r in
         record {
           report = λ _. record {
@@ -287,18 +331,23 @@ IsRun-answered words source source' sink sink' status read form t a = ⊎_elim
             written = g.1;
           };
           part = λ e. absurd (not_reported words read answer bytes r (inr (inl (sym g.0 ∙ e))));
-          nothing = λ e. absurd
-              (not_reported words read answer bytes r
-              (⊎_elim (λ (y : status ≡ ReadFault). inl (sym g.0 ∙ y))
-              (λ (y : status ≡ Memory). inr (inr (sym g.0 ∙ y))) e));
+          nothing = λ e. absurd (not_reported words read answer bytes r (⊎_elim
+              (λ (y : status ≡ ReadFault). inl (sym g.0 ∙ y))
+              (λ (y : status ≡ Memory). inr (inr (sym g.0 ∙ y)))
+              e));
           no_form = λ none. absurd (none form);
           read_fault = λ e. absurd (not_reported words read answer bytes r (inl (sym g.0 ∙ e)));
           write_fault = λ e. absurd (not_reported words read answer bytes r (inr (inl (sym g.0 ∙ e))));
-          untouched = λ none. absurd (none form);
-          taken = λ _ _. left_is;
-          to_the_end = λ e. t.whole
-              (Done-short words read answer bytes r
-              (⊎_elim (λ (y : status ≡ Done). inl (sym g.0 ∙ y)) (λ (y : status ≡ No). inr (sym g.0 ∙ y)) e));
+          no_read_fault = λ _. t.no_fault;
+          no_write_fault = λ _. g.2;
+          reads = reads_up_to words source source' status form (record {
+            bounded = bounded;
+            taken = λ _. left_is;
+            to_the_end = λ e. t.whole (Done-short words read answer bytes r (⊎_elim
+                (λ (y : status ≡ Done). inl (sym g.0 ∙ y))
+                (λ (y : status ≡ No). inr (sym g.0 ∙ y))
+                e));
+          });
           source_stands = t.stands;
           sink_stands = a.stands;
         })
@@ -311,19 +360,20 @@ IsRun-answered words source source' sink sink' status read form t a = ⊎_elim
             told = x.told;
             status = answer;
             bytes = bytes;
-            report =
-                x.report;
+            report = x.report;
             written = g.1;
           };
-          nothing = λ e. absurd
-              (⊎_elim (λ (y : status ≡ ReadFault). let q = g.0 in cc) (λ (y : status ≡ Memory). let q = g.0 in cc) e);
+          nothing = λ e. absurd (fault-or-write_fault status e g.0);
           no_form = λ none. absurd (none form);
-          read_fault = λ e. absurd (let q = g.0 in cc);
+          read_fault = λ e. absurd (fault-or-write_fault status (inl e) g.0);
           write_fault = λ _. g.2;
-          untouched = λ none. absurd (none form);
-          taken = λ _ _. left_is;
-          to_the_end = λ e. absurd
-              (⊎_elim (λ (y : status ≡ Done). let q = g.0 in cc) (λ (y : status ≡ No). let q = g.0 in cc) e);
+          no_read_fault = λ _. t.no_fault;
+          no_write_fault = λ other. absurd (other g.0);
+          reads = reads_up_to words source source' status form (record {
+            bounded = bounded;
+            taken = λ _. left_is;
+            to_the_end = λ e. absurd (answer-or-write_fault status (done-answers status e) g.0);
+          });
           source_stands = t.stands;
           sink_stands = a.stands;
         })

@@ -41,8 +41,8 @@ element_text _ = []
 
 -- `refused LINE KIND`
 abbrev pub refusal_text : Refusal → List ℕ
-refusal_text r = codes "refused " ++ decimal r.line ++ codes " " ++ kind_name r.kind ++ element_text r.kind
-    ++ codes "\n"
+refusal_text r =
+    codes "refused " ++ decimal r.line ++ codes " " ++ kind_name r.kind ++ element_text r.kind ++ codes "\n"
 
 -- the line of `end`, the last one of a table text
 abbrev pub line_of_end : List ℕ → ℕ

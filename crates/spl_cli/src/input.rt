@@ -1,7 +1,9 @@
 // Reading the input.
-ghost use Rattle.std.specs.Prelude.{◌≡◌, ℕ, ◌+◌, ◌<◌, ◌≤◌, ◌^◌, ◌++◌, length, take, is_some, IfOk, OnErr, IsErrOf};
+ghost use Rattle.std.specs.Prelude.{◌≡◌, ℕ, ◌+◌, ◌<◌, ◌≤◌, ◌^◌, ◌++◌, length, take, is_some, IfOk, OnOk, OnErr};
+ghost use Rattle.std.specs.Prelude.{IsErrOf};
 ghost use Rattle.std.specs.Io.KnownBytes.{Consumes, IsAtEnd};
 ghost use Rattle.spl_outside.specs.Faults.{Rose};
+ghost use Rattle.spl_outside.specs.Prefix.{ConsumesAtMost};
 
 use spl_outside::outside::{Failed, Source};
 use std::alloc::{AllocError, Global};
@@ -34,7 +36,10 @@ fn read_piece<S: Source>(
     ensures appended { IfOk result (λ n. input.new.items ≡ input.old.items ++ take n buffer.new) }
     ensures taken { IfOk result (λ n. Consumes (S.left source.old) (S.left source.new) (take n buffer.new)) }
     ensures end { result ≡ Ok 0 → IsAtEnd (S.left source.new) }
+    ensures bounded { ConsumesAtMost (length buffer.old) (S.left source.old) (S.left source.new) }
     ensures rose { IsErrOf result InputFault.Read → Rose (S.faults source.old) (S.faults source.new) }
+    ensures no_fault { OnOk result (S.faults source.new ≡ S.faults source.old) }
+    ensures memory { IsErrOf result InputFault.Memory → S.faults source.new ≡ S.faults source.old }
 
     ensures faults { S.faults source.old ≤ S.faults source.new }
     ensures told { is_some (S.left source.new) ≡ is_some (S.left source.old) }
@@ -69,7 +74,10 @@ pub(crate) fn read_input<S: Source>(
     ensures taken { IfOk result (λ input. Consumes (S.left source.old) (S.left source.new) input.items) }
     ensures most { IfOk result (λ input. length input.items ≤ limit + 1) }
     ensures whole { IfOk result (λ input. length input.items ≤ limit → IsAtEnd (S.left source.new)) }
+    ensures bounded { ConsumesAtMost (limit + 1) (S.left source.old) (S.left source.new) }
     ensures rose { IsErrOf result InputFault.Read → Rose (S.faults source.old) (S.faults source.new) }
+    ensures no_fault { OnOk result (S.faults source.new ≡ S.faults source.old) }
+    ensures memory { IsErrOf result InputFault.Memory → S.faults source.new ≡ S.faults source.old }
 
     ensures faults { S.faults source.old ≤ S.faults source.new }
     ensures told { is_some (S.left source.new) ≡ is_some (S.left source.old) }

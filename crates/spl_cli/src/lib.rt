@@ -1,10 +1,11 @@
 // The program's top call: words, an input and a report.
 //
-// It stands on spl_table and spl_outside. Read `run` first: its contract, the record `IsRun` of specs/Run.antt, is what
-// the whole program promises.
+// It stands on spl_table and spl_outside. Read specs/Correct.antt first, which says what the program comes to, and
+// then `run`: its contract, the record `IsRun` of specs/Run.antt, is all that the program promises.
 #![tactic(auto)]
 
 mod input;
+pub mod laws;
 mod report;
 pub mod run;
 pub mod status;

@@ -9,7 +9,7 @@ invariant-loop-input g l =
       buffer : length l.buffer.items ≡ l.piece;
       taken : Consumes (S.left l.fn.source) (S.left l.source) l.input.items;
       most : length l.input.items ≤ l.limit + 1;
-      faults : S.faults l.fn.source ≤ S.faults l.source;
+      faults : S.faults l.source ≡ S.faults l.fn.source;
       told : is_some (S.left l.source) ≡ is_some (S.left l.fn.source);
       steady : S.steady l.source ≡ S.steady l.fn.source;
     }

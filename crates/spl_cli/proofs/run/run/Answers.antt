@@ -18,6 +18,7 @@ returns-in-Ok g c =
       taken = c.in-Ok.ensures.taken;
       most = c.in-Ok.ensures.most;
       whole = c.in-Ok.ensures.whole;
+      no_fault = c.in-Ok.ensures.no_fault;
       stands = record { faults = c.in-Ok.ensures.faults; told = c.in-Ok.ensures.told; steady = c.in-Ok.ensures.steady };
     })
     (subst P c.as_slice.ensures.value (c.decide.ensures c.args.words.now form))

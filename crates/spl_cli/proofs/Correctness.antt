@@ -1,0 +1,70 @@
+-- What a run of `decide` on a told input comes to.
+use Rattle.std.specs.Prelude.{◌≡◌, ℕ, List, [], ◌∷◌, ◌++◌, codes, Option, Some, None, IfSome, refl}
+use Rattle.std.proofs.Common.{inl, inr, ⊎_elim, sym, ◌∙◌, ap, subst}
+use Rattle.std.specs.Io.KnownBytes.{Appends}
+use Rattle.spl_table.specs.Refusal.{whole, IsRefusal}
+use Rattle.spl_table.proofs.OneRefusal.{refusal_unique}
+use Rattle.spl_table.proofs.TextLaws.{no_table_fault}
+use Rattle.spl_cli.specs.declared.status.Status.{Status}
+use Rattle.spl_cli.specs.declared.status.Status.TheVariants.{Done, No, Usage, Refused, ReadFault, WriteFault, Memory}
+use Rattle.spl_cli.specs.Report.{Report, refusal_text, IsUndecided}
+use Rattle.spl_cli.specs.Run.{IsAnswer}
+use Rattle.spl_cli.specs.Correct.{RunsWell, DecidesInput, RunDecides}
+
+-- known bytes that grew, where both are told
+grown : (before : List ℕ) (old new : Option (List ℕ)) (bytes : List ℕ) → old ≡ Some before → Appends old new bytes
+    → new ≡ Some (before ++ bytes)
+grown before None new bytes e a = absurd (cc)
+grown before (Some xs) None bytes e a = absurd a
+grown before (Some xs) (Some ys) bytes e a = let same : xs ≡ before = cc in ap Some (a ∙ ap (λ l. l ++ bytes) same)
+
+-- the input of the report is the one that was told
+told_input : (left : Option (List ℕ)) (input other : List ℕ) → left ≡ Some input
+    → IfSome left (λ bytes. bytes ≡ other) → other ≡ input
+told_input None input other e t = absurd (cc)
+told_input (Some xs) input other e t = let same : xs ≡ input = cc in sym t ∙ same
+
+-- what a report of `decide` says of its input
+decides : (input bytes : List ℕ) (status : Status) → Report (codes "decide" ∷ []) input status bytes
+    → DecidesInput input bytes status
+decides input bytes Usage r = absurd (r.0 refl)
+decides input bytes Done r = record {
+  refused = λ f refusal. absurd (let d = r.1 in let t = d.stands in
+      no_table_fault whole input t.text [] t.is_text f refusal);
+  decided = λ t text. inl (refl, r.1);
+}
+decides input bytes Refused r = let d = r.1 in ⊎_elim
+    (λ (cause : IsRefusal whole input d.refusal). record {
+      refused = λ f refusal. (refl, d.report ∙ ap refusal_text (refusal_unique input whole d.refusal f cause refusal));
+      decided = λ t text. absurd (no_table_fault whole input t [] text d.refusal cause);
+    })
+    (λ (undecided : IsUndecided input d.refusal). record {
+      refused = λ f refusal.
+          absurd (let t = undecided.stands in no_table_fault whole input t.text [] t.is_text f refusal);
+      decided = λ t text. inr (refl, record { refusal = d.refusal; undecided = undecided; report = d.report });
+    })
+    d.cause
+decides input bytes No r = absurd r
+decides input bytes ReadFault r = absurd r
+decides input bytes WriteFault r = absurd r
+decides input bytes Memory r = absurd r
+
+-- a status is one with which a report is written, or a fault or want of memory
+answer : (status : Status) → RunsWell status → IsAnswer status
+answer Done w = inl refl
+answer No w = inr (inl refl)
+answer Usage w = inr (inr (inl refl))
+answer Refused w = inr (inr (inr refl))
+answer ReadFault w = absurd (w.read refl)
+answer WriteFault w = absurd (w.written refl)
+answer Memory w = absurd (w.memory refl)
+
+pub run_decides : RunDecides
+run_decides source source' sink sink' status input before run told written well =
+    let w = run.report (answer status well) in
+    let same : w.input ≡ input = told_input source.left input w.input told w.told in
+    let P : List ℕ → Type 0 = λ i. Report (codes "decide" ∷ []) i status w.bytes in (
+      w.bytes,
+      grown before sink.written sink'.written w.bytes written w.written,
+      decides input w.bytes status (subst P same w.report),
+    )
