@@ -1,7 +1,13 @@
--- What a run of `decide` on a told input comes to.
-use Rattle.std.specs.Prelude.{◌≡◌, ℕ, List, [], ◌∷◌, ◌++◌, codes, Option, Some, None, IfSome, refl}
-use Rattle.std.proofs.Common.{inl, inr, ⊎_elim, sym, ◌∙◌, ap, subst}
+-- What a run of `decide` on a told input comes to, and what a run over streams that don't fail.
+use Rattle.std.specs.Prelude.{◌≡◌, ℕ, ◌+◌, ◌<◌, ◌≤◌, Bool, IsTrue, List, [], ◌∷◌, ◌++◌, length, take, codes, Option}
+use Rattle.std.specs.Prelude.{Some, None, IfSome, refl}
+use Rattle.std.proofs.Common.{inl, inr, ⊎_elim, sym, ◌∙◌, ap, subst, arith, length-append}
+use Rattle.std.proofs.lemmas.Bool.{cases_lt}
+use Rattle.std.proofs.lemmas.List.{length-take-le}
 use Rattle.std.specs.Io.KnownBytes.{Appends}
+use Rattle.spl_outside.specs.Faults.{Rose}
+use Rattle.spl_outside.specs.Prefix.{AppendsPart}
+use Rattle.spl_outside.specs.Room.{HasRoom}
 use Rattle.spl_table.specs.Refusal.{whole, IsRefusal}
 use Rattle.spl_table.proofs.OneRefusal.{refusal_unique}
 use Rattle.spl_table.proofs.TextLaws.{no_table_fault}
@@ -9,7 +15,8 @@ use Rattle.spl_cli.specs.declared.status.Status.{Status}
 use Rattle.spl_cli.specs.declared.status.Status.TheVariants.{Done, No, Usage, Refused, ReadFault, WriteFault, Memory}
 use Rattle.spl_cli.specs.Report.{Report, refusal_text, IsUndecided}
 use Rattle.spl_cli.specs.Run.{IsAnswer}
-use Rattle.spl_cli.specs.Correct.{RunsWell, DecidesInput, RunDecides}
+use Rattle.spl_cli.specs.Finish.{source_state, sink_state}
+use Rattle.spl_cli.specs.Correct.{RunsWell, DecidesInput, RunDecides, RunIsQuiet}
 
 -- known bytes that grew, where both are told
 grown : (before : List ℕ) (old new : Option (List ℕ)) (bytes : List ℕ) → old ≡ Some before → Appends old new bytes
@@ -68,3 +75,42 @@ run_decides source source' sink sink' status input before run told written well 
       grown before sink.written sink'.written w.bytes written w.written,
       decides input w.bytes status (subst P same w.report),
     )
+
+-- a count that is 0 at the end didn't rise
+not_risen : (before after : ℕ) → Rose before after → after ≡ 0 → ⊥
+not_risen before after rose zero =
+    ⊎_elim (λ (more : before < after). omega (arith, more, zero)) (λ last. cc (sym zero ∙ last)) rose
+
+-- where a whole text has room, there is some left after a proper prefix of it
+room_left : (before bytes : List ℕ) (room : ℕ) (old new : Option (List ℕ)) (steady : Option ℕ) → old ≡ Some before
+    → steady ≡ Some room → length before + length bytes ≤ room → AppendsPart old new bytes → HasRoom new steady
+room_left before bytes room old new steady told stated fits part =
+    let written : List ℕ = before ++ take part.0 bytes in
+    let size : length (take part.0 bytes) ≡ part.0 = length-take-le part.0 bytes (omega (arith, part.1)) in
+    let short : length written < room = omega (arith, length-append before (take part.0 bytes), size, part.1, fits) in
+    subst (λ w. HasRoom w steady) (sym (grown before old new (take part.0 bytes) told part.2))
+    (subst (λ r. HasRoom (Some written) r) (sym stated) short)
+
+pub run_is_quiet : {S K : Type 0} (left : S → Option (List ℕ)) (reads : S → ℕ) (calm : S → Bool)
+    (text : K → Option (List ℕ)) (writes : K → ℕ) (room : K → Option ℕ)
+    → ((s : S) → IsTrue (calm s) → reads s ≡ 0) → ((s : K) → HasRoom (text s) (room s) → writes s ≡ 0)
+    → RunIsQuiet (source_state left reads calm) (sink_state text writes room)
+run_is_quiet left reads calm text writes room no_read no_write words source source' sink sink' status run = record {
+  read = λ steady fault.
+      let s = run.source_stands in
+      not_risen (reads source) (reads source') (run.read_fault fault)
+      (no_read source' (subst IsTrue (sym s.steady) steady));
+  written = λ before size told steady fault. let s = run.sink_stands in let p = run.part fault in record {
+    input = p.input;
+    told = p.told;
+    status = p.status;
+    bytes = p.bytes;
+    report = p.report;
+    long = ⊎_elim
+        (λ (long : size < length before + length p.bytes). long)
+        (λ (fits : length before + length p.bytes ≤ size).
+        absurd (not_risen (writes sink) (writes sink') (run.write_fault fault) (no_write sink'
+        (room_left before p.bytes size (text sink) (text sink') (room sink') told (s.steady ∙ steady) fits p.written))))
+        (cases_lt size (length before + length p.bytes));
+  };
+}

@@ -1,12 +1,13 @@
--- The main theorem: what `run` comes to with the word `decide`, unless a device fails or memory is wanting.
-use Rattle.std.specs.Prelude.{◌≡◌, ◌≢◌, ◌⊎◌, ℕ, List, [], ◌∷◌, ◌++◌, codes, Some}
+-- The main theorem: what `run` comes to with the word `decide`, unless a device fails or memory is wanting; and over
+-- which sources and sinks no fault comes.
+use Rattle.std.specs.Prelude.{◌≡◌, ◌≢◌, ◌⊎◌, ℕ, ◌+◌, ◌<◌, IsTrue, List, [], ◌∷◌, ◌++◌, length, codes, Some}
 use Rattle.spl_table.specs.TableText.{TableText}
 use Rattle.spl_table.specs.Refusal.{whole, IsTableText, IsRefusal}
 use Rattle.spl_table.specs.declared.refusal.Refusal.{Refusal}
 use Rattle.spl_cli.specs.declared.status.Status.{Status}
 use Rattle.spl_cli.specs.declared.status.Status.TheVariants.{Done, Refused, ReadFault, WriteFault, Memory}
-use Rattle.spl_cli.specs.Report.{refusal_text, IsDecided, IsUndecided}
-use Rattle.spl_cli.specs.Run.{SourceState, SinkState, IsRun}
+use Rattle.spl_cli.specs.Report.{refusal_text, IsDecided, IsUndecided, Report}
+use Rattle.spl_cli.specs.Run.{SourceState, SinkState, IsTold, IsRun}
 
 -- no device failed, and memory sufficed
 pub record RunsWell (status : Status) : Type 0 where
@@ -35,3 +36,27 @@ RunDecides = (source source' : SourceState) (sink sink' : SinkState) (status : S
     → IsRun (codes "decide" ∷ []) source source' sink sink' status
     → source.left ≡ Some input → sink.written ≡ Some before → RunsWell status
     → (bytes : List ℕ) × (sink'.written ≡ Some (before ++ bytes)) × DecidesInput input bytes status
+
+-- some report on the source's input is longer than what is left of the room after the bytes that are there before
+pub record HasLongReport (words : List (List ℕ)) (source : SourceState) (before : List ℕ) (room : ℕ) : Type 0 where
+  pub input : List ℕ
+  pub told : IsTold source input
+  pub status : Status
+  pub bytes : List ℕ
+  pub report : Report words input status bytes
+  pub long : room < length before + length bytes
+
+-- a run without faults, as far as its source and its sink allow
+pub record RunsQuietly (words : List (List ℕ)) (source : SourceState) (sink : SinkState) (status : Status)
+    : Type 0 where
+  -- over a source no call of which fails, no read fault comes
+  pub read : IsTrue source.steady → status ≢ ReadFault
+  -- over a sink that fails for want of room alone, a write fault comes only where a report is too long for it
+  pub written : (before : List ℕ) (room : ℕ) → sink.written ≡ Some before → sink.steady ≡ Some room
+      → status ≡ WriteFault → HasLongReport words source before room
+
+-- a run over sources and sinks of some types, by what they mean
+abbrev pub RunIsQuiet : {S K : Type 0} → (S → SourceState) → (K → SinkState) → Type 0
+RunIsQuiet {S} {K} source_of sink_of = (words : List (List ℕ)) (source source' : S) (sink sink' : K) (status : Status)
+    → IsRun words (source_of source) (source_of source') (sink_of sink) (sink_of sink') status
+    → RunsQuietly words (source_of source) (sink_of sink) status
