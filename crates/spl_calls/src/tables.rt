@@ -1,0 +1,173 @@
+// Calls on the table of a text.
+ghost use Rattle.theory_tables.specs.Structure.{IsAssociative};
+ghost use Rattle.theory_tables.specs.Algebras.{HasIdentity};
+ghost use Rattle.spl_table.specs.Table.{algebra_of, ops_of};
+
+use crate::fault::Fault;
+use crate::{algebras, show, small, texts};
+use spl_algebra::identity::One;
+use spl_centre::centre::{centre_fault, identity_or_refutation, trace_ideal};
+use spl_engine::decide::decide;
+use spl_evidence::evidence::Evidence;
+use spl_table::reader::read_table;
+use spl_table::refusal::{Kind, Refusal, TableFault};
+use spl_table::table::Table;
+use spl_table::triple::first_failed_triple;
+use std::alloc::{AllocError, Global};
+
+/// The name of a refusal's kind.
+fn name(kind: Kind) -> &'static str {
+    match kind {
+        Kind::TooLong => "TooLong",
+        Kind::NotText => "NotText",
+        Kind::Header => "Header",
+        Kind::FieldSize => "FieldSize",
+        Kind::FieldLaw { .. } => "FieldLaw",
+        Kind::Degree => "Degree",
+        Kind::Characteristic => "Characteristic",
+        Kind::EntryForm => "EntryForm",
+        Kind::EntryRange => "EntryRange",
+        Kind::EntryOrder => "EntryOrder",
+        Kind::ZeroDenominator => "ZeroDenominator",
+        Kind::PolyDegree => "PolyDegree",
+        Kind::NoEnd => "NoEnd",
+        Kind::AfterEnd => "AfterEnd",
+        Kind::NotBuilt => "NotBuilt",
+    }
+}
+
+/// The refusal.
+fn refusal(out: &mut Vec<u8>, refusal: Refusal) -> Result<(), Fault> {
+    show::word(out, "refused")?;
+    show::number(out, refusal.line)?;
+    show::word(out, name(refusal.kind))?;
+    match refusal.kind {
+        Kind::FieldLaw { element } => Ok(show::number(out, u32::from(element))?),
+        _ => Ok(()),
+    }
+}
+
+/// `first_failed_triple T`
+fn triple(alloc: Global, table: &Table, out: &mut Vec<u8>) -> Result<(), Fault> {
+    match first_failed_triple(alloc, table)? {
+        None => Ok(show::word(out, "none")?),
+        Some(t) => {
+            show::count(out, t.i)?;
+            show::count(out, t.j)?;
+            Ok(show::count(out, t.k)?)
+        }
+    }
+}
+
+/// `identity_or_refutation T`
+fn identity(alloc: Global, table: &Table, out: &mut Vec<u8>) -> Result<(), Fault> {
+    match identity_or_refutation(alloc, table.fractions(), table.algebra())? {
+        One::Refuted { .. } => Ok(show::word(out, "refuted")?),
+        One::Here { tuple } => {
+            show::word(out, "here")?;
+            Ok(show::vector(alloc, out, table.fractions(), tuple.as_slice())?)
+        }
+    }
+}
+
+/// `read_table T`: the field, the degree and the products of basis elements.
+fn contents(alloc: Global, table: &Table, out: &mut Vec<u8>) -> Result<(), Fault> {
+    small::shape(out, table.field())?;
+    show::count(out, table.degree())?;
+    algebras::products(alloc, table.fractions(), table.algebra(), out)
+}
+
+/// The dimension of the radical of the trace form, or `none`.
+fn radical(alloc: Global, table: &Table, out: &mut Vec<u8>) -> Result<(), Fault>
+    requires associative { IsAssociative (ops_of table.now) (algebra_of table.now) }
+    requires identity { HasIdentity (ops_of table.now) (algebra_of table.now).dim (algebra_of table.now).constants }
+{
+    match trace_ideal(alloc, table.fractions(), table.algebra())? {
+        Some(tuples) => Ok(show::count(out, tuples.len())?),
+        None => Ok(show::word(out, "none")?),
+    }
+}
+
+/// Whether the centre is larger than the multiples of the identity, and the dimension of the radical of the trace form.
+fn faults_with_identity(alloc: Global, table: &Table, out: &mut Vec<u8>) -> Result<(), Fault>
+    requires associative { IsAssociative (ops_of table.now) (algebra_of table.now) }
+    requires identity { HasIdentity (ops_of table.now) (algebra_of table.now).dim (algebra_of table.now).constants }
+{
+    let central = centre_fault(alloc, table.fractions(), table.algebra())?;
+    show::word(out, if central.is_some() { "central" } else { "none" })?;
+    radical(alloc, table, out)
+}
+
+/// `faults T`: `central` or `none`, and how many tuples `trace_ideal` has, or `none`.
+fn faults(alloc: Global, table: &Table, out: &mut Vec<u8>) -> Result<(), Fault> {
+    match first_failed_triple(alloc, table)? {
+        Some(_) => Ok(show::word(out, "not associative")?),
+        None => match identity_or_refutation(alloc, table.fractions(), table.algebra())? {
+            One::Refuted { .. } => Ok(show::word(out, "no identity")?),
+            One::Here { .. } => faults_with_identity(alloc, table, out),
+        },
+    }
+}
+
+/// The kind of the evidence, and how much of it there is.
+fn evidence(out: &mut Vec<u8>, evidence: Evidence) -> Result<(), Fault> {
+    match evidence {
+        Evidence::Triple { i, j, k } => {
+            show::word(out, "triple")?;
+            show::count(out, i)?;
+            show::count(out, j)?;
+            Ok(show::count(out, k)?)
+        }
+        Evidence::NoIdentity { left, right } => {
+            show::word(out, "noidentity")?;
+            show::count(out, left.len())?;
+            Ok(show::count(out, right.len())?)
+        }
+        Evidence::Central { tuple } => {
+            show::word(out, "central")?;
+            Ok(show::count(out, tuple.len())?)
+        }
+        Evidence::Ideal { tuples } => {
+            show::word(out, "ideal")?;
+            Ok(show::count(out, tuples.len())?)
+        }
+    }
+}
+
+/// `decide T`: the kind of the evidence, with the triple, the numbers of multipliers, the length of the tuple or the
+/// number of the tuples; `none` where there is none.
+fn decision(alloc: Global, table: &Table, out: &mut Vec<u8>) -> Result<(), Fault> {
+    match decide(alloc, table)? {
+        Some(found) => evidence(out, found),
+        None => Ok(show::word(out, "none")?),
+    }
+}
+
+/// The answer of a call on a table.
+fn on_table(alloc: Global, call: &str, table: &Table, out: &mut Vec<u8>) -> Result<(), Fault> {
+    match call {
+        "read_table" => contents(alloc, table, out),
+        "first_failed_triple" => triple(alloc, table, out),
+        "identity_or_refutation" => identity(alloc, table, out),
+        "faults" => faults(alloc, table, out),
+        "decide" => decision(alloc, table, out),
+        _ => Err(Fault::BadLine),
+    }
+}
+
+/// The answer of a call on the table of a text, or its refusal.
+pub(crate) fn call(
+    alloc: Global,
+    call: &str,
+    words: &[&str],
+    out: &mut Vec<u8>,
+) -> Result<(), Fault> {
+    let [text] = words else {
+        return Err(Fault::BadLine);
+    };
+    match read_table(alloc, texts::bytes_of(alloc, text)?.as_slice()) {
+        Ok(table) => on_table(alloc, call, &table, out),
+        Err(TableFault::Memory) => Err(Fault::Memory(AllocError)),
+        Err(TableFault::Refused { refusal: why }) => refusal(out, why),
+    }
+}
