@@ -16,3 +16,4 @@ pub mod PolynomialPlaces
 pub mod MatrixTraces
 pub mod MatrixPairs
 pub mod Isomorphisms
+pub mod FractionLattices

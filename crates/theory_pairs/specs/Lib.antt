@@ -6,3 +6,4 @@ pub mod DegreeElement
 pub mod PolynomialPlaces
 pub mod MatrixPair
 pub mod Isomorphism
+pub mod FractionLattices

@@ -16,6 +16,7 @@ pub mod corner_laws;
 pub mod degree_laws;
 pub mod dual_laws;
 pub mod example_laws;
+pub mod fraction_laws;
 pub mod isomorphism_laws;
 pub mod order_laws;
 pub mod place_laws;
