@@ -22,6 +22,8 @@ use Rattle.theory_rings.proofs.Polynomials.ElementLists.{values, at-values}
 use Rattle.theory_rings.proofs.Fractions.Fractions.{IsReduction, fraction_of_value}
 use Rattle.theory_rings.proofs.Fractions.Lowest.{polynomial_reduction, rational_functions, is_rational_functions}
 use Rattle.theory_spaces.specs.Module.{ModuleOn, AlgebraOn, module_of}
+use Rattle.theory_spaces.specs.Linear.{InSpan}
+use Rattle.theory_spaces.proofs.Linear.Spaces.{basis_of, coords_of, full_span}
 use Rattle.theory_lattices.specs.Degree.{DegreeOn}
 use Rattle.theory_lattices.specs.Members.{PolynomialsOf}
 use Rattle.theory_lattices.specs.Members as members
@@ -35,7 +37,8 @@ use Rattle.theory_lattices.proofs.Common.RationalMembers.{degree_of_polynomial, 
 use Rattle.theory_lattices.proofs.Common.RationalMembers.{polynomials_closed}
 use Rattle.theory_lattices.proofs.Common.CommonBasisExists.{IsFractionsOf, common_basis_exists}
 use Rattle.theory_lattices.proofs.Common.Intersections.{intersection_basis}
-use Rattle.theory_lattices.proofs.Duals.MiddleElements.{middle_or_flat, middle_exists}
+use Rattle.theory_lattices.proofs.Duals.MiddleElements.{middle_or_flat}
+use Rattle.theory_lattices.proofs.Duals.SelfDualOrders.{dual_vectors, middle_of_pair}
 use Rattle.theory_fractions.specs.FractionOps.{polynomial_of, rational_function, pair_of, fraction_ops}
 use Rattle.theory_fractions.specs.FractionLaws.{FractionsAreRational}
 use Rattle.theory_fractions.proofs.RationalFractions.{fractions_are_rational}
@@ -47,10 +50,10 @@ use Rattle.theory_places.proofs.FractionPlaces.{x_list, x_poly}
 use Rattle.theory_places.proofs.PolynomialFractions.{polynomial_of_denominator, denominator_of_polynomial}
 use Rattle.theory_pairs.specs.Isomorphism.{IsRingIso, IsDegreeAlong}
 use Rattle.theory_pairs.specs.FractionLattices.{IsPolynomialFraction, IsFractionDegree, FractionPolynomials}
-use Rattle.theory_pairs.specs.FractionLattices.{PolynomialLattice, LatticeAtInfinity}
+use Rattle.theory_pairs.specs.FractionLattices.{PolynomialLattice, LatticeAtInfinity, IsCommonBasis, SelfDualOrders}
 use Rattle.theory_pairs.specs.FractionLattices.{FractionsHaveDegree, FractionsHavePolynomials}
 use Rattle.theory_pairs.specs.FractionLattices.{FractionLatticesHaveCommonBasis, CommonBasisGivesMembers}
-use Rattle.theory_pairs.specs.FractionLattices.{DegreeCountOfOrders}
+use Rattle.theory_pairs.specs.FractionLattices.{DegreeCountOfOrders, CommonBasisHasDualVectors, OrdersHoldMiddleElement}
 use Rattle.theory_pairs.proofs.Isomorphisms.{back_hom, has_degree_along, polynomials_along}
 use Rattle.theory_pairs.proofs.Polynomials.{polynomials_have_fractions}
 use Rattle.theory_pairs.proofs.DegreeElements.{first_greatest, pair_natural, pair_element}
@@ -320,5 +323,30 @@ module _ {E : Type 0} (o : Ops E) (L : FieldLaws o) (M : FieldLaws (fraction_ops
             g.place g.within g.most;
         element = λ g. pair_element F K W p t.constant t.constant_hom s t.polynomials refl A n u v tr S b a B d G
             g.place g.within g.most;
-        middle = λ m. middle_exists F m K W p t.constant t.constant_hom s t.polynomials refl A n u v tr S b a B d G;
       }
+
+  -- a common basis of bases spans
+  basis_spans : {V : Type 0} (W : DegreeOn K.ring) (A : AlgebraOn K.ring V) (n : ℕ) (f e : ℕ → V)
+      (tr : V → Elem (fraction_ops o L))
+      → SelfDualOrders o L M W n A f e tr → (b : ℕ → V) (a : ℕ → ℤ)
+      → IsCommonBasis o L M W n (module_of A) f e b a → (x : V) → InSpan (module_of A) n b x
+  basis_spans W A n f e tr S b a B =
+      let N = module_of A in
+      full_span K N n (coords_of N n (basis_of N n e S.infinite_free S.infinite_spans)) n e b S.infinite_spans B.free
+
+  pub basis_has_dual_vectors : {V : Type 0} → CommonBasisHasDualVectors o L M V
+  basis_has_dual_vectors W is A n f e tr S b a B =
+      let t = fraction_polynomials W is in
+      dual_vectors F K W (IsPolynomialFraction o L M) t.constant t.constant_hom (power K.ring t.x) t.polynomials refl
+      A n (PolynomialLattice o L M W n (module_of A) f) (LatticeAtInfinity o L M W n (module_of A) e) tr S.pair b a B
+      (basis_spans W A n f e tr S b a B)
+
+  pub orders_hold_middle_element : {V : Type 0} → OrdersHoldMiddleElement o L M V
+  orders_hold_middle_element m W is A n f e tr S f1 e1 central enough bounded =
+      let N = module_of A in
+      let t = fraction_polynomials W is in
+      let C = coords_of N n (basis_of N n e S.infinite_free S.infinite_spans) in
+      let r = lattices_have_common_basis W is N n C f e S.finite_free S.infinite_free S.infinite_spans in
+      middle_of_pair F K W (IsPolynomialFraction o L M) t.constant t.constant_hom (power K.ring t.x) t.polynomials refl
+      A n (PolynomialLattice o L M W n N f) (LatticeAtInfinity o L M W n N e) tr S.pair r.0 r.1 r.2
+      (basis_spans W A n f e tr S r.0 r.1 r.2) m f1 e1 central enough bounded

@@ -69,10 +69,16 @@ module _ {E : Type 0} (o : Ops E) (L : FieldLaws o) (M : FieldLaws (fraction_ops
         IsMiddle w = Middle (fractions o L M) W A IsPolynomialFraction (PolynomialLattice (module_of A) f)
             (LatticeAtInfinity (module_of A) e) w
 
-        -- of a common basis b with degrees a and its dual vectors d: all degrees are 0, or there is such an element; the
-        -- greatest degree is at least 0, and where it is above 0, the product of the first basis vector of that degree
-        -- and its dual vector is such an element, of trace 1; and over a finite field there is one where both orders
-        -- hold 1, the centre of the algebra is the field of fractions and its dimension is 2 to 36
+        -- f and e are bases, and both lattices are orders that are their own duals for the trace
+        pub record SelfDualOrders (tr : V → Elem (fraction_ops o L)) : Type 0 where
+          pub finite_free : Independent (module_of A) n f
+          pub infinite_free : Independent (module_of A) n e
+          pub infinite_spans : (x : V) → InSpan (module_of A) n e x
+          pub pair : IsSelfDualPair tr
+
+        -- of a common basis b with degrees a and its dual vectors d: all degrees are 0, or there is such an element;
+        -- the greatest degree is at least 0, and where it is above 0, the product of the first basis vector of that
+        -- degree and its dual vector is such an element, of trace 1
         pub record DegreeCount (tr : V → Elem (fraction_ops o L)) (b : ℕ → V) (a : ℕ → ℤ) (d : ℕ → V) : Type 0 where
           pub count : ((w : V) × IsMiddle w) ⊎ ((i : ℕ) → i < n → a i ≡ pos 0)
           pub exists : 0 < n → FirstGreatest n a
@@ -80,9 +86,6 @@ module _ {E : Type 0} (o : Ops E) (L : FieldLaws o) (M : FieldLaws (fraction_ops
           pub element : (g : FirstGreatest n a) → pos 0 <ℤ a g.place
               → DegreeElement (fractions o L M) W A IsPolynomialFraction (PolynomialLattice (module_of A) f)
               (LatticeAtInfinity (module_of A) e) tr (A.◌⊗◌ (b g.place) (d g.place))
-          pub middle : Enumerated (Elem o) → PolynomialLattice (module_of A) f A.one
-              → LatticeAtInfinity (module_of A) e A.one
-              → ((x : V) → InSpan (module_of A) n b x) → Central A → 2 ≤ n → n ≤ 36 → (w : V) × IsMiddle w
 
   -- fractions have a degree
   abbrev pub FractionsHaveDegree : Type 0
@@ -116,3 +119,22 @@ module _ {E : Type 0} (o : Ops E) (L : FieldLaws o) (M : FieldLaws (fraction_ops
       → IsSelfDualPair W n A f e tr
       → (b : ℕ → V) (a : ℕ → ℤ) → IsCommonBasis W n (module_of A) f e b a
       → (d : ℕ → V) → DualVectors (fractions o L M) A tr n b d → DegreeCount W n A f e tr b a d
+
+  -- each common basis of two self-dual orders has dual vectors
+  abbrev pub CommonBasisHasDualVectors : Type 0 → Type 0
+  CommonBasisHasDualVectors V =
+      (W : DegreeOn (fractions o L M).ring) → IsFractionDegree W
+      → (A : AlgebraOn (fractions o L M).ring V) (n : ℕ) (f e : ℕ → V) (tr : V → Elem (fraction_ops o L))
+      → SelfDualOrders W n A f e tr
+      → (b : ℕ → V) (a : ℕ → ℤ) → IsCommonBasis W n (module_of A) f e b a
+      → (d : ℕ → V) × DualVectors (fractions o L M) A tr n b d
+
+  -- over a finite field, two self-dual orders that hold 1, of an algebra of dimension 2 to 36 whose centre is the field
+  -- of fractions, hold an element that is neither nilpotent nor a unit
+  abbrev pub OrdersHoldMiddleElement : Type 0 → Type 0
+  OrdersHoldMiddleElement V =
+      Enumerated (Elem o) → (W : DegreeOn (fractions o L M).ring) → IsFractionDegree W
+      → (A : AlgebraOn (fractions o L M).ring V) (n : ℕ) (f e : ℕ → V) (tr : V → Elem (fraction_ops o L))
+      → SelfDualOrders W n A f e tr
+      → PolynomialLattice W n (module_of A) f A.one → LatticeAtInfinity W n (module_of A) e A.one
+      → Central A → 2 ≤ n → n ≤ 36 → (w : V) × IsMiddle W n A f e w

@@ -3,7 +3,8 @@ ghost use Rattle.theory_rings.specs.Ops.{Ops, FieldLaws};
 ghost use Rattle.theory_fractions.specs.FractionOps.{fraction_ops};
 ghost use Rattle.theory_pairs.specs.FractionLattices.{FractionsHaveDegree, FractionsHavePolynomials};
 ghost use Rattle.theory_pairs.specs.FractionLattices.{FractionLatticesHaveCommonBasis, CommonBasisGivesMembers};
-ghost use Rattle.theory_pairs.specs.FractionLattices.{DegreeCountOfOrders};
+ghost use Rattle.theory_pairs.specs.FractionLattices.{DegreeCountOfOrders, CommonBasisHasDualVectors};
+ghost use Rattle.theory_pairs.specs.FractionLattices.{OrdersHoldMiddleElement};
 
 /// The degree of the numerator less that of the denominator is a degree of fractions. By it the polynomials, the
 /// fractions with denominator 1, are the combinations of powers of x with constants.
@@ -30,4 +31,14 @@ pub fn common_basis_gives_members<E, V>()
 /// The degree count of two orders that are their own duals for a trace, with its element.
 pub fn degree_count_of_orders<E, V>()
     ensures count { (o : Ops E) (L : FieldLaws o) (M : FieldLaws (fraction_ops o L)) → DegreeCountOfOrders o L M V }
+{}
+
+/// Each common basis of two orders by bases that are their own duals for a trace has dual vectors; and over a finite
+/// field, where both hold 1, the centre of the algebra is the field of fractions and its dimension is 2 to 36, both
+/// orders hold an element that is neither nilpotent nor a unit.
+pub fn self_dual_orders_over_fractions<E, V>()
+    ensures dual { (o : Ops E) (L : FieldLaws o) (M : FieldLaws (fraction_ops o L))
+        → CommonBasisHasDualVectors o L M V }
+    ensures middle { (o : Ops E) (L : FieldLaws o) (M : FieldLaws (fraction_ops o L))
+        → OrdersHoldMiddleElement o L M V }
 {}
