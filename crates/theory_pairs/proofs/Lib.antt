@@ -17,3 +17,4 @@ pub mod MatrixTraces
 pub mod MatrixPairs
 pub mod Isomorphisms
 pub mod FractionLattices
+pub mod TableCorners

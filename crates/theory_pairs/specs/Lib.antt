@@ -7,3 +7,4 @@ pub mod PolynomialPlaces
 pub mod MatrixPair
 pub mod Isomorphism
 pub mod FractionLattices
+pub mod TableCorner

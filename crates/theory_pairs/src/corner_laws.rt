@@ -1,6 +1,7 @@
 // Theorems on the corner eAe of an algebra A at an idempotent e.
 ghost use Rattle.std.specs.Prelude.{◌≡◌, ℕ};
 ghost use Rattle.theory_rings.specs.Ring.{RingOn, FieldOn};
+ghost use Rattle.theory_rings.specs.Ops.{Ops, FieldLaws};
 ghost use Rattle.theory_spaces.specs.Module.{ModuleOn, AlgebraOn, module_of};
 ghost use Rattle.theory_spaces.specs.Linear.{Basis, BasisOf};
 ghost use Rattle.theory_spaces.specs.Space.{SpaceOn};
@@ -11,6 +12,7 @@ ghost use Rattle.theory_lattices.specs.Degree.{DegreeOn};
 ghost use Rattle.theory_lattices.specs.SelfDual.{SelfDualPair, IntegralTrace};
 ghost use Rattle.theory_pairs.specs.Corner.{Corner, IsCorner, IdealOf, CornerConstants, CornerTable};
 ghost use Rattle.theory_pairs.specs.OwnDual.{IsOwnDual};
+ghost use Rattle.theory_pairs.specs.TableCorner.{TablesHaveCorners};
 
 use theory_spaces::algebra_laws::BasedAlgebra;
 
@@ -47,6 +49,12 @@ pub fn corner_by_constants<A: AlgebraAndSpace>()
     ensures table { (e : A.Vector) → A.algebra.◌⊗◌ e e ≡ e
         → (k : ℕ) (U : BasisOf (module_of A.algebra) k (InCorner A.algebra e)) (D : CornerConstants A.algebra e k U.vec)
         → (N : ModuleOn A.field.ring A.Part) (S : SpaceOn N k) → CornerTable A.field A.algebra e k U.vec D N S }
+{}
+
+/// Over a program's field, as that of the fractions, the corner of an idempotent of the algebra of a table is the
+/// algebra of a table too.
+pub fn tables_have_corners<E>()
+    ensures corner { (o : Ops E) (L : FieldLaws o) → TablesHaveCorners o L }
 {}
 
 /// An algebra with a basis, an idempotent of it, and the corner of the idempotent, however its elements are written.
