@@ -1,15 +1,15 @@
 -- The fractions over a program's field have the degree and the polynomials of the rational functions; so lattices over
 -- them have common bases, with their members, and self-dual orders the degree count.
-use Rattle.std.specs.Prelude.{◌≡◌, ℕ, zero, suc, ℤ, pos, ◌-ℤ◌, List, [], ◌∷◌}
+use Rattle.std.specs.Prelude.{◌≡◌, ℕ, zero, suc, ℤ, pos, ◌-ℤ◌, [], ◌∷◌}
 use Rattle.std.proofs.Common.{refl, sym, ◌∙◌, ap, ap₂, subst, arith}
 use Rattle.std.proofs.Math.Path.{fun_ext}
 use Rattle.std.proofs.lemmas.Int.{ints}
 use Rattle.std.proofs.lemmas.List.Elements.{All-nil, All-cons}
-use Rattle.theory_rings.specs.Ring.{RingOn, FieldOn, CommRingOn}
+use Rattle.theory_rings.specs.Ring.{FieldOn, CommRingOn}
 use Rattle.theory_rings.specs.Ops.{Ops, IsElem, FieldLaws}
 use Rattle.theory_rings.specs.Elements.{Elem, Elem-path, elements}
 use Rattle.theory_rings.specs.Homomorphism.{IsRingHom}
-use Rattle.theory_rings.specs.Polynomial.{Poly, coefficient, degree, constant_coefficients}
+use Rattle.theory_rings.specs.Polynomial.{Poly, degree, constant_coefficients}
 use Rattle.theory_rings.specs.Power.{power}
 use Rattle.theory_rings.specs.Sum.{at}
 use Rattle.theory_rings.specs.Fraction.{IsFractionField, IsLowest}
@@ -21,7 +21,7 @@ use Rattle.theory_rings.proofs.Polynomials.Bezout.{field_polynomials}
 use Rattle.theory_rings.proofs.Polynomials.ElementLists.{values, at-values}
 use Rattle.theory_rings.proofs.Fractions.Fractions.{IsReduction, fraction_of_value}
 use Rattle.theory_rings.proofs.Fractions.Lowest.{polynomial_reduction, rational_functions, is_rational_functions}
-use Rattle.theory_spaces.specs.Module.{ModuleOn, AlgebraOn, module_of}
+use Rattle.theory_spaces.specs.Module.{AlgebraOn, module_of}
 use Rattle.theory_spaces.specs.Linear.{InSpan}
 use Rattle.theory_spaces.proofs.Linear.Spaces.{basis_of, coords_of, full_span}
 use Rattle.theory_lattices.specs.Degree.{DegreeOn}
@@ -54,6 +54,8 @@ use Rattle.theory_pairs.specs.FractionLattices.{PolynomialLattice, LatticeAtInfi
 use Rattle.theory_pairs.specs.FractionLattices.{FractionsHaveDegree, FractionsHavePolynomials}
 use Rattle.theory_pairs.specs.FractionLattices.{FractionLatticesHaveCommonBasis, CommonBasisGivesMembers}
 use Rattle.theory_pairs.specs.FractionLattices.{DegreeCountOfOrders, CommonBasisHasDualVectors, OrdersHoldMiddleElement}
+use Rattle.theory_pairs.specs.FractionLattices.{CornerOfOrdersIsPair}
+use Rattle.theory_pairs.proofs.CornerDuals.{corner_pair}
 use Rattle.theory_pairs.proofs.Isomorphisms.{back_hom, has_degree_along, polynomials_along}
 use Rattle.theory_pairs.proofs.Polynomials.{polynomials_have_fractions}
 use Rattle.theory_pairs.proofs.DegreeElements.{first_greatest, pair_natural, pair_element}
@@ -350,3 +352,8 @@ module _ {E : Type 0} (o : Ops E) (L : FieldLaws o) (M : FieldLaws (fraction_ops
       middle_of_pair F K W (IsPolynomialFraction o L M) t.constant t.constant_hom (power K.ring t.x) t.polynomials refl
       A n (PolynomialLattice o L M W n N f) (LatticeAtInfinity o L M W n N e) tr S.pair r.0 r.1 r.2
       (basis_spans W A n f e tr S r.0 r.1 r.2) m f1 e1 central enough bounded
+
+  pub corner_of_orders : {V C : Type 0} → CornerOfOrdersIsPair o L M V C
+  corner_of_orders W A n f e tr S u idem f1 e1 B ι H =
+      corner_pair K W A u idem B ι H (IsPolynomialFraction o L M) (PolynomialLattice o L M W n (module_of A) f)
+      (LatticeAtInfinity o L M W n (module_of A) e) tr S f1 e1

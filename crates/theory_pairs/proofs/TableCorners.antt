@@ -10,7 +10,7 @@ use Rattle.theory_spaces.specs.Module.{ModuleOn, AlgebraOn, module_of}
 use Rattle.theory_spaces.specs.Linear.{BasisOf, comb}
 use Rattle.theory_spaces.specs.Space.{SpaceOn}
 use Rattle.theory_spaces.specs.Algebra.{InCorner}
-use Rattle.theory_spaces.specs.Tuples.{IsTuple, Tuple, constant, IsTableAlgebra}
+use Rattle.theory_spaces.specs.Tuples.{IsTuple, Tuple, constant}
 use Rattle.theory_spaces.proofs.Linear.Modules.{comb_congr}
 use Rattle.theory_spaces.proofs.Matrices.PairIndex.{pair-lt}
 use Rattle.theory_spaces.proofs.Tuples.Tables.{space_basis, table_mul, coord-table_mul}

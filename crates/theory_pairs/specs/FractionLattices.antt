@@ -2,7 +2,6 @@
 -- them, common bases, the members of both lattices, and the degree count of two self-dual orders. (Lang, Algebra,
 -- chapter IV; Stichtenoth, Algebraic Function Fields and Codes, section 1.2; Reiner, Maximal Orders, section 4.)
 use Rattle.std.specs.Prelude.{◌≡◌, ℕ, ◌<◌, ◌≤◌, ℤ, pos, ◌-ℤ◌, ◌≤ℤ◌, ◌<ℤ◌, ◌⊎◌, [], ◌∷◌}
-use Rattle.theory_rings.specs.Ring.{FieldOn}
 use Rattle.theory_rings.specs.Ops.{Ops, FieldLaws}
 use Rattle.theory_rings.specs.Elements.{Elem, elements}
 use Rattle.theory_rings.specs.Enumerated.{Enumerated}
@@ -19,6 +18,7 @@ use Rattle.theory_lattices.specs.Members.{PolynomialsOf, IntersectionBasis}
 use Rattle.theory_lattices.specs.SelfDual.{ClosedWeights, SelfDualPair, Middle, DualVectors}
 use Rattle.theory_fractions.specs.FractionOps.{fraction_ops}
 use Rattle.theory_places.specs.FractionPlaces.{fractions}
+use Rattle.theory_pairs.specs.Corner.{IsCorner}
 use Rattle.theory_pairs.specs.DegreeElement.{FirstGreatest, DegreeElement}
 
 module _ {E : Type 0} (o : Ops E) (L : FieldLaws o) (M : FieldLaws (fraction_ops o L)) where
@@ -138,3 +138,14 @@ module _ {E : Type 0} (o : Ops E) (L : FieldLaws o) (M : FieldLaws (fraction_ops
       → SelfDualOrders W n A f e tr
       → PolynomialLattice W n (module_of A) f A.one → LatticeAtInfinity W n (module_of A) e A.one
       → Central A → 2 ≤ n → n ≤ 36 → (w : V) × IsMiddle W n A f e w
+
+  -- the corner of an idempotent of both orders of a self-dual pair is a self-dual pair
+  abbrev pub CornerOfOrdersIsPair : Type 0 → Type 0 → Type 0
+  CornerOfOrdersIsPair V C =
+      (W : DegreeOn (fractions o L M).ring) (A : AlgebraOn (fractions o L M).ring V) (n : ℕ) (f e : ℕ → V)
+      (tr : V → Elem (fraction_ops o L))
+      → IsSelfDualPair W n A f e tr
+      → (u : V) → A.◌⊗◌ u u ≡ u → PolynomialLattice W n (module_of A) f u → LatticeAtInfinity W n (module_of A) e u
+      → (B : AlgebraOn (fractions o L M).ring C) (ι : C → V) → IsCorner A u B ι
+      → SelfDualPair (fractions o L M) W B IsPolynomialFraction (λ x. PolynomialLattice W n (module_of A) f (ι x))
+      (λ x. LatticeAtInfinity W n (module_of A) e (ι x)) (λ x. tr (ι x))

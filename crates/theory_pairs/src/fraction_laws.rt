@@ -4,7 +4,7 @@ ghost use Rattle.theory_fractions.specs.FractionOps.{fraction_ops};
 ghost use Rattle.theory_pairs.specs.FractionLattices.{FractionsHaveDegree, FractionsHavePolynomials};
 ghost use Rattle.theory_pairs.specs.FractionLattices.{FractionLatticesHaveCommonBasis, CommonBasisGivesMembers};
 ghost use Rattle.theory_pairs.specs.FractionLattices.{DegreeCountOfOrders, CommonBasisHasDualVectors};
-ghost use Rattle.theory_pairs.specs.FractionLattices.{OrdersHoldMiddleElement};
+ghost use Rattle.theory_pairs.specs.FractionLattices.{OrdersHoldMiddleElement, CornerOfOrdersIsPair};
 
 /// The degree of the numerator less that of the denominator is a degree of fractions. By it the polynomials, the
 /// fractions with denominator 1, are the combinations of powers of x with constants.
@@ -41,4 +41,10 @@ pub fn self_dual_orders_over_fractions<E, V>()
         → CommonBasisHasDualVectors o L M V }
     ensures middle { (o : Ops E) (L : FieldLaws o) (M : FieldLaws (fraction_ops o L))
         → OrdersHoldMiddleElement o L M V }
+{}
+
+/// The corner of an idempotent of two orders that are their own duals for a trace: so are their parts in it.
+pub fn corner_of_orders_over_fractions<E, V, C>()
+    ensures corner { (o : Ops E) (L : FieldLaws o) (M : FieldLaws (fraction_ops o L))
+        → CornerOfOrdersIsPair o L M V C }
 {}
