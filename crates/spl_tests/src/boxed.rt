@@ -80,7 +80,7 @@ impl<F: Field + Drop> Field for Boxed<F> {
     }
 }
 
-/// The row 1, 1, or the row 0, 1.
+/// The vector (1, 1), or the vector (0, 1).
 fn row<F: Field>(alloc: Global, f: &F, first: bool) -> Result<Vector<F>, NoMemory>
     ensures { IfOk result (IsTuple (F.ops f.now) 2) }
 {

@@ -13,6 +13,7 @@ pub mod PlaceResidues
 pub mod PolynomialFractions
 pub mod PulledBack
 pub mod FractionPlaces
+pub mod QuaternionAlgebra
 pub mod Quaternions
 pub mod QuaternionTables
 pub mod RamifiedPlaces

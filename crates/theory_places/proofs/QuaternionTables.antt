@@ -21,8 +21,8 @@ use Rattle.theory_orders.specs.Uniformizer.{UniformizerOn}
 use Rattle.theory_orders.specs.Ramified.{IsRamified}
 use Rattle.theory_orders.specs.Tables.{AreTuples, RamifiedTable}
 use Rattle.theory_places.specs.Quaternions.{tuple4, quaternion_table, quaternion_order, quaternion_radical}
-use Rattle.theory_places.proofs.Quaternions.{ap₄, quaternions, order_vectors, radical_vectors, NoSquareModulo}
-use Rattle.theory_places.proofs.Quaternions.{ramified_quaternions}
+use Rattle.theory_places.proofs.QuaternionAlgebra.{ap₄, quaternions, order_vectors, radical_vectors}
+use Rattle.theory_places.proofs.Quaternions.{NoSquareModulo, ramified_quaternions}
 
 -- the entry of a product, by a row of constants for each item of the first factor
 abbrev row_ex : Ex → Ex → Ex → Ex → Ex → Ex
