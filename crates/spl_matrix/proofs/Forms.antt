@@ -7,7 +7,7 @@ use Rattle.theory_rings.specs.Ops.{Ops, IsElem, FieldLaws}
 use Rattle.theory_rings.specs.Sum.{at}
 use Rattle.theory_tables.specs.Matrix.{entry}
 use Rattle.spl_matrix.specs.Elimination.{lead_of, reduced_by, pivoted_row, pivoted}
-use Rattle.theory_tables.specs.Echelon.{IsReduced}
+use Rattle.theory_tables.specs.Echelon.{IsReducedEchelon}
 use Rattle.theory_rings.proofs.Sums.Lists.{get_or-table}
 use Rattle.spl_matrix.proofs.Pivots.{pivoted_row-same}
 use Rattle.theory_tables.proofs.Rows.Terms.{add-zero, add-neg, mul-one, mul-zero, mul-inv, cond_yes, cond_no}
@@ -80,7 +80,7 @@ module _ {E : Type 0} (o : Ops E) (L : FieldLaws o) (h n : ℕ) (rows : List (Li
       (ap (o.mul (o.neg (entry o rows (source i) col))) inv_mul ∙ mul-one o L _ (neg_in (source i)))
       ∙ add-neg o L _ (rows_in (source i) col)
 
-  module _ (pivots : List ℕ) (r_is : length pivots ≡ r) (form : IsReduced o h rows pivots col) where
+  module _ (pivots : List ℕ) (r_is : length pivots ≡ r) (form : IsReducedEchelon o h rows pivots col) where
     places : (s : ℕ) → s < length (pivots ++ col ∷ [])
         → ((s < r) × (get_or (pivots ++ col ∷ []) s 0 ≡ get_or pivots s 0))
         ⊎ ((s ≡ r) × (get_or (pivots ++ col ∷ []) s 0 ≡ col))
@@ -151,7 +151,7 @@ module _ {E : Type 0} (o : Ops E) (L : FieldLaws o) (h n : ℕ) (rows : List (Li
           | inr high ↦ let e : j ≡ col = omega arith in ap (λ k. entry o new i k) e ∙ other_zero i i_in d
         ]
 
-    pub form_after : IsReduced o h new (pivots ++ col ∷ []) (col + 1)
+    pub form_after : IsReducedEchelon o h new (pivots ++ col ∷ []) (col + 1)
     form_after =
         let long : length (pivots ++ col ∷ []) ≡ length pivots + 1 = length_push pivots col in
         record {
@@ -185,8 +185,8 @@ module _ {E : Type 0} (o : Ops E) (L : FieldLaws o) (h n : ℕ) (rows : List (Li
 
 -- a column without a pivot
 pub form_skipped : {E : Type 0} (o : Ops E) (h : ℕ) (rows : List (List E)) (pivots : List ℕ) (col : ℕ)
-    → ((i : ℕ) → length pivots ≤ i → i < h → entry o rows i col ≡ o.zero) → IsReduced o h rows pivots col
-    → IsReduced o h rows pivots (col + 1)
+    → ((i : ℕ) → length pivots ≤ i → i < h → entry o rows i col ≡ o.zero) → IsReducedEchelon o h rows pivots col
+    → IsReducedEchelon o h rows pivots (col + 1)
 form_skipped o h rows pivots col none form = record {
   count = form.count;
   below = λ s s_in. omega (arith, form.below s);

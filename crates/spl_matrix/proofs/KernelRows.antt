@@ -12,7 +12,7 @@ use Rattle.theory_rings.proofs.Rings.Solver.{◌⊠◌, minus, unit, ring2}
 use Rattle.theory_rings.proofs.Sums.Lists.{length-table, get_or-table}
 use Rattle.theory_spaces.specs.Tuples.{IsTuple}
 use Rattle.theory_tables.specs.Matrix.{entry, IsMatrix}
-use Rattle.theory_tables.specs.Echelon.{IsReduced}
+use Rattle.theory_tables.specs.Echelon.{IsReducedEchelon}
 use Rattle.theory_tables.specs.Subspace.{InSpan, SameSpan, IsKilled, SpansKernel}
 use Rattle.spl_matrix.specs.Spanning.{IsPlace, kernel_item, AreKernelRows}
 use Rattle.theory_tables.proofs.Rows.Terms.{add-zero, add-neg, mul-zero, zero-mul, cond_yes, cond_no, cond_either}
@@ -83,7 +83,7 @@ module _ {E : Type 0} (o : Ops E) (L : FieldLaws o) where
       }
 
   module _ (w : ℕ) (rows : List (List E)) (pivots : List ℕ) (shape : IsMatrix o w rows)
-      (each : length pivots ≡ length rows) (form : IsReduced o (length rows) rows pivots w)
+      (each : length pivots ≡ length rows) (form : IsReducedEchelon o (length rows) rows pivots w)
       (places : List ℕ) (place : (j : ℕ) → j < w → IsPlace pivots j (get_or places j 0)) where
     -- one such vector for each column
     abbrev pub vectors : List (List E)

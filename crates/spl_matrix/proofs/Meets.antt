@@ -13,7 +13,7 @@ use Rattle.theory_spaces.specs.Tuples.{IsTuple}
 use Rattle.theory_spaces.proofs.Linear.Families.{join, join-below, join-above}
 use Rattle.theory_spaces.proofs.Tuples.Tuples.{at-table, IsTuple-table}
 use Rattle.theory_tables.specs.Matrix.{entry, IsMatrix}
-use Rattle.theory_tables.specs.Echelon.{IsReduced}
+use Rattle.theory_tables.specs.Echelon.{IsReducedEchelon}
 use Rattle.theory_tables.specs.Subspace.{InSpan, SameSpan, IsReducedBasis, SpansMeet}
 use Rattle.spl_matrix.specs.Spanning.{doubled_item, doubled, right_part}
 use Rattle.theory_tables.proofs.Rows.Terms.{add-zero, add-neg, mul-zero, zero-mul, cond_yes, cond_no, cond_either}
@@ -128,7 +128,7 @@ module _ {E : Type 0} (o : Ops E) (L : FieldLaws o) (w : ℕ) (a b : List (List 
       ∙ add-zero o L (combined o L a y j) (combined-elem o L w a b sa sb a sa y y_in j)
 
   module _ (rows : List (List E)) (pivots : List ℕ) (shape : IsMatrix o (w + w) rows)
-      (each : length pivots ≡ length rows) (form : IsReduced o (length rows) rows pivots (w + w))
+      (each : length pivots ≡ length rows) (form : IsReducedEchelon o (length rows) rows pivots (w + w))
       (same : SameSpan o (w + w) twice rows) (k : ℕ) (k_in : k ≤ length pivots)
       (below : (s : ℕ) → s < k → get_or pivots s 0 < w) (above : k < length pivots → w ≤ get_or pivots k 0) where
     abbrev common : List (List E)
@@ -165,7 +165,7 @@ module _ {E : Type 0} (o : Ops E) (L : FieldLaws o) (w : ℕ) (a b : List (List 
     shifted_at s s_in = get_or-table (length rows - k) (λ s. get_or pivots (k + s) 0 - w) s 0 s_in
 
     -- they are a basis in reduced row echelon form
-    common_form : IsReduced o (length common) common shifted w
+    common_form : IsReducedEchelon o (length common) common shifted w
     common_form =
         let lc = common_length in
         let ls = shifted_length in
@@ -356,7 +356,7 @@ pub meet_of : {E : Type 0} (o : Ops E) (L : FieldLaws o) (w : ℕ) (a b stacked 
     (pivots : List ℕ) (p n k : ℕ) → IsMatrix o w a → IsMatrix o w b
     → IsMatrix o w stacked → stacked ≡ a ++ b → p ≡ length a → IsMatrix o (w + w) twice
     → twice ≡ doubled o w p stacked → n ≡ w + w
-    → IsMatrix o n rows → length pivots ≡ length rows → IsReduced o (length rows) rows pivots n
+    → IsMatrix o n rows → length pivots ≡ length rows → IsReducedEchelon o (length rows) rows pivots n
     → SameSpan o n twice rows
     → k ≤ length pivots → ((s : ℕ) → s < k → get_or pivots s 0 < w) → (k < length pivots → w ≤ get_or pivots k 0)
     → found ≡ right_part o w k rows → IsReducedBasis o w found × SpansMeet o w found a b
@@ -370,7 +370,7 @@ meet_of {E} o L w a b stacked twice rows found pivots p n k sa sb stacked_shape 
     let twice_shape' = subst T twice_is' twice_shape in
     let N : ℕ → Type 0 = λ n. IsMatrix o n rows in
     let shape' = subst N n_is shape in
-    let R : ℕ → Type 0 = λ n. IsReduced o (length rows) rows pivots n in
+    let R : ℕ → Type 0 = λ n. IsReducedEchelon o (length rows) rows pivots n in
     let form' = subst R n_is form in
     let Q : ℕ → Type 0 = λ n. SameSpan o n twice rows in
     let U : List (List E) → Type 0 = λ m. SameSpan o (w + w) m rows in

@@ -6,7 +6,7 @@ use Rattle.theory_rings.specs.Sum.{table, at}
 use Rattle.theory_spaces.specs.Tuples.{IsTuple}
 use Rattle.theory_spaces.proofs.Tuples.Tuples.{at-table}
 use Rattle.theory_tables.specs.Matrix.{IsMatrix}
-use Rattle.theory_tables.specs.Echelon.{IsReduced}
+use Rattle.theory_tables.specs.Echelon.{IsReducedEchelon}
 use Rattle.theory_tables.specs.Subspace.{InSpan, SameSpan, IsReducedBasis, SpansSum}
 use Rattle.theory_tables.proofs.Rows.Spans.{combined, combined_congr}
 use Rattle.theory_tables.proofs.Rows.Stacks.{spans_sum}
@@ -15,7 +15,7 @@ use Rattle.spl_matrix.proofs.ReducedBases.{weights-pivot}
 module _ {E : Type 0} (o : Ops E) (L : FieldLaws o) where
   -- a vector is in the span where it is the combination by its items at the pivots
   combined_iff : (w : ℕ) (rows : List (List E)) (pivots : List ℕ) → IsMatrix o w rows → length pivots ≡ length rows
-      → IsReduced o (length rows) rows pivots w
+      → IsReducedEchelon o (length rows) rows pivots w
       → (v c : List E) → IsTuple o (length rows) c → ((s : ℕ) → s < length rows → at o c s ≡ at o v (get_or pivots s 0))
       → ((j : ℕ) → j < w → at o v j ≡ combined o L rows (at o c) j) ↔ InSpan o w rows v
   combined_iff w rows pivots shape each form v c c_tuple c_at = (
@@ -29,13 +29,13 @@ module _ {E : Type 0} (o : Ops E) (L : FieldLaws o) where
   pub contains_of : (w : ℕ) (rows : List (List E)) (v : List E) (x : IsReducedBasis o w rows) → IsTuple o w v
       → (rows' : List (List E)) (w' : ℕ) (pivots places : List ℕ) (c c' : List E) → rows' ≡ rows → w' ≡ w
       → places ≡ pivots → c' ≡ c
-      → length pivots ≡ length rows' → IsReduced o (length rows') rows' pivots w' → IsTuple o (length places) c
+      → length pivots ≡ length rows' → IsReducedEchelon o (length rows') rows' pivots w' → IsTuple o (length places) c
       → c ≡ table (length places) (λ s. at o v (get_or places s 0))
       → (b : Bool) → (IsTrue b ↔ ((j : ℕ) → j < length v → at o v j ≡ combined o L rows' (at o c') j))
       → IsTrue b ↔ InSpan o w rows v
   contains_of w rows v x tuple rows' w' pivots places c c' rows_is w_is places_is c_is each form c_tuple c_at b h =
-      let W : ℕ → Type 0 = λ w. IsReduced o (length rows') rows' pivots w in
-      let R : List (List E) → Type 0 = λ m. IsReduced o (length m) m pivots w in
+      let W : ℕ → Type 0 = λ w. IsReducedEchelon o (length rows') rows' pivots w in
+      let R : List (List E) → Type 0 = λ m. IsReducedEchelon o (length m) m pivots w in
       let form' = subst R rows_is (subst W w_is form) in
       let same_height = ap length rows_is in
       let same_count = ap length places_is in

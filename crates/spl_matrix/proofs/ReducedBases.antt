@@ -9,7 +9,7 @@ use Rattle.theory_rings.proofs.Rings.Elements.{at-elem, sum_of_congr}
 use Rattle.theory_spaces.specs.Tuples.{IsTuple}
 use Rattle.theory_spaces.proofs.Tuples.Tuples.{IsTuple-ext}
 use Rattle.theory_tables.specs.Matrix.{entry, IsMatrix}
-use Rattle.theory_tables.specs.Echelon.{IsReduced}
+use Rattle.theory_tables.specs.Echelon.{IsReducedEchelon}
 use Rattle.theory_tables.specs.Subspace.{InSpan, SameSpan, IsReducedBasis, AreIndependent, SameSubspaceSameRows}
 use Rattle.theory_tables.specs.Subspace.{ReducedBasisIsIndependent}
 use Rattle.spl_matrix.specs.Spanning.{IsLeadingPlace}
@@ -46,7 +46,7 @@ AreAmong p q = (s : ℕ) → s < length p → (t : ℕ) × (t < length q) × (ge
 
 module _ {E : Type 0} (o : Ops E) (L : FieldLaws o) where
   module _ (w : ℕ) (rows : List (List E)) (shape : IsMatrix o w rows) (pivots : List ℕ)
-      (each : length pivots ≡ length rows) (form : IsReduced o (length rows) rows pivots w) where
+      (each : length pivots ≡ length rows) (form : IsReducedEchelon o (length rows) rows pivots w) where
     -- the weight of a row stands at its pivot
     pub combined-pivot : (c : ℕ → E) → ((i : ℕ) → IsElem o (c i)) → (s : ℕ) → s < length rows
         → combined o L rows c (get_or pivots s 0) ≡ c s
@@ -205,7 +205,7 @@ module _ {E : Type 0} (o : Ops E) (L : FieldLaws o) where
   pub leading_pivots : (w : ℕ) (rows : List (List E)) (x : IsReducedBasis o w rows) (p : List ℕ)
       → length p ≡ length rows
       → ((k : ℕ) → k < length rows → IsLeadingPlace o (get_or rows k []) (get_or p k 0))
-      → IsReduced o (length rows) rows p w
+      → IsReducedEchelon o (length rows) rows p w
   leading_pivots w rows x p long leads =
       let each = x.each in
       let e : length x.pivots ≡ length p = omega arith in
@@ -225,5 +225,5 @@ module _ {E : Type 0} (o : Ops E) (L : FieldLaws o) where
       same)
       (cases_lt (get_or p k 0) (get_or x.pivots k 0)))
       (cases_lt (get_or x.pivots k 0) (get_or p k 0))) in
-      let P : List ℕ → Type 0 = λ ps. IsReduced o (length rows) rows ps w in
+      let P : List ℕ → Type 0 = λ ps. IsReducedEchelon o (length rows) rows ps w in
       subst P is x.reduced

@@ -11,7 +11,7 @@ use Rattle.theory_spaces.proofs.Tuples.Tuples.{IsTuple-table}
 use Rattle.theory_tables.specs.Matrix.{entry, product, IsMatrix}
 use Rattle.spl_matrix.specs.Elimination.{lead_of, reduced_by, pivoted_row, pivoted, IsStep, Combines, IsEliminated}
 use Rattle.spl_matrix.specs.Elimination.{augmented_item, augmented, columns}
-use Rattle.theory_tables.specs.Echelon.{IsReduced, IsEchelon, IsInvertible}
+use Rattle.theory_tables.specs.Echelon.{IsReducedEchelon, IsEchelon, IsInvertible}
 use Rattle.theory_tables.specs.Subspace.{SameSpan}
 use Rattle.spl_matrix.proofs.Combinations.{sum_of-mul_delta, Combines-refl, Combines-trans, pivoted_forth, pivoted_back}
 use Rattle.spl_matrix.proofs.Forms.{form_after, form_skipped}
@@ -35,7 +35,7 @@ module _ {E : Type 0} (o : Ops E) (L : FieldLaws o) where
       (λ j _. L.add-elem _ _ (rows_in source j)
       (L.mul-elem _ _ (L.neg-elem _ (rows_in source col)) (at-elem o L lead lead_tuple.of_elements j)))))
 
-  start_form : (h : ℕ) (rows : List (List E)) → IsReduced o h rows [] 0
+  start_form : (h : ℕ) (rows : List (List E)) → IsReducedEchelon o h rows [] 0
   start_form h rows = record {
     count = omega arith;
     below = λ s s_in. absurd (omega arith);
@@ -134,8 +134,8 @@ module _ {E : Type 0} (o : Ops E) (L : FieldLaws o) where
       let e : 0 + j ≡ j = omega arith in
       entry_columns h 0 n rows i j i_in j_in ∙ ap (entry o rows i) e
 
-  form_left : (h w : ℕ) (rows : List (List E)) (pivots : List ℕ) → IsReduced o h rows pivots w
-      → IsReduced o h (columns o h 0 w rows) pivots w
+  form_left : (h w : ℕ) (rows : List (List E)) (pivots : List ℕ) → IsReducedEchelon o h rows pivots w
+      → IsReducedEchelon o h (columns o h 0 w rows) pivots w
   form_left h w rows pivots form = record {
     count = form.count;
     below = form.below;
@@ -213,7 +213,7 @@ module _ {E : Type 0} (o : Ops E) (L : FieldLaws o) where
     rows_height = ap length left_is ∙ length-table h _;
     transform_shape = transform_shape;
     transform_height = ap length transform_is ∙ length-table h _;
-    reduced = let Q = λ (m : List (List E)). IsReduced o h m pivots w in
+    reduced = let Q = λ (m : List (List E)). IsReducedEchelon o h m pivots w in
         subst Q (sym left_is) (form_left h w rows pivots e.reduced);
     makes =
         ap (λ t. product o h h w t a) transform_is

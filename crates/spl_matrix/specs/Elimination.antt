@@ -4,7 +4,7 @@ use Rattle.std.specs.Prelude.{nat_lt}
 use Rattle.theory_rings.specs.Ops.{Ops, IsElem}
 use Rattle.theory_rings.specs.Sum.{sum_of, table, at}
 use Rattle.theory_tables.specs.Matrix.{entry, IsMatrix}
-use Rattle.theory_tables.specs.Echelon.{IsReduced}
+use Rattle.theory_tables.specs.Echelon.{IsReducedEchelon}
 
 module _ {E : Type 0} (o : Ops E) where
   -- the row divided by its item in column col
@@ -76,6 +76,6 @@ module _ {E : Type 0} (o : Ops E) where
   pub record IsEliminated (h n w : ℕ) (rows rows' : List (List E)) (pivots : List ℕ) : Type 0 where
     pub shape : IsMatrix o n rows'
     pub height : length rows' ≡ h
-    pub reduced : IsReduced o h rows' pivots w
+    pub reduced : IsReducedEchelon o h rows' pivots w
     pub forth : Combines h n rows rows'
     pub back : Combines h n rows' rows

@@ -4,7 +4,7 @@ ghost use Rattle.theory_rings.specs.Ops.{IsElem};
 ghost use Rattle.theory_rings.specs.Sum.{sum_of, table, at};
 ghost use Rattle.theory_spaces.specs.Tuples.{IsTuple};
 ghost use Rattle.theory_tables.specs.Matrix.{entry, IsMatrix};
-ghost use Rattle.theory_tables.specs.Echelon.{IsReduced};
+ghost use Rattle.theory_tables.specs.Echelon.{IsReducedEchelon};
 ghost use Rattle.theory_tables.specs.Subspace.{SameSpan, IsReducedBasis};
 ghost use Rattle.spl_matrix.specs.Spanning.{IsLeadingPlace};
 
@@ -25,7 +25,7 @@ pub(crate) fn basis_of<F: Field>(
     requires shape { IsMatrix (F.ops f.now) w rows.now }
     ensures shape { IfOk result (λ r. IsMatrix (F.ops f.now) w r.rows) }
     ensures each { IfOk result (λ r. length r.pivots ≡ length r.rows) }
-    ensures reduced { IfOk result (λ r. IsReduced (F.ops f.now) (length r.rows) r.rows r.pivots w) }
+    ensures reduced { IfOk result (λ r. IsReducedEchelon (F.ops f.now) (length r.rows) r.rows r.pivots w) }
     ensures same { IfOk result (λ r. SameSpan (F.ops f.now) w rows.now r.rows) }
 {
     let Reduced { mut rows, pivots } = reduced_rows(alloc, f, w, rows)?;
@@ -57,7 +57,7 @@ pub(crate) fn pivots_of<F: Field>(
 ) -> Result<Indices, NoMemory>
     requires { IsReducedBasis (F.ops f.now) w rows.now }
     ensures each { IfOk result (λ p. length p ≡ length rows.now) }
-    ensures reduced { IfOk result (λ p. IsReduced (F.ops f.now) (length rows.now) rows.now p w) }
+    ensures reduced { IfOk result (λ p. IsReducedEchelon (F.ops f.now) (length rows.now) rows.now p w) }
 {
     let zero = f.zero(alloc)?;
     let mut pivots = List::new(alloc);

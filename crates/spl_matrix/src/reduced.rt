@@ -3,7 +3,7 @@ ghost use Rattle.std.specs.Prelude.{◌≡◌, ◌<◌, ℕ, List, [], length, I
 ghost use Rattle.theory_rings.specs.Ops.{IsElem};
 ghost use Rattle.theory_spaces.specs.Tuples.{IsTuple};
 ghost use Rattle.theory_tables.specs.Matrix.{IsMatrix};
-ghost use Rattle.theory_tables.specs.Echelon.{IsReduced};
+ghost use Rattle.theory_tables.specs.Echelon.{IsReducedEchelon};
 ghost use Rattle.theory_tables.specs.Subspace.{SameSpan};
 
 use crate::elimination::eliminate;
@@ -46,7 +46,7 @@ pub(crate) fn reduced_rows<F: Field>(
     requires shape { IsMatrix (F.ops f.now) w rows.now }
     ensures shape { IfOk result (λ r. IsMatrix (F.ops f.now) w r.rows) }
     ensures height { IfOk result (λ r. length r.rows ≡ length rows.now) }
-    ensures reduced { IfOk result (λ r. IsReduced (F.ops f.now) (length rows.now) r.rows r.pivots w) }
+    ensures reduced { IfOk result (λ r. IsReducedEchelon (F.ops f.now) (length rows.now) r.rows r.pivots w) }
     ensures same { IfOk result (λ r. SameSpan (F.ops f.now) w rows.now r.rows) }
 {
     let mut changed = rows_of(alloc, f, w, rows)?;

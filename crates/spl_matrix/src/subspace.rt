@@ -3,7 +3,7 @@ ghost use Rattle.std.specs.Prelude.{◌≡◌, ◌<◌, ◌≤◌, ◌↔◌, �
 ghost use Rattle.theory_rings.specs.Ops.{IsElem};
 ghost use Rattle.theory_spaces.specs.Tuples.{IsTuple};
 ghost use Rattle.theory_tables.specs.Matrix.{IsMatrix};
-ghost use Rattle.theory_tables.specs.Echelon.{IsReduced};
+ghost use Rattle.theory_tables.specs.Echelon.{IsReducedEchelon};
 ghost use Rattle.theory_tables.specs.Subspace.{InSpan, SameSpan, IsReducedBasis, IsSubspace, SpansSum, SpansMeet};
 
 use crate::basis::{basis_of, gathered, is_combination, pivots_of};

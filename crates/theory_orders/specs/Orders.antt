@@ -51,8 +51,8 @@ module _ {K V : Type 0} {R : RingOn K} (A : AlgebraOn R V) where
   abbrev pub Inverse : (V → Type 0) → (V → Type 0) → V → Type 0
   Inverse = sets.Inverse (ring_ops A.ring)
 
-  abbrev pub IsInvertible : (V → Type 0) → (V → Type 0) → Type 0
-  IsInvertible = sets.IsInvertible (ring_ops A.ring)
+  abbrev pub IsInvertibleIdeal : (V → Type 0) → (V → Type 0) → Type 0
+  IsInvertibleIdeal = sets.IsInvertibleIdeal (ring_ops A.ring)
 
   abbrev pub OnlyMaximalIdeal : K → (V → Type 0) → (V → Type 0) → Type 0
   OnlyMaximalIdeal = sets.OnlyMaximalIdeal (ring_ops A.ring) A.◌•◌

@@ -62,7 +62,7 @@ pub record IsSymmetric {K V : Type 0} (f : V → V → K) : Type 0 where
   pub symmetric : (x y : V) → f x y ≡ f y x
 
 -- a middle factor can go to either argument
-pub record IsAssociative {K V : Type 0} {R : RingOn K} (A : AlgebraOn R V) (f : V → V → K) : Type 0 where
+pub record IsInvariant {K V : Type 0} {R : RingOn K} (A : AlgebraOn R V) (f : V → V → K) : Type 0 where
   pub associative : (x y z : V) → f (A.◌⊗◌ x y) z ≡ f x (A.◌⊗◌ y z)
 
 -- the trace of the product

@@ -133,7 +133,7 @@ module _ {V : Type 0} (S : RingOps V) where
     pub generates : (a : V) → L a → J a ⊎ Generated L J a one
 
   -- M is invertible: its products with its inverse from both sides are L
-  pub record IsInvertible (L M : V → Type 0) : Type 0 where
+  pub record IsInvertibleIdeal (L M : V → Type 0) : Type 0 where
     pub left : Same (Products (Inverse L M) M) L
     pub right : Same (Products M (Inverse L M)) L
 
@@ -162,6 +162,6 @@ module _ {K V : Type 0} (S : RingOps V) (scale : K → V → V) where
     pub maximal : IsMaximalIdealOver p L M
     pub only : (t : V → Bool) → IsMaximalIdealOver p L (Test t) → Same (Test t) M
     pub radical : Radical p L M
-    pub invertible : IsInvertible S L M
+    pub invertible : IsInvertibleIdeal S L M
     pub exponent : ℕ
     pub power : Same (Power S M exponent) (Multiple p L)

@@ -4,7 +4,7 @@ ghost use Rattle.theory_rings.specs.Ring.{FieldOn};
 ghost use Rattle.theory_spaces.specs.Module.{ModuleOn, module_of};
 ghost use Rattle.theory_spaces.specs.Linear.{comb, InSpan, Independent, Basis, BasisOf};
 ghost use Rattle.theory_spaces.specs.Matrix.{delta, mat_mul};
-ghost use Rattle.theory_spaces.specs.Form.{IsBilinear, IsSymmetric, IsAssociative, IsNondegenerate, NondegenerateOrNot};
+ghost use Rattle.theory_spaces.specs.Form.{IsBilinear, IsSymmetric, IsInvariant, IsNondegenerate, NondegenerateOrNot};
 ghost use Rattle.theory_spaces.specs.Form.{flip, gram, transpose, InRadical, Orthogonal, DualBasis, OrthogonalBasis};
 ghost use Rattle.theory_spaces.specs.Form.{trace_form};
 
@@ -69,5 +69,5 @@ pub fn radical_of_form<B: FormOn>()
 pub fn trace_forms<A: BasedAlgebra>()
     ensures bilinear { IsBilinear (module_of A.algebra) (trace_form A.algebra A.dimension A.basis) }
     ensures symmetric { IsSymmetric (trace_form A.algebra A.dimension A.basis) }
-    ensures associative { IsAssociative A.algebra (trace_form A.algebra A.dimension A.basis) }
+    ensures associative { IsInvariant A.algebra (trace_form A.algebra A.dimension A.basis) }
 {}

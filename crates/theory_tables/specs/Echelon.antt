@@ -5,7 +5,7 @@ use Rattle.theory_tables.specs.Inverse.{IsInverse}
 use Rattle.theory_tables.specs.Matrix.{entry, product, IsMatrix}
 
 -- the first col columns of the h rows are in reduced row echelon form, with these pivots
-pub record IsReduced {E : Type 0} (o : Ops E) (h : ℕ) (rows : List (List E)) (pivots : List ℕ) (col : ℕ) : Type 0 where
+pub record IsReducedEchelon {E : Type 0} (o : Ops E) (h : ℕ) (rows : List (List E)) (pivots : List ℕ) (col : ℕ) : Type 0 where
   -- as many leading rows as pivots
   pub count : length pivots ≤ h
   -- the pivots are columns, and go up
@@ -31,6 +31,6 @@ pub record IsEchelon {E : Type 0} (o : Ops E) (h w : ℕ) (a rows : List (List E
   pub rows_height : length rows ≡ h
   pub transform_shape : IsMatrix o h transform
   pub transform_height : length transform ≡ h
-  pub reduced : IsReduced o h rows pivots w
+  pub reduced : IsReducedEchelon o h rows pivots w
   pub makes : product o h h w transform a ≡ rows
   pub invertible : IsInvertible o h transform

@@ -4,7 +4,7 @@ use Rattle.theory_rings.specs.Ops.{Ops}
 use Rattle.theory_rings.specs.Sum.{sum_of, at}
 use Rattle.theory_spaces.specs.Tuples.{IsTuple}
 use Rattle.theory_tables.specs.Matrix.{entry, IsMatrix}
-use Rattle.theory_tables.specs.Echelon.{IsReduced}
+use Rattle.theory_tables.specs.Echelon.{IsReducedEchelon}
 
 -- what contracts see of a subspace: the length of its vectors, and its basis
 pub record Rows (E : Type 0) : Type 0 where
@@ -26,7 +26,7 @@ module _ {E : Type 0} (o : Ops E) where
     pub shape : IsMatrix o w rows
     pub pivots : List ℕ
     pub each : length pivots ≡ length rows
-    pub reduced : IsReduced o (length rows) rows pivots w
+    pub reduced : IsReducedEchelon o (length rows) rows pivots w
 
   abbrev pub IsSubspace : Rows E → Type 0
   IsSubspace s = IsReducedBasis s.width s.rows

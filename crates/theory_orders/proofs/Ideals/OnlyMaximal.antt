@@ -14,7 +14,7 @@ use Rattle.theory_spaces.proofs.Matrices.PairIndex.{pair-lt, row-lt, column-lt}
 use Rattle.theory_orders.specs.Uniformizer.{UniformizerOn}
 use Rattle.theory_orders.specs.Orders.{IsOrder, IsIdeal, SumOf, Product, Products, Power, Multiple, WordProduct}
 use Rattle.theory_orders.specs.Orders.{Generated, Radical, LeftOrder, Inverse, SimpleByElements, IsMaximalIdeal}
-use Rattle.theory_orders.specs.Orders.{IsInvertible, OnlyMaximalIdeal, Within, Same, Test}
+use Rattle.theory_orders.specs.Orders.{IsInvertibleIdeal, OnlyMaximalIdeal, Within, Same, Test}
 use Rattle.theory_orders.specs.Lattices.{Lattice, IsOrderAt, NothingGrows}
 use Rattle.theory_orders.specs.Ramified.{IsRamified}
 use Rattle.theory_orders.proofs.Lattices.SumsOf.{SumOf_in, SumOf_zero, SumOf_one, SumOf_add, SumOf_left, SumOf_right}
@@ -165,7 +165,7 @@ module _ {K V : Type 0} (F : FieldOn K) (Z : ValuationOn F) (p q : K) (U : Unifo
           SumOf_one A (Product A X J) (q • v)
           (q • d.0, d.1, carries d.0 d.2, d.3, ap (λ z. q • z) d.4 ∙ sym (A.scale-left q d.0 d.1)))
 
-      invertible : IsInvertible A L J
+      invertible : IsInvertibleIdeal A L J
       invertible = record {
         left = (
           SumOf_in A (Product A X J) L O.zero_in O.add_in (λ x w. subst L (sym w.4) (w.2 w.1 w.3)),

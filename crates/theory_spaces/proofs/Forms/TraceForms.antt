@@ -5,7 +5,7 @@ use Rattle.theory_rings.specs.Ring.{CommRingOn}
 use Rattle.theory_spaces.specs.Module.{AlgebraOn, module_of}
 use Rattle.theory_spaces.specs.Linear.{Basis}
 use Rattle.theory_spaces.specs.Algebra.{trace}
-use Rattle.theory_spaces.specs.Form.{IsBilinear, IsSymmetric, IsAssociative, trace_form}
+use Rattle.theory_spaces.specs.Form.{IsBilinear, IsSymmetric, IsInvariant, trace_form}
 use Rattle.theory_spaces.proofs.Forms.Traces.{trace_comm, trace-add, trace-scale}
 
 module _ {K V : Type 0} (C : CommRingOn K) (A : AlgebraOn C.ring V) (n : ℕ) (B : Basis (module_of A) n) where
@@ -23,5 +23,5 @@ module _ {K V : Type 0} (C : CommRingOn K) (A : AlgebraOn C.ring V) (n : ℕ) (B
   pub trace_form_symmetric : IsSymmetric (trace_form A n B)
   trace_form_symmetric = record { symmetric = trace_comm C A n B }
 
-  pub trace_form_associative : IsAssociative A (trace_form A n B)
+  pub trace_form_associative : IsInvariant A (trace_form A n B)
   trace_form_associative = record { associative = λ x y z. ap (trace A n B) (A.mul_assoc x y z) }

@@ -8,12 +8,12 @@ use Rattle.theory_rings.specs.Ops.{Ops, FieldLaws}
 use Rattle.theory_rings.specs.Sum.{at}
 use Rattle.theory_spaces.specs.Tuples.{IsTuple}
 use Rattle.theory_tables.specs.Matrix.{entry, IsMatrix}
-use Rattle.theory_tables.specs.Echelon.{IsReduced}
+use Rattle.theory_tables.specs.Echelon.{IsReducedEchelon}
 use Rattle.theory_tables.specs.Subspace.{SameSpan}
 use Rattle.theory_tables.proofs.Rows.Spans.{InSpan_congr, InSpan-zero, InSpan-member, SameSpan-by}
 
 module _ {E : Type 0} (o : Ops E) (L : FieldLaws o) (w : ℕ) (rows : List (List E)) (pivots : List ℕ)
-    (shape : IsMatrix o w rows) (form : IsReduced o (length rows) rows pivots w) where
+    (shape : IsMatrix o w rows) (form : IsReducedEchelon o (length rows) rows pivots w) where
   abbrev pub kept : List (List E)
   kept = take (length pivots) rows
 
@@ -26,7 +26,7 @@ module _ {E : Type 0} (o : Ops E) (L : FieldLaws o) (w : ℕ) (rows : List (List
   kept_at : (i j : ℕ) → i < length pivots → entry o kept i j ≡ entry o rows i j
   kept_at i j i_in = ap (λ (row : List E). at o row j) (get_or-take (length pivots) rows i [] i_in)
 
-  pub kept_form : IsReduced o (length kept) kept pivots w
+  pub kept_form : IsReducedEchelon o (length kept) kept pivots w
   kept_form =
       let long = kept_length in
       let count = form.count in
