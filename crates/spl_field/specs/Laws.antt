@@ -1,5 +1,6 @@
 -- The laws of a field, for tables of the sums and the products of the numbers below q: 0 is the zero and 1 the one.
 use Rattle.std.specs.Prelude.{◌≡◌, ◌≢◌, ℕ, ◌*◌, ◌<◌, ◌≤◌, List, length}
+use Rattle.theory_rings.specs.Triples.{ComesBefore}
 use Rattle.spl_field.specs.Tables.{entry_at, AreElements}
 use Rattle.spl_field.specs.declared.laws.Law.{Law}
 use Rattle.spl_field.specs.declared.laws.Law.TheVariants.{SumAssociative, SumCommutative, Zero, Negative}
@@ -93,14 +94,15 @@ module _ (q : ℕ) (sum product : List ℕ) where
     pub mul-add : (a b c : ℕ) → a < q → b < q → c < q → mul a (add b c) ≡ add (mul a b) (mul a c)
     pub inverse : (a : ℕ) → a < q → a ≢ 0 → HasInverse a
 
+  -- the law at a and b, whatever c is
+  abbrev pub HoldsAtPair : Law → ℕ → ℕ → Type 0
+  HoldsAtPair law a b = (c : ℕ) → c < third_below q law → HoldsAt law a b c
+
   -- c is the first at which the law fails with a and b
   pub record FailsFirstAt (law : Law) (a b c : ℕ) : Type 0 where
     pub within : c < third_below q law
     pub fails : HoldsAt law a b c → ⊥
     pub before : (z : ℕ) → z < c → HoldsAt law a b z
-
-  abbrev pub HoldsAtPair : Law → ℕ → ℕ → Type 0
-  HoldsAtPair law a b = (c : ℕ) → c < third_below q law → HoldsAt law a b c
 
   -- b and c are the first at which the law fails with a
   pub record FailsFirstAtPair (law : Law) (a b c : ℕ) : Type 0 where
@@ -108,13 +110,16 @@ module _ (q : ℕ) (sum product : List ℕ) where
     pub third : FailsFirstAt law a b c
     pub before : (y : ℕ) → y < b → HoldsAtPair law a y
 
-  -- a, b and c are the first, in lexicographic order, at which the law fails
+  -- (a, b, c) is the least triple, in lexicographic order, at which the law fails
   pub record FailsFirst (law : Law) (a b c : ℕ) : Type 0 where
-    pub within : a < q
-    pub pair : FailsFirstAtPair law a b c
-    pub before : (x y : ℕ) → x < a → y < second_below q law → HoldsAtPair law x y
+    pub a_below : a < q
+    pub b_below : b < second_below q law
+    pub c_below : c < third_below q law
+    pub fails : HoldsAt law a b c → ⊥
+    pub least : (x y z : ℕ) → x < q → y < second_below q law → z < third_below q law → ComesBefore x y z a b c
+        → HoldsAt law x y z
 
-  -- the first law that fails, and where it does so first
+  -- the first law that fails, and the least triple at which it does
   pub record IsFirstFailure (at : LawAt) : Type 0 where
     pub law : Law
     pub number : at.law ≡ number_of law

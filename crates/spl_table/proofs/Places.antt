@@ -5,7 +5,8 @@ use Rattle.std.specs.Prelude.{IfSome}
 use Rattle.std.proofs.lemmas.Bool.{cases_lt, cases_order}
 use Rattle.std.proofs.lemmas.Nat.{mul-add-lt, div-mul-add, mod-mul-add}
 use Rattle.std.proofs.Math.Nat.{mul_comm}
-use Rattle.spl_table.specs.TableText.{Entry, Head, IsInRange, IsAfter, dimension_of, ComesBefore}
+use Rattle.theory_rings.specs.Triples.{ComesBefore}
+use Rattle.spl_table.specs.TableText.{Entry, Head, IsInRange, IsAfter, dimension_of}
 use Rattle.spl_table.specs.Reading.{place_of, next_of, IsPrevious}
 
 -- the place of the triple (i, j, k), counted from 0

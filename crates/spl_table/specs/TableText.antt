@@ -1,8 +1,9 @@
 -- The text of a table: what such a text says, how it is spelled, and which texts are well formed. Each text says one
 -- thing, since a number has one spelling.
-use Rattle.std.specs.Prelude.{◌≡◌, ◌≢◌, ◌⊎◌, ℕ, ◌*◌, ◌^◌, ◌%◌, ◌<◌, ◌≤◌, ◌==◌, ◌&&◌, if◌then◌else◌, List, [], ◌∷◌, ◌++◌}
+use Rattle.std.specs.Prelude.{◌≡◌, ◌≢◌, ℕ, ◌*◌, ◌^◌, ◌%◌, ◌<◌, ◌≤◌, ◌==◌, ◌&&◌, if◌then◌else◌, List, [], ◌∷◌, ◌++◌}
 use Rattle.std.specs.Prelude.{length, codes, decimal, Option, Some, None}
 use Rattle.std.specs.List.{flat_map, AllByRecursion}
+use Rattle.theory_rings.specs.Triples.{ComesBefore}
 use Rattle.spl_field.specs.FieldByDigits.{IsAdmitted}
 use Rattle.spl_text.specs.Text.{FractionText, IsFractionText, IsNumber, fraction_text, numbers_text, line}
 
@@ -93,10 +94,6 @@ pub record IsInRange (h : Head) (e : Entry) : Type 0 where
   pub k_low : 1 ≤ e.k
   pub k_high : e.k ≤ dimension_of h
   pub elements : AllByRecursion (AllByRecursion (λ c. c < size_of h)) (lists_of e.value)
-
--- (i, j, k) comes before (i', j', k') in lexicographic order
-abbrev pub ComesBefore : ℕ → ℕ → ℕ → ℕ → ℕ → ℕ → Type 0
-ComesBefore i j k i' j' k' = (i < i') ⊎ ((i ≡ i') × ((j < j') ⊎ ((j ≡ j') × (k < k'))))
 
 -- the triple is greater than that of the entry before, where there is one
 abbrev pub IsAfter : Option Entry → Entry → Type 0

@@ -1,8 +1,8 @@
 -- The first triple of basis elements at which an algebra fails to be associative.
 use Rattle.std.specs.Prelude.{ℕ, ◌+◌, ◌-◌, ◌<◌, ◌≤◌}
 use Rattle.theory_rings.specs.Ops.{Ops}
+use Rattle.theory_rings.specs.Triples.{ComesBefore}
 use Rattle.theory_tables.specs.Structure.{Structure, AssociatesAt}
-use Rattle.spl_table.specs.TableText.{ComesBefore}
 use Rattle.spl_table.specs.declared.triple.Triple.{Triple}
 
 module _ {E : Type 0} (o : Ops E) (A : Structure E) where

@@ -18,3 +18,4 @@ pub mod Evaluation
 pub mod PolynomialLaws
 pub mod Frobenius
 pub mod Enumerated
+pub mod Triples
