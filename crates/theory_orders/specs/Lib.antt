@@ -3,7 +3,6 @@ pub mod Orders
 pub mod Lattices
 pub mod Dual
 pub mod Ramified
-pub mod Tables
 pub mod OrderLaws
 pub mod DualLaws
 pub mod MaximalIdealLaws

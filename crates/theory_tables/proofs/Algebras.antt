@@ -1,5 +1,6 @@
 -- Algebras by structure constants as algebras.
 pub mod Bridge
+pub mod SpannedIdeals
 pub mod CentralSimple
 pub mod TraceRadical
 pub mod Exclusions

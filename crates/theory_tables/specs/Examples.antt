@@ -2,6 +2,7 @@
 -- square root of p, which is ramified at p.
 use Rattle.std.specs.Prelude.{List, [], ◌∷◌, ◌++◌}
 use Rattle.theory_rings.specs.Ops.{Ops}
+use Rattle.theory_tables.specs.Structure.{Structure}
 
 -- the 2 by 2 matrices with the basis b_1 = E_11, b_2 = E_12, b_3 = E_21 and b_4 = E_22, where E_rs has one at row r and
 -- column s, and else zero
@@ -31,9 +32,12 @@ module _ {E : Type 0} (o : Ops E) where
       ++ (row_21 ++ (row_22 ++ (row_zero ++ (row_zero
       ++ (row_zero ++ (row_zero ++ (row_21 ++ row_22))))))))))))))
 
-  -- those of the 2 by 2 matrices
-  abbrev pub matrix_table : List E
-  matrix_table = matrix_table_with o.one
+  abbrev pub matrix_structure_with : E → Structure E
+  matrix_structure_with c = record { dim = 4; constants = matrix_table_with c }
+
+  -- the algebra of the 2 by 2 matrices
+  abbrev pub matrix_structure : Structure E
+  matrix_structure = matrix_structure_with o.one
 
   -- the tuples of the basis
   abbrev pub matrix_basis : List (List E)
@@ -55,8 +59,11 @@ abbrev pub pair : {E : Type 0} → E → E → List E
 pair a b = a ∷ (b ∷ [])
 
 module _ {E : Type 0} (o : Ops E) (p : E) where
-  abbrev pub root_table : List E
-  root_table = pair o.one o.zero ++ (pair o.zero o.one ++ (pair o.zero o.one ++ pair p o.zero))
+  abbrev pub root_structure : Structure E
+  root_structure = record {
+    dim = 2;
+    constants = pair o.one o.zero ++ (pair o.zero o.one ++ (pair o.zero o.one ++ pair p o.zero));
+  }
 
   abbrev pub root_order : List (List E)
   root_order = pair o.one o.zero ∷ (pair o.zero o.one ∷ [])

@@ -1,7 +1,9 @@
 pub mod Structure
+pub mod Conditions
 pub mod Algebras
 pub mod Traces
 pub mod Split
+pub mod Ramified
 pub mod Claims
 pub mod Laws
 pub mod Examples

@@ -1,8 +1,10 @@
--- An algebra over a field by its structure constants, and the law of associativity on its basis.
+-- An algebra over a field by its structure constants, with its operations on tuples, and the law of associativity on its
+-- basis.
 -- (Reiner, Maximal Orders, section 1a.)
 use Rattle.std.specs.Prelude.{◌≡◌, ℕ, ◌*◌, ◌<◌, List}
 use Rattle.theory_rings.specs.Ops.{Ops}
-use Rattle.theory_spaces.specs.Tuples.{IsTuple, product, basis}
+use Rattle.theory_spaces.specs.Sets.{RingOps}
+use Rattle.theory_spaces.specs.Tuples.{IsTuple, tuple_zero, tuple_add, tuple_neg, product, basis}
 
 -- a dimension m and m³ constants: the one for the basis elements i, j and k, counted from 0, stands at (i·m + j)·m + k
 pub record Structure (E : Type 0) : Type 0 where
@@ -21,6 +23,16 @@ module _ {E : Type 0} (o : Ops E) (A : Structure E) where
   -- at k the sum over i and j of a_i·b_j·γ_ijk
   abbrev pub product_of : List E → List E → List E
   product_of a b = product o A.dim A.constants a b
+
+  -- the operations of the algebra on the tuples that stand for its elements, by which sets of elements are ideals and
+  -- have products and powers (theory_spaces/specs/Sets)
+  abbrev pub tuple_ops : RingOps (List E)
+  tuple_ops = record {
+    zero = tuple_zero o A.dim;
+    add = tuple_add o A.dim;
+    neg = tuple_neg o A.dim;
+    mul = product_of;
+  }
 
   -- the basis element i
   abbrev pub basis_of : ℕ → List E

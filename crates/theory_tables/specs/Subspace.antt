@@ -17,6 +17,10 @@ module _ {E : Type 0} (o : Ops E) where
   InSpan w rows v = (c : List E) × IsTuple o (length rows) c
       × ((j : ℕ) → j < w → at o v j ≡ sum_of o (length rows) (λ i. o.mul (at o c i) (entry o rows i j)))
 
+  -- the set of the tuples that are combinations of the rows
+  abbrev pub Combinations : ℕ → List (List E) → List E → Type 0
+  Combinations w rows v = IsTuple o w v × InSpan w rows v
+
   -- two matrices with w columns have the same combinations
   abbrev pub SameSpan : ℕ → List (List E) → List (List E) → Type 0
   SameSpan w a b = (v : List E) → IsTuple o w v → (InSpan w a v ↔ InSpan w b v)

@@ -1,20 +1,27 @@
-// What the claims of evidence stand on: the radical of the trace form, what makes an algebra central simple, and what
-// each claim excludes, for an algebra of any dimension by structure constants in any field.
-ghost use Rattle.std.specs.Prelude.{ℕ, List};
+// What the claims of evidence stand on: spans that are ideals, the radical of the trace form, what makes an algebra
+// central simple, and what each claim excludes, for an algebra of any dimension by structure constants in any field.
 ghost use Rattle.theory_rings.specs.Ops.{Ops, FieldLaws};
-ghost use Rattle.theory_tables.specs.Laws.{TraceRadicalLaw, CentralSimpleByTraceForm, ClaimsExcludeCentralSimple};
+ghost use Rattle.theory_tables.specs.Structure.{Structure};
+ghost use Rattle.theory_tables.specs.Laws.{IdealByBasis, TraceRadicalLaw, CentralSimpleByTraceForm};
+ghost use Rattle.theory_tables.specs.Laws.{ClaimsExcludeCentralSimple};
+
+/// Tuples span a two-sided ideal exactly where their products with the basis elements from both sides are combinations
+/// of them.
+pub fn ideal_by_basis<E>()
+    ensures ideal { (o : Ops E) → FieldLaws o → (A : Structure E) → IdealByBasis o A }
+{}
 
 /// The radical of the trace form of an associative algebra, which need not have an identity, is a two-sided ideal, the
 /// kernel of the matrix of the form. It holds each nilpotent ideal, and no identity where the dimension is not 0 in the
 /// field.
 pub fn trace_radical_is_an_ideal<E>()
-    ensures radical { (o : Ops E) → FieldLaws o → (m : ℕ) (cs : List E) → TraceRadicalLaw o m cs }
+    ensures radical { (o : Ops E) → FieldLaws o → (A : Structure E) → TraceRadicalLaw o A }
 {}
 
 /// An associative algebra whose centre is the multiples of an identity, and whose trace form is nondegenerate, is
 /// central simple.
 pub fn central_simple_by_trace_form<E>()
-    ensures simple { (o : Ops E) → FieldLaws o → (m : ℕ) (cs : List E) → CentralSimpleByTraceForm o m cs }
+    ensures simple { (o : Ops E) → FieldLaws o → (A : Structure E) → CentralSimpleByTraceForm o A }
 {}
 
 /// Two products of three basis elements that differ exclude that the algebra is associative, multipliers that refute
@@ -22,5 +29,5 @@ pub fn central_simple_by_trace_form<E>()
 /// small centre, and fewer than m tuples that span an ideal, at least one and independent, exclude a central simple
 /// algebra.
 pub fn claims_exclude_central_simple<E>()
-    ensures excludes { (o : Ops E) → FieldLaws o → (m : ℕ) (cs : List E) → ClaimsExcludeCentralSimple o m cs }
+    ensures excludes { (o : Ops E) → FieldLaws o → (A : Structure E) → ClaimsExcludeCentralSimple o A }
 {}

@@ -2,7 +2,7 @@
 -- and independent rows; the algebra of a table, with its trace, ideals and centre.
 use Rattle.std.specs.Prelude.{◌≡◌, ℕ, ◌+◌, ◌*◌, ◌<◌, List, [], length, get_or, cond, nat_eq}
 use Rattle.std.specs.List.{All}
-use Rattle.std.proofs.Common.{refl, sym, ◌∙◌, ap, ap₂, subst, inl, inr, ⊎_elim}
+use Rattle.std.proofs.Common.{refl, sym, ◌∙◌, ap, subst, inl, inr, ⊎_elim}
 use Rattle.theory_rings.specs.Ring.{RingOn, FieldOn}
 use Rattle.theory_rings.specs.Ops.{Ops, IsElem, FieldLaws}
 use Rattle.theory_rings.specs.Elements.{Elem, Elem-path, elements}
@@ -14,20 +14,22 @@ use Rattle.theory_spaces.specs.Matrix.{delta}
 use Rattle.theory_spaces.specs.Linear.{comb, InSpan, Independent, Basis, IsLinear}
 use Rattle.theory_spaces.specs.Algebra.{trace, IdealSpan, Central, CentralSimple}
 use Rattle.theory_spaces.proofs.Algebras.Ideals.{span_ideal}
-use Rattle.theory_spaces.proofs.Linear.Modules.{map-comb, InSpan-comb, left_linear, right_linear}
+use Rattle.theory_spaces.proofs.Linear.Modules.{map-comb, InSpan-comb}
 use Rattle.theory_spaces.proofs.Tuples.TupleProducts.{tuple_algebra, tuple_algebra_is, one-product, product-one}
 use Rattle.theory_spaces.proofs.Tuples.TupleProducts.{product_comm_of_basis}
 use Rattle.theory_spaces.specs.Space.{SpaceOn, sum2}
-use Rattle.theory_spaces.specs.Tuples.{IsTuple, Tuple, tuple_scale, basis, constant, product, AssociativeTable}
+use Rattle.theory_spaces.specs.Tuples.{IsTuple, Tuple, tuple_scale, basis, constant, product}
 use Rattle.theory_spaces.specs.Tuples.{IsTableOne, IsTableAlgebra}
 use Rattle.theory_spaces.proofs.Tuples.Tables.{coord-sum, coord-unit, space_basis, space_basis-coord}
 use Rattle.theory_spaces.proofs.Tuples.Tuples.{at-table, IsTuple-is_tuple, is_tuple-IsTuple, IsTuple-table, IsTuple-ext}
 use Rattle.theory_spaces.proofs.Tuples.Tuples.{Tuple-path, make, tuples, tuple_space, tuples-zero, unit-basis}
 use Rattle.theory_tables.specs.Matrix.{entry, IsMatrix}
 use Rattle.theory_tables.specs.Subspace as rows_of
+use Rattle.theory_tables.specs.Subspace.{Combinations}
+use Rattle.theory_tables.specs.Structure.{Structure, IsAssociative}
 use Rattle.theory_tables.proofs.Rows.Terms.{cond_either}
 use Rattle.theory_tables.proofs.Rows.Sums.{entry-elem, mul-sum_of, sum_of-delta_mul}
-use Rattle.theory_tables.proofs.Rows.Spans.{InSpan-by}
+use Rattle.theory_tables.proofs.Rows.Spans.{InSpan-by, InSpan-member}
 use Rattle.theory_tables.specs.Algebras.{IsCentral, HasSmallCentre, SpansIdeal, IsCentralSimple}
 use Rattle.theory_tables.specs.Traces.{trace as list_trace}
 
@@ -183,9 +185,15 @@ map_span M N f h n v x s k w each =
     subst P (sym (ap f s.combines ∙ map-comb M N f h n s.weights v)) (InSpan-comb N n k s.weights (λ i. f (v i)) w each)
 
 -- the algebra of an associative table with an identity
-module _ {E : Type 0} (o : Ops E) (L : FieldLaws o) (m : ℕ) (cs : List E) (constants : All (IsElem o) cs)
-    (assoc : AssociativeTable o m cs)
-    (one : List E) (is_one : IsTableOne o m cs one) where
+module _ {E : Type 0} (o : Ops E) (L : FieldLaws o) (T : Structure E) (constants : All (IsElem o) T.constants)
+    (assoc : IsAssociative o T)
+    (one : List E) (is_one : IsTableOne o T.dim T.constants one) where
+  abbrev m : ℕ
+  m = T.dim
+
+  abbrev cs : List E
+  cs = T.constants
+
   abbrev pub algebra : AlgebraOn (elements o L).ring (Tuple o m)
   algebra = tuple_algebra o L m cs constants one is_one assoc
 
@@ -210,7 +218,7 @@ module _ {E : Type 0} (o : Ops E) (L : FieldLaws o) (m : ℕ) (cs : List E) (con
   coord-is x j j_in = ap (λ (c : Elem o). c.0) (space_basis-coord (tuples o L m) m (tuple_space o L m) x j j_in)
 
   -- the trace by the basis
-  pub trace-is : (x : Tuple o m) → (trace algebra m table_basis x).0 ≡ list_trace o m cs x.0
+  pub trace-is : (x : Tuple o m) → (trace algebra m table_basis x).0 ≡ list_trace o T x.0
   trace-is x =
       sym (sum_of-elements o L m (λ j. table_basis.coord (algebra.◌⊗◌ x (table_basis.vec j)) j))
       ∙ sum_of_congr o m (λ j. (table_basis.coord (algebra.◌⊗◌ x (table_basis.vec j)) j).0)
@@ -218,14 +226,8 @@ module _ {E : Type 0} (o : Ops E) (L : FieldLaws o) (m : ℕ) (cs : List E) (con
       coord-is (algebra.◌⊗◌ x (table_basis.vec j)) j j_in
       ∙ ap (λ xs. at o xs j) (algebra_is.product-is x (table_basis.vec j) ∙ ap (product o m cs x.0) (vec-is j)))
 
-  abbrev A : ModuleOn (elements o L).ring (Tuple o m)
-  A = module_of algebra
-
-  in_basis : (x : Tuple o m) → InSpan A m table_basis.vec x
-  in_basis x = record { weights = table_basis.coord x; combines = table_basis.expand x }
-
   -- rows that span an ideal
-  module _ (rows : List (List E)) (ideal : SpansIdeal o m cs rows) where
+  module _ (rows : List (List E)) (ideal : SpansIdeal o T rows) where
     abbrev pub ideal_row : ℕ → Tuple o m
     ideal_row = row o L m rows ideal.shape
 
@@ -237,25 +239,19 @@ module _ {E : Type 0} (o : Ops E) (L : FieldLaws o) (m : ℕ) (cs : List E) (con
 
     pub to_ideal : IdealSpan algebra (length rows) ideal_row
     to_ideal = span_ideal algebra (length rows) ideal_row
-        (λ i i_in x. map_span A A (λ z. algebra.◌⊗◌ z (ideal_row i))
-        (right_linear algebra (ideal_row i)) m table_basis.vec x
-        (in_basis x) (length rows) ideal_row (λ k k_in.
-        row_span (algebra.◌⊗◌ (table_basis.vec k) (ideal_row i)) (product o m cs (basis o m k) (get_or rows i []))
-        (algebra_is.product-is (table_basis.vec k) (ideal_row i)
-        ∙ ap₂ (product o m cs) (vec-is k) (row-is o L m rows ideal.shape i i_in))
-        (ideal.left k i k_in i_in)))
-        (λ i i_in x. map_span A A (λ z. algebra.◌⊗◌ (ideal_row i) z)
-        (left_linear algebra (ideal_row i)) m table_basis.vec x
-        (in_basis x) (length rows) ideal_row (λ k k_in.
-        row_span (algebra.◌⊗◌ (ideal_row i) (table_basis.vec k)) (product o m cs (get_or rows i []) (basis o m k))
-        (algebra_is.product-is (ideal_row i) (table_basis.vec k)
-        ∙ ap₂ (product o m cs) (row-is o L m rows ideal.shape i i_in) (vec-is k))
-        (ideal.right k i k_in i_in)))
-
-    -- the span is closed under products with all tuples from the right
-    pub ideal_right : (x : Tuple o m) → rows_of.InSpan o m rows x.0 → (y : Tuple o m)
-        → InSpan (module_of algebra) (length rows) ideal_row (algebra.◌⊗◌ x y)
-    ideal_right x h y = to_ideal.right y x tt (row_span x x.0 refl h)
+        (λ i i_in x. row_span (algebra.◌⊗◌ x (ideal_row i)) (product o m cs x.0 (ideal_row i).0)
+        (algebra_is.product-is x (ideal_row i))
+        (ideal.ideal.left x.0 (ideal_row i).0 (IsTuple-of o L m x) (member i i_in)).1)
+        (λ i i_in x. row_span (algebra.◌⊗◌ (ideal_row i) x) (product o m cs (ideal_row i).0 x.0)
+        (algebra_is.product-is (ideal_row i) x)
+        (ideal.ideal.right x.0 (ideal_row i).0 (IsTuple-of o L m x) (member i i_in)).1)
+      where
+        member : (i : ℕ) → i < length rows → Combinations o m rows (ideal_row i).0
+        member i i_in =
+            let P : List E → Type 0 = rows_of.InSpan o m rows in (
+              IsTuple-of o L m (ideal_row i),
+              subst P (sym (row-is o L m rows ideal.shape i i_in)) (InSpan-member o L m rows ideal.shape i i_in),
+            )
 
     pub list_span : (x : Tuple o m) → InSpan (module_of algebra) (length rows) ideal_row x → rows_of.InSpan o m rows x.0
     unfolding tuple_algebra
@@ -270,7 +266,7 @@ module _ {E : Type 0} (o : Ops E) (L : FieldLaws o) (m : ℕ) (cs : List E) (con
   multiple-is c = algebra_is.scale-is c algebra.one ∙ ap (tuple_scale o m c.0) one-is
 
   -- the multiples of one and the central elements
-  pub to_is_central : (x : Tuple o m) → ((y : Tuple o m) → algebra.◌⊗◌ x y ≡ algebra.◌⊗◌ y x) → IsCentral o m cs x.0
+  pub to_is_central : (x : Tuple o m) → ((y : Tuple o m) → algebra.◌⊗◌ x y ≡ algebra.◌⊗◌ y x) → IsCentral o T x.0
   to_is_central x comm = record {
     tuple = IsTuple-of o L m x;
     commutes = λ i _.
@@ -279,7 +275,7 @@ module _ {E : Type 0} (o : Ops E) (L : FieldLaws o) (m : ℕ) (cs : List E) (con
         ∙ algebra_is.product-is b x ∙ ap (λ xs. product o m cs xs x.0) (vec-is i);
   }
 
-  pub to_central : HasSmallCentre o m cs → Central algebra
+  pub to_central : HasSmallCentre o T → Central algebra
   to_central h = record {
     multiple = λ x comm.
         let q = h.multiple x.0 (to_is_central x comm) in
@@ -290,7 +286,7 @@ module _ {E : Type 0} (o : Ops E) (L : FieldLaws o) (m : ℕ) (cs : List E) (con
         );
   }
 
-  pub from_central : Central algebra → HasSmallCentre o m cs
+  pub from_central : Central algebra → HasSmallCentre o T
   from_central h = record {
     one = one;
     is_one = is_one;
@@ -308,7 +304,7 @@ module _ {E : Type 0} (o : Ops E) (L : FieldLaws o) (m : ℕ) (cs : List E) (con
   }
 
   -- the table of a central simple algebra is that of one
-  pub from_central_simple : CentralSimple algebra → IsCentralSimple o m cs
+  pub from_central_simple : CentralSimple algebra → IsCentralSimple o T
   from_central_simple h = record {
     associative = assoc;
     centre = from_central h.central;

@@ -11,20 +11,23 @@ use Rattle.theory_rings.proofs.Rings.Elements.{at-elem, sum_of-elements, sum_of_
 use Rattle.theory_rings.proofs.Rings.Solver.{◌⊞◌, ◌⊠◌, ring5}
 use Rattle.theory_spaces.specs.Matrix.{delta}
 use Rattle.theory_spaces.specs.Space.{sum2}
-use Rattle.theory_spaces.specs.Tuples.{IsTuple, tuple_scale, basis, product, constant}
+use Rattle.theory_spaces.specs.Tuples.{tuple_scale, basis, product, constant}
 use Rattle.theory_spaces.proofs.Matrices.Matrices.{sum-mul_delta}
 use Rattle.theory_spaces.proofs.Linear.Dimension.{exchange}
 use Rattle.theory_spaces.proofs.Tuples.Tables.{unit, units_independent, sum2_congr, mul-sum2}
 use Rattle.theory_spaces.proofs.Tuples.Tuples.{at-table, IsTuple-table, tuples, tuple_space}
 use Rattle.theory_spaces.proofs.Tuples.TupleProducts.{IsTuple-basis, scale-product}
 use Rattle.theory_tables.specs.Matrix.{entry}
+use Rattle.theory_tables.specs.Structure.{Structure, IsOver}
+use Rattle.theory_tables.specs.Conditions.{multiplier_at}
 use Rattle.theory_tables.proofs.Rows.Terms as terms
 use Rattle.theory_tables.proofs.Rows.Sums.{sum_of_zeros}
 use Rattle.theory_tables.specs.Algebras.{HasIdentity, HasSmallCentre, IsCentralSimple, AreZero, SpansAll}
-use Rattle.theory_tables.specs.Claims.{multiplier_at, NoIdentityClaim, CentralClaim, IdealClaim}
+use Rattle.theory_tables.specs.Claims.{NoIdentityClaim, CentralClaim, IdealClaim}
 use Rattle.theory_tables.specs.Laws.{ClaimsExcludeCentralSimple}
 use Rattle.theory_tables.proofs.Algebras.Bridge.{sum2_of-elements, IsTuple-of, basis-at, row, to_span, product_basis-at}
 use Rattle.theory_tables.proofs.Algebras.Bridge.{basis_product-at}
+use Rattle.theory_tables.proofs.Algebras.SpannedIdeals.{spans_ideal}
 
 -- multipliers l and r of the equations Σ_i e_i·a_ijk = δ_kj and Σ_i e_i·b_ijk = δ_kj that make their left sides 0 make
 -- their right sides 0
@@ -69,23 +72,29 @@ module _ {E : Type 0} (o : Ops E) where
       terms.cond_either (IsElem o) ((a == j) && (b == k)) x (multiplier_at o rest j k)
       (h 0 (omega arith)) (multiplier_at-elem L rest (λ s l. h (suc s) (omega arith)) j k)
 
-module _ {E : Type 0} (o : Ops E) (L : FieldLaws o) (m : ℕ) (cs : List E) where
+module _ {E : Type 0} (o : Ops E) (L : FieldLaws o) (A : Structure E) where
+  abbrev m : ℕ
+  m = A.dim
+
+  abbrev cs : List E
+  cs = A.constants
+
   abbrev K : FieldOn (Elem o)
   K = elements o L
 
-  module _ (t : IsTuple o (m * m * m) cs) where
+  module _ (t : IsOver o A) where
     -- an identity solves the equations that the multipliers refute
-    no_identity : (left right : List (ℕ × ℕ × E)) → NoIdentityClaim o m cs left right → HasIdentity o m cs → ⊥
+    no_identity : (left right : List (ℕ × ℕ × E)) → NoIdentityClaim o A left right → HasIdentity o A → ⊥
     no_identity left right c h =
         let e = h.one in
         let g = t.of_elements in
         let l : ℕ → ℕ → Elem o = λ j k. (
           multiplier_at o left (j + 1) (k + 1),
-          multiplier_at-elem o L left c.left_multipliers.of_field (j + 1) (k + 1),
+          multiplier_at-elem o L left c.fits.0.of_field (j + 1) (k + 1),
         ) in
         let r : ℕ → ℕ → Elem o = λ j k. (
           multiplier_at o right (j + 1) (k + 1),
-          multiplier_at-elem o L right c.right_multipliers.of_field (j + 1) (k + 1),
+          multiplier_at-elem o L right c.fits.1.of_field (j + 1) (k + 1),
         ) in
         let a : ℕ → ℕ → ℕ → Elem o = λ i j k. (constant o m cs i j k, at-elem o L cs g ((i * m + j) * m + k)) in
         let b : ℕ → ℕ → ℕ → Elem o = λ i j k. a j i k in
@@ -101,14 +110,14 @@ module _ {E : Type 0} (o : Ops E) (L : FieldLaws o) (m : ℕ) (cs : List E) wher
         ∙ ap (λ xs. at o xs k) (h.is_one.mul-one j j_in) ∙ basis-at o L m j k k_in))
         (λ i i_in. Elem-path o (sum2 K.ring m (λ j k. K.◌⊕◌ (K.◌⊗◌ (l j k) (a i j k)) (K.◌⊗◌ (r j k) (b i j k)))) K.zero
         (sym (sum2_of-elements o L m (λ j k. K.◌⊕◌ (K.◌⊗◌ (l j k) (a i j k)) (K.◌⊗◌ (r j k) (b i j k))))
-        ∙ c.kills i i_in)) in
-        L.one-nonzero (sym c.refutes ∙ sum_of-elements o L m (λ j. K.◌⊕◌ (l j j) (r j j))
+        ∙ c.annihilate i i_in)) in
+        L.one-nonzero (sym c.refute ∙ sum_of-elements o L m (λ j. K.◌⊕◌ (l j j) (r j j))
         ∙ ap (λ (x : Elem o). x.0) sides)
 
     -- a multiple of the identity multiplies each basis element by its factor
-    central : (a : List E) → CentralClaim o m cs a → HasSmallCentre o m cs → ⊥
+    central : (a : List E) → CentralClaim o A a → HasSmallCentre o A → ⊥
     central a c h =
-        let q = h.multiple a c.central in
+        let q = h.multiple a (record { tuple = c.fits; commutes = c.commutes }) in
         let g = t.of_elements in
         c.no_multiple q.factor q.of_field (λ i i_in.
         ap (λ x. product o m cs x (basis o m i)) q.is_multiple
@@ -116,11 +125,11 @@ module _ {E : Type 0} (o : Ops E) (L : FieldLaws o) (m : ℕ) (cs : List E) wher
         ∙ ap (tuple_scale o m q.factor) (h.is_one.one-mul i i_in))
 
     -- rows that are 0 aren't independent, and fewer than m don't span everything
-    ideal : (rows : List (List E)) → IdealClaim o m cs rows → IsCentralSimple o m cs → ⊥
+    ideal : (rows : List (List E)) → IdealClaim o A rows → IsCentralSimple o A → ⊥
     ideal rows c s = ⊎_elim
-        (λ (z : AreZero o m cs rows).
+        (λ (z : AreZero o A rows).
         let n = length rows in
-        let some = c.some in
+        let some = c.fits.0 in
         L.one-nonzero (sym (at-table o n (λ _. o.one) 0 (omega arith))
         ∙ c.independent (table n (λ _. o.one)) (IsTuple-table o n (λ _. o.one) (λ _ _. L.one-elem)) (λ j j_in.
         sum_of_congr o n (λ i. o.mul (at o (table n (λ _. o.one)) i) (entry o rows i j)) (λ _. o.zero) (λ i i_in.
@@ -128,26 +137,27 @@ module _ {E : Type 0} (o : Ops E) (L : FieldLaws o) (m : ℕ) (cs : List E) wher
         (ap (λ xs. at o xs j) (z i i_in) ∙ at-table o m (λ _. o.zero) j j_in)
         ∙ terms.mul-zero o L o.one L.one-elem)
         ∙ sum_of_zeros o L n) 0 (omega arith)))
-        (λ (a : SpansAll o m cs rows).
+        (λ (a : SpansAll o A rows).
         let M = tuples o L m in
+        let shape = c.fits.2 in
         let S = tuple_space o L m in
-        let few = c.fewer in
-        let many = exchange K M m (length rows) (unit M m S) (row o L m rows c.ideal.shape) (units_independent M m S)
-        (λ i _. to_span o L m rows c.ideal.shape (unit M m S i)
+        let few = c.fits.1 in
+        let many = exchange K M m (length rows) (unit M m S) (row o L m rows shape) (units_independent M m S)
+        (λ i _. to_span o L m rows shape (unit M m S i)
         (a (unit M m S i).0 (IsTuple-of o L m (unit M m S i)))) in
         omega arith)
-        (s.simple rows c.ideal)
+        (s.simple rows (spans_ideal o L A t.of_elements rows c.fits.2 c.left c.right))
 
   -- each claim excludes that the algebra is central simple
-  pub claims_exclude : ClaimsExcludeCentralSimple o m cs
+  pub claims_exclude : ClaimsExcludeCentralSimple o A
   claims_exclude t = record {
     triple = λ i j k c h.
-        let i_low = c.i_low in
-        let i_high = c.i_high in
-        let j_low = c.j_low in
-        let j_high = c.j_high in
-        let k_low = c.k_low in
-        let k_high = c.k_high in
+        let i_low = c.fits.0.0 in
+        let i_high = c.fits.0.1 in
+        let j_low = c.fits.1.0 in
+        let j_high = c.fits.1.1 in
+        let k_low = c.fits.2.0 in
+        let k_high = c.fits.2.1 in
         c.differ (h (i - 1) (j - 1) (k - 1) (omega arith) (omega arith) (omega arith));
     no_identity = no_identity t;
     central = central t;

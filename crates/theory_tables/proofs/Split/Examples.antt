@@ -24,9 +24,12 @@ use Rattle.theory_spaces.proofs.Tuples.TupleProducts.{product_basis, product-sca
 use Rattle.theory_tables.specs.Matrix.{IsMatrix, entry}
 use Rattle.theory_tables.proofs.Rows.Terms.{mul-zero, zero-mul, mul-one, cond_either}
 use Rattle.theory_tables.proofs.Rows.Sums.{sum_of_zeros, entry-elem, table_matrix, entry_table}
-use Rattle.theory_tables.specs.Split.{IsSquare, map_entry, IsSplitBy}
+use Rattle.theory_tables.specs.Split.{IsSquare, IsSplitBy}
+use Rattle.theory_tables.specs.Structure.{Structure}
+use Rattle.theory_tables.specs.Conditions.{map_entry}
 use Rattle.theory_tables.specs.Claims.{TripleClaim, SplitClaim}
-use Rattle.theory_tables.specs.Examples.{matrix_table, matrix_table_with, matrix_basis, unit_maps, row_12}
+use Rattle.theory_tables.specs.Examples.{matrix_structure, matrix_structure_with, matrix_basis, unit_maps}
+use Rattle.theory_tables.specs.Examples.{row_12}
 
 -- pairs with equal numbers are equal
 same_pair : (r s r' s' : ℕ) → r < 2 → s < 2 → r' < 2 → s' < 2 → eqb (r' * 2 + s') (r * 2 + s) ≡ ((r' == r) && (s' == s))
@@ -74,7 +77,7 @@ module _ {E : Type 0} (o : Ops E) (L : FieldLaws o) where
   unit_constant i j k = cond (eqb (i % 2) (j / 2)) (cond (eqb (i / 2 * 2 + j % 2) k) o.one o.zero) o.zero
 
   constants : (i j k : ℕ) → i < 4 → j < 4 → k < 4
-      → constant o 4 (matrix_table o) i j k ≡ (K.◌⊗◌ (D (i % 2) (j / 2)) (D (i / 2 * 2 + j % 2) k)).0
+      → constant o 4 (matrix_structure o).constants i j k ≡ (K.◌⊗◌ (D (i % 2) (j / 2)) (D (i / 2 * 2 + j % 2) k)).0
   constants i j k hi hj hk =
       let x = (i * 4 + j) * 4 + k in
       let first : x / 4 ≡ i * 4 + j = div-mul-add (i * 4 + j) 4 k hk in
@@ -109,7 +112,7 @@ module _ {E : Type 0} (o : Ops E) (L : FieldLaws o) where
 
   maps_multiply : (i j r s : ℕ) → i < 4 → j < 4 → r < 2 → s < 2
       → sum_of o 2 (λ t. o.mul (map_entry o (unit_maps o) i r t) (map_entry o (unit_maps o) j t s))
-      ≡ sum_of o 4 (λ k. o.mul (constant o 4 (matrix_table o) i j k) (map_entry o (unit_maps o) k r s))
+      ≡ sum_of o 4 (λ k. o.mul (constant o 4 (matrix_structure o).constants i j k) (map_entry o (unit_maps o) k r s))
   maps_multiply i j r s hi hj hr hs =
       let a = D (i / 2) r in
       let d = D (j % 2) s in
@@ -130,7 +133,7 @@ module _ {E : Type 0} (o : Ops E) (L : FieldLaws o) where
       ∙ ap (K.◌⊗◌ (D (i % 2) (j / 2))) (sym (delta-pairs R 2 (i / 2) (j % 2) r s (omega arith) hs)))
       ∙ sym (combination-at g r s hr hs)
       ∙ sum_of_congr o 4 (λ k. o.mul (g k).0 (map_entry o (unit_maps o) k r s))
-      (λ k. o.mul (constant o 4 (matrix_table o) i j k) (map_entry o (unit_maps o) k r s))
+      (λ k. o.mul (constant o 4 (matrix_structure o).constants i j k) (map_entry o (unit_maps o) k r s))
       (λ k hk. ap (λ x. o.mul x (map_entry o (unit_maps o) k r s)) (sym (constants i j k hi hj hk)))
 
   maps_square : All (IsSquare o 2) (unit_maps o)
@@ -140,8 +143,8 @@ module _ {E : Type 0} (o : Ops E) (L : FieldLaws o) where
         height = refl;
       })
 
-  pub matrix_table_is_split : IsSplitBy o 4 (matrix_table o) 2 (unit_maps o)
-  matrix_table_is_split = record {
+  pub matrices_are_split : IsSplitBy o (matrix_structure o) 2 (unit_maps o)
+  matrices_are_split = record {
     count = refl;
     square = maps_square;
     multiplies = maps_multiply;
@@ -166,12 +169,14 @@ module _ {E : Type 0} (o : Ops E) (L : FieldLaws o) where
   basis_matrix : IsMatrix o 4 (matrix_basis o)
   basis_matrix = All-table (IsTuple o 4) 4 (basis o 4) (λ i _. IsTuple-basis o L 4 [] (λ k d l. absurd (omega arith)) i)
 
-  pub matrix_table_split_claim : SplitClaim o 4 (matrix_table o) 2 (unit_maps o) (matrix_basis o)
-  matrix_table_split_claim = record {
-    map_count = refl;
-    square = λ k hk. maps_square k [] hk;
-    unit_count = refl;
-    tuples = basis_matrix;
+  pub matrices_split_claim : SplitClaim o (matrix_structure o) 2 (unit_maps o) (matrix_basis o)
+  matrices_split_claim = record {
+    fits = record {
+      map_count = refl;
+      square = λ k hk. maps_square k [] hk;
+      unit_count = refl;
+      tuples = basis_matrix;
+    };
     multiplies = maps_multiply;
     gives_units = λ r s r' s' hr hs hr' hs'.
         let i = r * 2 + s in
@@ -185,19 +190,20 @@ module _ {E : Type 0} (o : Ops E) (L : FieldLaws o) where
   }
 
   -- maps that are 0 give no unit matrices
-  pub zero_maps_split_nothing : (m n : ℕ) (cs : List E) (maps : List (List (List E))) (units : List (List E)) → 1 ≤ n
-      → ((k r s : ℕ) → map_entry o maps k r s ≡ o.zero) → SplitClaim o m cs n maps units → ⊥
-  zero_maps_split_nothing m n cs maps units positive z S =
+  pub zero_maps_split_nothing : (A : Structure E) (n : ℕ) (maps : List (List (List E))) (units : List (List E)) → 1 ≤ n
+      → ((k r s : ℕ) → map_entry o maps k r s ≡ o.zero) → SplitClaim o A n maps units → ⊥
+  zero_maps_split_nothing A n maps units positive z S =
+      let m = A.dim in
       let c : ℕ → E = at o (get_or units (0 * n + 0) []) in
       L.one-nonzero (sym (S.gives_units 0 0 0 0 positive positive positive positive)
       ∙ sum_of_congr o m (λ k. o.mul (c k) (map_entry o maps k 0 0)) (λ _. o.zero)
-      (λ k _. ap (o.mul (c k)) (z k 0 0) ∙ mul-zero o L (c k) (entry-elem o L m units S.tuples (0 * n + 0) k))
+      (λ k _. ap (o.mul (c k)) (z k 0 0) ∙ mul-zero o L (c k) (entry-elem o L m units S.fits.tuples (0 * n + 0) k))
       ∙ sum_of_zeros o L m)
 
   -- with c·b_2 for b_1·b_2 the two products of b_1, b_1 and b_2 are c·b_2 and c·(c·b_2)
   module _ (c : E) (c_in : IsElem o c) where
     abbrev cs : List E
-    cs = matrix_table_with o c
+    cs = (matrix_structure_with o c).constants
 
     unit_constant-elem : (i j k : ℕ) → IsElem o (unit_constant i j k)
     unit_constant-elem i j k =
@@ -230,19 +236,14 @@ module _ {E : Type 0} (o : Ops E) (L : FieldLaws o) where
         (IsTuple-basis o L 4 cs all_elem 1)
         ∙ ap (tuple_scale o 4 c) (product_basis o L 4 cs all_elem 0 1 (omega arith) (omega arith))
 
-    pub triple_differs : o.mul c c ≢ c → TripleClaim o 4 cs 1 1 2
+    pub triple_differs : o.mul c c ≢ c → TripleClaim o (matrix_structure_with o c) 1 1 2
     triple_differs h = record {
-      i_low = omega arith;
-      i_high = omega arith;
-      j_low = omega arith;
-      j_high = omega arith;
-      k_low = omega arith;
-      k_high = omega arith;
+      fits = ((omega arith, omega arith), (omega arith, omega arith), (omega arith, omega arith));
       differ = λ e. h (sym (ap (λ x. at o x 1) (sym left ∙ e ∙ right)));
     }
 
   -- so with 2, where that isn't 0
-  pub twice_differs : o.add o.one o.one ≢ o.zero → TripleClaim o 4 (matrix_table_with o (o.add o.one o.one)) 1 1 2
+  pub twice_differs : o.add o.one o.one ≢ o.zero → TripleClaim o (matrix_structure_with o (o.add o.one o.one)) 1 1 2
   twice_differs h =
       let u : Elem o = K.one in
       let two : Elem o = K.◌⊕◌ u u in

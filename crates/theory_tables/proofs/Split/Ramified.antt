@@ -24,39 +24,40 @@ use Rattle.theory_spaces.proofs.Tuples.Tuples.{tuples-zero, tuples-add, tuples-n
 use Rattle.theory_spaces.proofs.Tuples.TupleProducts.{IsTuple-product}
 use Rattle.theory_orders.specs.Uniformizer.{UniformizerOn}
 use Rattle.theory_orders.specs.Ramified.{IsRamified}
-use Rattle.theory_orders.specs.Tables.{AreTuples, RamifiedTable}
 use Rattle.theory_orders.proofs.Splitting.Example.{root_algebra, order_vectors, radical_vectors, ramified_example}
 use Rattle.theory_orders.proofs.Splitting.Ramified.{not_isomorphic}
 use Rattle.theory_orders.proofs.Splitting.TableClaims.{table_space}
+use Rattle.theory_tables.specs.Structure.{Structure, IsOver}
+use Rattle.theory_tables.specs.Ramified.{AreTuples, RamifiedTable}
 use Rattle.theory_tables.specs.Split.{IsSplit}
 use Rattle.theory_tables.specs.Claims.{SplitClaim}
 use Rattle.theory_tables.proofs.Split.SplitClaims.{split_claim_splits}
-use Rattle.theory_tables.specs.Examples.{pair, root_table, root_order, root_radical}
+use Rattle.theory_tables.specs.Examples.{pair, root_structure, root_order, root_radical}
 use Rattle.theory_tables.proofs.Algebras.Bridge.{algebra_is}
 use Rattle.theory_tables.proofs.Split.Splittings.{split_one, split_one_is, split_associative, split_algebra, rep}
 use Rattle.theory_tables.proofs.Split.Splittings.{split_isomorphism, B}
 use Rattle.theory_spaces.proofs.Algebras.Carry.{KeptBy, carried, carry}
 
 -- each algebra of a split table is isomorphic to that of the matrices
-module _ {E : Type 0} (o : Ops E) (L : FieldLaws o) (m : ℕ) (cs : List E) (constants : All (IsElem o) cs) (n : ℕ)
-    (S : IsSplit o m cs n)
-    (A : AlgebraOn (elements o L).ring (Tuple o m)) (T : IsTableAlgebra o L m cs A) where
-  isomorphism : IsAlgebraIso A (B o L m cs constants n S.maps S.by) (rep o L m cs constants n S.maps S.by)
+module _ {E : Type 0} (o : Ops E) (L : FieldLaws o) (Y : Structure E) (constants : All (IsElem o) Y.constants) (n : ℕ)
+    (S : IsSplit o Y n)
+    (A : AlgebraOn (elements o L).ring (Tuple o Y.dim)) (T : IsTableAlgebra o L Y.dim Y.constants A) where
+  isomorphism : IsAlgebraIso A (B o L Y constants n S.maps S.by) (rep o L Y constants n S.maps S.by)
   isomorphism =
-      let C = split_algebra o L m cs constants n S.maps S.by in
-      let U = algebra_is o L m cs constants (split_associative o L m cs constants n S.maps S.by)
-      (split_one o L m cs constants n S.maps S.by).0 (split_one_is o L m cs constants n S.maps S.by) in
-      let f = rep o L m cs constants n S.maps S.by in
-      let i = split_isomorphism o L m cs constants n S.maps S.by in
-      let mul : (x y : Tuple o m) → f (A.◌⊗◌ x y) ≡ _ = λ x y.
-      ap f (Tuple-path o L m (A.◌⊗◌ x y) (C.◌⊗◌ x y) (T.product-is x y ∙ sym (U.product-is x y))) ∙ i.hom.map-mul x y in
+      let C = split_algebra o L Y constants n S.maps S.by in
+      let U = algebra_is o L Y constants (split_associative o L Y constants n S.maps S.by)
+      (split_one o L Y constants n S.maps S.by).0 (split_one_is o L Y constants n S.maps S.by) in
+      let f = rep o L Y constants n S.maps S.by in
+      let i = split_isomorphism o L Y constants n S.maps S.by in
+      let mul : (x y : Tuple o Y.dim) → f (A.◌⊗◌ x y) ≡ _ = λ x y.
+      ap f (Tuple-path o L Y.dim (A.◌⊗◌ x y) (C.◌⊗◌ x y) (T.product-is x y ∙ sym (U.product-is x y))) ∙ i.hom.map-mul x y in
       record {
         hom = record {
-          map-one = map-one_of_surjective A (B o L m cs constants n S.maps S.by) f mul i.surjective;
-          map-add = λ x y. ap f (Tuple-path o L m (A.◌⊕◌ x y) (C.◌⊕◌ x y) (T.add-is x y ∙ sym (U.add-is x y)))
+          map-one = map-one_of_surjective A (B o L Y constants n S.maps S.by) f mul i.surjective;
+          map-add = λ x y. ap f (Tuple-path o L Y.dim (A.◌⊕◌ x y) (C.◌⊕◌ x y) (T.add-is x y ∙ sym (U.add-is x y)))
               ∙ i.hom.map-add x y;
           map-mul = mul;
-          map-scale = λ c x. ap f (Tuple-path o L m (A.◌•◌ c x) (C.◌•◌ c x) (T.scale-is c x ∙ sym (U.scale-is c x)))
+          map-scale = λ c x. ap f (Tuple-path o L Y.dim (A.◌•◌ c x) (C.◌•◌ c x) (T.scale-is c x ∙ sym (U.scale-is c x)))
               ∙ i.hom.map-scale c x;
         };
         injective = i.injective;
@@ -66,27 +67,27 @@ module _ {E : Type 0} (o : Ops E) (L : FieldLaws o) (m : ℕ) (cs : List E) (con
 -- a table with a ramified place is not split
 pub ramified_excludes_split : {E : Type 0} (o : Ops E) (L : FieldLaws o) (Z : ValuationOn (elements o L))
     (p q : Elem o) → UniformizerOn (elements o L) Z p q
-    → (m : ℕ) (cs : List E) (os js : List (List E)) → IsTuple o (m * m * m) cs → RamifiedTable o L m cs Z p os js
-    → (n : ℕ) → 1 ≤ n → IsSplit o m cs n → ⊥
-ramified_excludes_split o L Z p q U m cs os js t D n positive S =
+    → (A : Structure E) (os js : List (List E)) → IsOver o A → RamifiedTable o L A Z p os js
+    → (n : ℕ) → 1 ≤ n → IsSplit o A n → ⊥
+ramified_excludes_split o L Z p q U A os js t D n positive S =
     let h = t.of_elements in
     let K = elements o L in
-    not_isomorphic K D.algebra m
-    (space_basis (module_of D.algebra) m
-    (table_space o L m cs D.algebra D.is_table)) Z p D.order D.radical D.ramified
-    q U n positive (B o L m cs h n S.maps S.by) (matrix_algebra_is K.cring (field_set K) n)
-    (rep o L m cs h n S.maps S.by)
-    (isomorphism o L m cs h n S D.algebra D.is_table)
+    not_isomorphic K D.algebra A.dim
+    (space_basis (module_of D.algebra) A.dim
+    (table_space o L A.dim A.constants D.algebra D.is_table)) Z p D.order D.radical D.ramified
+    q U n positive (B o L A h n S.maps S.by) (matrix_algebra_is K.cring (field_set K) n)
+    (rep o L A h n S.maps S.by)
+    (isomorphism o L A h n S D.algebra D.is_table)
 
 -- nor is it by a claim with n² matrices
 pub ramified_excludes_split_claim : {E : Type 0} (o : Ops E) (L : FieldLaws o) (Z : ValuationOn (elements o L))
     (p q : Elem o) → UniformizerOn (elements o L) Z p q
-    → (m : ℕ) (cs : List E) (os js : List (List E)) → IsTuple o (m * m * m) cs → RamifiedTable o L m cs Z p os js
-    → (n : ℕ) (maps : List (List (List E))) (units : List (List E)) → 1 ≤ n → m ≡ n * n
-    → SplitClaim o m cs n maps units → ⊥
-ramified_excludes_split_claim o L Z p q U m cs os js t D n maps units positive size S =
-    ramified_excludes_split o L Z p q U m cs os js t D n positive
-    (record { maps = maps; by = split_claim_splits o L m cs n maps units size S })
+    → (A : Structure E) (os js : List (List E)) → IsOver o A → RamifiedTable o L A Z p os js
+    → (n : ℕ) (maps : List (List (List E))) (units : List (List E)) → 1 ≤ n → A.dim ≡ n * n
+    → SplitClaim o A n maps units → ⊥
+ramified_excludes_split_claim o L Z p q U A os js t D n maps units positive size S =
+    ramified_excludes_split o L Z p q U A os js t D n positive
+    (record { maps = maps; by = split_claim_splits o L A n maps units size S })
 
 module _ {E : Type 0} (o : Ops E) (L : FieldLaws o) (Z : ValuationOn (elements o L)) (p q : Elem o)
     (U : UniformizerOn (elements o L) Z p q)
@@ -104,7 +105,7 @@ module _ {E : Type 0} (o : Ops E) (L : FieldLaws o) (Z : ValuationOn (elements o
   M = tuples o L 2
 
   abbrev cs : List E
-  cs = root_table o p.0
+  cs = (root_structure o p.0).constants
 
   abbrev elem_pair : Elem o → Elem o → X
   elem_pair a b = (a, b)
@@ -180,7 +181,7 @@ module _ {E : Type 0} (o : Ops E) (L : FieldLaws o) (Z : ValuationOn (elements o
   abbrev e : X ≃ Tuple o 2
   e = iso_to_equiv bijection
 
-  rows : (x : ℕ → X) → AreTuples o L 2 cs ((g (x 0)).0 ∷ ((g (x 1)).0 ∷ [])) (λ i. g (x i))
+  rows : (x : ℕ → X) → AreTuples o L (root_structure o p.0) ((g (x 0)).0 ∷ ((g (x 1)).0 ∷ [])) (λ i. g (x i))
   rows x = record { count = refl; item = item }
     where
       item : (i : ℕ) → i < 2 → (g (x i)).0 ≡ get_or ((g (x 0)).0 ∷ ((g (x 1)).0 ∷ [])) i []
@@ -188,7 +189,7 @@ module _ {E : Type 0} (o : Ops E) (L : FieldLaws o) (Z : ValuationOn (elements o
       item (suc zero) l = refl
       item (suc (suc i)) l = absurd (omega arith)
 
-  pub ramified_table : RamifiedTable o L 2 cs Z p (root_order o p.0) (root_radical o p.0)
+  pub ramified_table : RamifiedTable o L (root_structure o p.0) Z p (root_order o p.0) (root_radical o p.0)
   unfolding bijection carried kept
   ramified_table =
       let v = order_vectors K Z p q U strict in

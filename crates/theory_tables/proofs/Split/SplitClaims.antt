@@ -25,15 +25,20 @@ use Rattle.theory_spaces.proofs.Linear.Modules.{InSpan_trans, comb_injective}
 use Rattle.theory_spaces.proofs.Matrices.PairIndex.{row-lt, column-lt}
 use Rattle.theory_spaces.proofs.Tuples.Tuples.{at-table, IsTuple-table, IsTuple-ext}
 use Rattle.theory_tables.specs.Matrix.{entry}
+use Rattle.theory_tables.specs.Structure.{Structure}
+use Rattle.theory_tables.specs.Conditions.{map_entry}
 use Rattle.theory_tables.proofs.Rows.Terms.{zero-mul}
 use Rattle.theory_tables.proofs.Rows.Sums.{entry-elem}
-use Rattle.theory_tables.specs.Split.{IsSquare, map_entry, IsCombination, IsSplitBy}
+use Rattle.theory_tables.specs.Split.{IsSquare, IsCombination, IsSplitBy}
 use Rattle.theory_tables.specs.Claims.{SplitClaim}
 use Rattle.theory_tables.proofs.Split.Splittings.{map_entry-elem}
 
-module _ {E : Type 0} (o : Ops E) (L : FieldLaws o) (m : ℕ) (cs : List E) (n : ℕ) (maps : List (List (List E)))
+module _ {E : Type 0} (o : Ops E) (L : FieldLaws o) (A : Structure E) (n : ℕ) (maps : List (List (List E)))
     (units : List (List E))
-    (size : m ≡ n * n) (C : SplitClaim o m cs n maps units) where
+    (size : A.dim ≡ n * n) (C : SplitClaim o A n maps units) where
+  abbrev m : ℕ
+  m = A.dim
+
   abbrev K : FieldOn (Elem o)
   K = elements o L
 
@@ -53,8 +58,8 @@ module _ {E : Type 0} (o : Ops E) (L : FieldLaws o) (m : ℕ) (cs : List E) (n :
   U = unit_matrix K.cring (field_set K) n T H
 
   maps_square : All (IsSquare o n) maps
-  maps_square k d l = let e = C.map_count in
-      subst (IsSquare o n) (get_or_default maps k [] d l) (C.square k (omega arith))
+  maps_square k d l = let e = C.fits.map_count in
+      subst (IsSquare o n) (get_or_default maps k [] d l) (C.fits.square k (omega arith))
 
   abbrev map : ℕ → ℕ → ℕ → Elem o
   map k r s = (map_entry o maps k r s, map_entry-elem o L n maps maps_square k r s)
@@ -86,7 +91,7 @@ module _ {E : Type 0} (o : Ops E) (L : FieldLaws o) (m : ℕ) (cs : List E) (n :
   unit_spanned : (r s : ℕ) → r < n → s < n → InSpan M m phi (U r s)
   unit_spanned r s hr hs =
       let i = r * n + s in
-      let w : ℕ → Elem o = λ k. (entry o units i k, entry-elem o L m units C.tuples i k) in
+      let w : ℕ → Elem o = λ k. (entry o units i k, entry-elem o L m units C.fits.tuples i k) in
       record {
         weights = w;
         combines = Mat-ext K.ring (field_set K) n (U r s) (comb M m w phi)
@@ -134,9 +139,9 @@ module _ {E : Type 0} (o : Ops E) (L : FieldLaws o) (m : ℕ) (cs : List E) (n :
       Elem-path o ((comb M m (weights c t) phi).0 r s) ((matrix x h).0 r s)
       (comb-entry (weights c t) r s hr hs ∙ sym (e r s hr hs) ∙ sym (matrix-entry x h r s hr hs)))
 
-  pub split_claim_splits : IsSplitBy o m cs n maps
+  pub split_claim_splits : IsSplitBy o A n maps
   split_claim_splits = record {
-    count = C.map_count;
+    count = C.fits.map_count;
     square = maps_square;
     multiplies = C.multiplies;
     onto = λ x h.

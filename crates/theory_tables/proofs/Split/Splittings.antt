@@ -18,7 +18,7 @@ use Rattle.theory_spaces.specs.Linear.{IsLinear}
 use Rattle.theory_spaces.specs.Matrix.{Matrix, Mat, delta, mat_mul}
 use Rattle.theory_spaces.specs.Space.{SpaceOn}
 use Rattle.theory_spaces.specs.AlgebraMap.{IsAlgebraIso}
-use Rattle.theory_spaces.specs.Tuples.{Tuple, basis, product, AssociativeTable, IsTableOne}
+use Rattle.theory_spaces.specs.Tuples.{Tuple, basis, product, IsTableOne}
 use Rattle.theory_spaces.proofs.Linear.Modules.{linear_ext, linear_comp, left_linear, right_linear}
 use Rattle.theory_spaces.proofs.Matrices.Matrices.{sum-delta_mul, delta_comm, mat, mat-entry, Mat-ext}
 use Rattle.theory_spaces.proofs.Matrices.MatrixAlgebra.{matrix_algebra}
@@ -30,8 +30,10 @@ use Rattle.theory_spaces.proofs.Tuples.Tuples.{tuple_space}
 use Rattle.theory_spaces.proofs.Tuples.TupleProducts.{element_constant, tuple_product, tuple_product-list}
 use Rattle.theory_spaces.proofs.Tuples.TupleProducts.{IsTuple-basis, tuple_algebra}
 use Rattle.theory_tables.specs.Matrix.{entry as at_entry}
+use Rattle.theory_tables.specs.Structure.{Structure, IsAssociative}
+use Rattle.theory_tables.specs.Conditions.{map_entry}
 use Rattle.theory_tables.proofs.Rows.Sums.{entry-elem, table_matrix, entry_table}
-use Rattle.theory_tables.specs.Split.{IsSquare, map_entry, IsCombination, IsSplitBy}
+use Rattle.theory_tables.specs.Split.{IsSquare, IsCombination, IsSplitBy}
 
 -- the combination of n matrices
 abbrev mat_comb : {K : Type 0} → RingOn K → ℕ → (ℕ → K) → (ℕ → Matrix K) → Matrix K
@@ -47,9 +49,15 @@ map_entry-elem {E} o L n maps square k r s = ⊎_elim
     subst (λ (x : List (List E)). IsElem o (at_entry o x r s)) (sym (get_or_past maps k [] high)) L.zero-elem)
     (cases_lt k (length maps))
 
-module _ {E : Type 0} (o : Ops E) (L : FieldLaws o) (m : ℕ) (cs : List E) (constants : All (IsElem o) cs) (n : ℕ)
+module _ {E : Type 0} (o : Ops E) (L : FieldLaws o) (A : Structure E) (constants : All (IsElem o) A.constants) (n : ℕ)
     (maps : List (List (List E)))
-    (P : IsSplitBy o m cs n maps) where
+    (P : IsSplitBy o A n maps) where
+  abbrev m : ℕ
+  m = A.dim
+
+  abbrev cs : List E
+  cs = A.constants
+
   abbrev K : FieldOn (Elem o)
   K = elements o L
 
@@ -201,7 +209,7 @@ module _ {E : Type 0} (o : Ops E) (L : FieldLaws o) (m : ℕ) (cs : List E) (con
   list-mul : (x y : Tuple o m) → (mul x y).0 ≡ product o m cs x.0 y.0
   list-mul x y = tuple_product-list o L m cs constants x y
 
-  pub split_associative : AssociativeTable o m cs
+  pub split_associative : IsAssociative o A
   split_associative i j k _ _ _ =
       sym (list-mul (mul (b i) (b j)) (b k) ∙ ap (λ t. product o m cs t (basis o m k)) (list-mul (b i) (b j)))
       ∙ ap (λ (t : Tuple o m). t.0) (mul_assoc (b i) (b j) (b k))
