@@ -19,8 +19,8 @@ use Rattle.theory_spaces.proofs.Tuples.TupleProducts.{IsTuple-product}
 use Rattle.theory_spaces.proofs.Algebras.Carry.{KeptBy, carried, carry}
 use Rattle.theory_orders.specs.Uniformizer.{UniformizerOn}
 use Rattle.theory_orders.specs.Ramified.{IsRamified}
-use Rattle.theory_orders.specs.Tables.{AreTuples, RamifiedTable}
-use Rattle.theory_places.specs.Quaternions.{tuple4, quaternion_table, quaternion_order, quaternion_radical}
+use Rattle.theory_tables.specs.Ramified.{AreTuples, RamifiedTable}
+use Rattle.theory_places.specs.Quaternions.{tuple4, quaternion_structure, quaternion_order, quaternion_radical}
 use Rattle.theory_places.proofs.QuaternionAlgebra.{ap₄, quaternions, order_vectors, radical_vectors}
 use Rattle.theory_places.proofs.Quaternions.{NoSquareModulo, ramified_quaternions}
 
@@ -53,7 +53,7 @@ module _ {E : Type 0} (o : Ops E) (L : FieldLaws o) (Z : ValuationOn (elements o
   M = tuples o L 4
 
   abbrev cs : List E
-  cs = quaternion_table o p.0 b.0
+  cs = (quaternion_structure o p.0 b.0).constants
 
   abbrev elem_four : Elem o → Elem o → Elem o → Elem o → X
   elem_four a b c d = (a, b, c, d)
@@ -168,7 +168,7 @@ module _ {E : Type 0} (o : Ops E) (L : FieldLaws o) (Z : ValuationOn (elements o
   abbrev e : X ≃ Tuple o 4
   e = iso_to_equiv bijection
 
-  rows : (x : ℕ → X) → AreTuples o L 4 cs ((g (x 0)).0 ∷ (g (x 1)).0 ∷ (g (x 2)).0 ∷ (g (x 3)).0 ∷ []) (λ i. g (x i))
+  rows : (x : ℕ → X) → AreTuples o L (quaternion_structure o p.0 b.0) ((g (x 0)).0 ∷ (g (x 1)).0 ∷ (g (x 2)).0 ∷ (g (x 3)).0 ∷ []) (λ i. g (x i))
   rows x = record { count = refl; item = item }
     where
       item : (i : ℕ) → i < 4 → (g (x i)).0 ≡ get_or ((g (x 0)).0 ∷ (g (x 1)).0 ∷ (g (x 2)).0 ∷ (g (x 3)).0 ∷ []) i []
@@ -179,7 +179,7 @@ module _ {E : Type 0} (o : Ops E) (L : FieldLaws o) (Z : ValuationOn (elements o
       item (suc (suc (suc (suc i)))) l = absurd (omega arith)
 
   pub ramified_quaternion_table
-      : RamifiedTable o L 4 cs Z p (quaternion_order o) (quaternion_radical o p.0)
+      : RamifiedTable o L (quaternion_structure o p.0 b.0) Z p (quaternion_order o) (quaternion_radical o p.0)
   unfolding bijection carried kept
   ramified_quaternion_table =
       let v = order_vectors K p b in

@@ -24,7 +24,7 @@ use Rattle.theory_rings.proofs.Fractions.Fractions.{fraction_of_value}
 use Rattle.std.proofs.lemmas.Bool.{ltb-true}
 use Rattle.theory_rings.proofs.Fractions.Lowest.{polynomial_reduction, rational_functions, is_rational_functions}
 use Rattle.theory_lattices.specs.RationalFunctions.{Rational, of_polynomial, of_constant, power_of_x}
-use Rattle.theory_orders.specs.Tables.{RamifiedTable}
+use Rattle.theory_tables.specs.Ramified.{RamifiedTable}
 use Rattle.theory_fractions.specs.FractionOps.{polynomial_of, rational_function, fraction_ops}
 use Rattle.theory_fractions.proofs.ListPolynomials.{IsPolynomial, has_polynomial_of, degree-polynomial_of}
 use Rattle.theory_fractions.proofs.Reducing.{lowest_over_one, poly-mul}
@@ -34,7 +34,7 @@ use Rattle.theory_places.specs.Places.{PlaceOf, Finite, Infinite, IsIntegralOff,
 use Rattle.theory_places.specs.Places.{uniformizer_at as rational_uniformizer}
 use Rattle.theory_places.specs.FractionPlaces.{IsPlace, fractions, RamifiedPlaceExcludesSplit}
 use Rattle.theory_tables.proofs.Split.Ramified.{ramified_excludes_split}
-use Rattle.theory_places.specs.Quaternions.{quaternion_table, quaternion_order, quaternion_radical, IsNoSquare}
+use Rattle.theory_places.specs.Quaternions.{quaternion_structure, quaternion_order, quaternion_radical, IsNoSquare}
 use Rattle.theory_places.specs.Quaternions.{QuaternionsRamifiedAt, QuaternionsAreRamified, three, QuaternionsOverThree}
 use Rattle.theory_places.proofs.PlaceValuations.{place_valuation, infinite_valuation, x_ne}
 use Rattle.theory_places.proofs.PlaceResidues.{infinite_residues}
@@ -212,8 +212,8 @@ module _ {E : Type 0} (o : Ops E) (L : FieldLaws o) (M : FieldLaws (fraction_ops
         record {
           at_place = W;
           ramified = subst (λ p.
-              RamifiedTable (fraction_ops o L) M 4
-              (quaternion_table (fraction_ops o L) p (b.0 ∷ [], o.one ∷ [])) W.valuation W.p
+              RamifiedTable (fraction_ops o L) M
+              (quaternion_structure (fraction_ops o L) p (b.0 ∷ [], o.one ∷ [])) W.valuation W.p
               (quaternion_order (fraction_ops o L)) (quaternion_radical (fraction_ops o L) p)) W.p_is w;
         }
 
@@ -312,7 +312,7 @@ quaternions_over_three L M = quaternions_are_ramified three L M (2, refl) (two_n
 
 pub ramified_place_excludes : {E : Type 0} (o : Ops E) (L : FieldLaws o) (M : FieldLaws (fraction_ops o L))
     → RamifiedPlaceExcludesSplit o L M
-ramified_place_excludes o L M n cs t place os js R =
+ramified_place_excludes o L M A t place os js R =
     let K = fractions o L M in
     let W = R.at_place in
-    ramified_excludes_split (fraction_ops o L) M W.valuation W.p (K.inv W.p) W.uniformizer n cs os js t R.ramified
+    ramified_excludes_split (fraction_ops o L) M W.valuation W.p (K.inv W.p) W.uniformizer A os js t R.ramified

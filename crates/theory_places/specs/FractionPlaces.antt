@@ -10,8 +10,9 @@ use Rattle.theory_rings.specs.Remainder.{Remainder, IsRemainderRing}
 use Rattle.theory_rings.proofs.Polynomials.Bezout.{field_polynomials}
 use Rattle.theory_spaces.specs.Valuation.{ValuationOn}
 use Rattle.theory_orders.specs.Uniformizer.{IsIntegral, UniformizerOn}
-use Rattle.theory_orders.specs.Tables.{RamifiedTable}
-use Rattle.theory_spaces.specs.Tuples.{IsTuple}
+use Rattle.theory_tables.specs.Structure as structures
+use Rattle.theory_tables.specs.Structure.{Structure}
+use Rattle.theory_tables.specs.Ramified.{RamifiedTable}
 use Rattle.theory_tables.specs.Split.{IsSplit}
 use Rattle.theory_residue.specs.Residue.{ResidueOn}
 use Rattle.theory_fractions.specs.PolynomialLists.{IsOver, IsProduct, Divides}
@@ -92,15 +93,15 @@ module _ {E : Type 0} (o : Ops E) (L : FieldLaws o) (M : FieldLaws (fraction_ops
   FractionInfiniteResidue = (V : FractionPlaceValuation Infinite)
       → ResidueOn fractions V.valuation (fractions.inv V.p) (elements o L)
 
-  -- the claim of a ramified place: the table has it at the valuation ring of the place, with the order spanned by os
+  -- the claim of a ramified place: the algebra has it at the valuation ring of the place, with the order spanned by os
   -- and the radical spanned by js
-  pub record RamifiedAtPlace (n : ℕ) (cs : List (Pair E)) (place : PlaceOf (List E))
+  pub record RamifiedAtPlace (A : Structure (Pair E)) (place : PlaceOf (List E))
       (os js : List (List (Pair E))) : Type 0 where
     pub at_place : FractionPlaceValuation place
-    pub ramified : RamifiedTable (fraction_ops o L) M n cs at_place.valuation at_place.p os js
+    pub ramified : RamifiedTable (fraction_ops o L) M A at_place.valuation at_place.p os js
 
   -- it excludes a splitting by matrices of each size from 1 on
   abbrev pub RamifiedPlaceExcludesSplit : Type 0
-  RamifiedPlaceExcludesSplit = (n : ℕ) (cs : List (Pair E)) → IsTuple (fraction_ops o L) (n * n * n) cs
-      → (place : PlaceOf (List E)) (os js : List (List (Pair E))) → RamifiedAtPlace n cs place os js
-      → (m : ℕ) → 1 ≤ m → IsSplit (fraction_ops o L) n cs m → ⊥
+  RamifiedPlaceExcludesSplit = (A : Structure (Pair E)) → structures.IsOver (fraction_ops o L) A
+      → (place : PlaceOf (List E)) (os js : List (List (Pair E))) → RamifiedAtPlace A place os js
+      → (m : ℕ) → 1 ≤ m → IsSplit (fraction_ops o L) A m → ⊥

@@ -5,6 +5,7 @@ use Rattle.theory_rings.specs.Ops.{Ops, FieldLaws}
 use Rattle.theory_rings.specs.Elements.{Elem, elements}
 use Rattle.theory_fractions.specs.FractionOps.{fraction_ops}
 use Rattle.theory_rings.specs.IntegersMod.{mod_ops}
+use Rattle.theory_tables.specs.Structure.{Structure}
 use Rattle.theory_places.specs.Places.{PlaceOf, Finite, Infinite}
 use Rattle.theory_places.specs.FractionPlaces.{uniformizer_at, RamifiedAtPlace}
 
@@ -27,12 +28,15 @@ module _ {E : Type 0} (o : Ops E) where
   at_k a = tuple4 o.zero o.zero o.zero a
 
   -- the products of 1 with 1, i, j and k, and then those of i, j and k
-  abbrev pub quaternion_table : E → E → List E
-  quaternion_table p b =
+  abbrev pub quaternion_constants : E → E → List E
+  quaternion_constants p b =
       at_one o.one ++ (at_i o.one ++ (at_j o.one ++ (at_k o.one
       ++ (at_i o.one ++ (at_one p ++ (at_k o.one ++ (at_j p
       ++ (at_j o.one ++ (at_k (o.neg o.one) ++ (at_one b ++ (at_i (o.neg b)
       ++ (at_k o.one ++ (at_j (o.neg p) ++ (at_i b ++ at_one (o.neg (o.mul p b))))))))))))))))
+
+  abbrev pub quaternion_structure : E → E → Structure E
+  quaternion_structure p b = record { dim = 4; constants = quaternion_constants p b }
 
   -- 1, i, j and k
   abbrev pub quaternion_order : List (List E)
@@ -53,7 +57,7 @@ module _ {E : Type 0} (o : Ops E) (L : FieldLaws o) (M : FieldLaws (fraction_ops
   QuaternionsRamifiedAt b place =
       let p = uniformizer_at o place in
       let f = fraction_ops o L in
-      RamifiedAtPlace o L M 4 (quaternion_table f p (b ∷ [], o.one ∷ [])) place (quaternion_order f)
+      RamifiedAtPlace o L M (quaternion_structure f p (b ∷ [], o.one ∷ [])) place (quaternion_order f)
       (quaternion_radical f p)
 
   -- at x, and at infinity, if b is no square
