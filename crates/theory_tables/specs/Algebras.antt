@@ -10,10 +10,14 @@ use Rattle.theory_tables.specs.Structure.{Structure, tuple_ops, IsAssociative}
 use Rattle.theory_tables.specs.Conditions.{CommutesWithBasis}
 
 module _ {E : Type 0} (o : Ops E) (A : Structure E) where
-  -- some tuple is an identity: e·b_i = b_i = b_i·e for each basis element b_i
+  -- the tuple e is an identity: e·b_i = b_i = b_i·e for each basis element b_i
+  abbrev pub IsIdentity : List E → Type 0
+  IsIdentity e = IsTableOne o A.dim A.constants e
+
+  -- some tuple is
   pub record HasIdentity : Type 0 where
     pub one : List E
-    pub is_one : IsTableOne o A.dim A.constants one
+    pub is_one : IsIdentity one
 
   -- the tuple commutes with each basis element
   pub record IsCentral (a : List E) : Type 0 where
@@ -29,7 +33,7 @@ module _ {E : Type 0} (o : Ops E) (A : Structure E) where
   -- the centre is no more than the multiples of an identity
   pub record HasSmallCentre : Type 0 where
     pub one : List E
-    pub is_one : IsTableOne o A.dim A.constants one
+    pub is_one : IsIdentity one
     pub multiple : (a : List E) → IsCentral a → IsMultiple one a
 
   -- the combinations of the rows are a two-sided ideal

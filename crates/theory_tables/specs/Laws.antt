@@ -5,12 +5,12 @@ use Rattle.theory_rings.specs.Ops.{Ops, IsElem}
 use Rattle.theory_rings.specs.Sum.{sum_of, at}
 use Rattle.theory_rings.specs.Power.{times_of}
 use Rattle.theory_spaces.specs.Sets.{Within, IsIdeal}
-use Rattle.theory_spaces.specs.Tuples.{IsTuple, tuple_scale, IsTableOne}
+use Rattle.theory_spaces.specs.Tuples.{IsTuple, tuple_scale}
 use Rattle.theory_tables.specs.Matrix.{entry, IsMatrix}
 use Rattle.theory_tables.specs.Subspace.{Combinations}
 use Rattle.theory_tables.specs.Structure.{Structure, IsOver, IsAssociative, tuple_ops}
 use Rattle.theory_tables.specs.Conditions.{IsClosedFromLeft, IsClosedFromRight}
-use Rattle.theory_tables.specs.Algebras.{HasIdentity, HasSmallCentre, SpansIdeal, IsCentralSimple}
+use Rattle.theory_tables.specs.Algebras.{IsIdentity, HasIdentity, HasSmallCentre, SpansIdeal, IsCentralSimple}
 use Rattle.theory_tables.specs.Traces.{trace_form, InTraceRadical, IsNondegenerate, PowerVanishes}
 use Rattle.theory_tables.specs.Split.{IsSplit}
 use Rattle.theory_tables.specs.Claims.{TripleClaim, NoIdentityClaim, CentralClaim, IdealClaim}
@@ -27,7 +27,7 @@ module _ {E : Type 0} (o : Ops E) (A : Structure E) where
     pub ideal : IsIdeal (tuple_ops o A) (IsTuple o A.dim) (InTraceRadical o A)
     pub scale_in : (c : E) (a : List E) → IsElem o c → InTraceRadical o A a
         → InTraceRadical o A (tuple_scale o A.dim c a)
-    pub not_everything : (one : List E) → IsTableOne o A.dim A.constants one → times_of o A.dim o.one ≢ o.zero
+    pub not_everything : (one : List E) → IsIdentity o A one → times_of o A.dim o.one ≢ o.zero
         → InTraceRadical o A one → ⊥
     pub nilpotent : (rows : List (List E)) → SpansIdeal o A rows → PowerVanishes o A rows
         → Within (Combinations o A.dim rows) (InTraceRadical o A)

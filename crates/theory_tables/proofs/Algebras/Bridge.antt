@@ -19,7 +19,7 @@ use Rattle.theory_spaces.proofs.Tuples.TupleProducts.{tuple_algebra, tuple_algeb
 use Rattle.theory_spaces.proofs.Tuples.TupleProducts.{product_comm_of_basis}
 use Rattle.theory_spaces.specs.Space.{SpaceOn, sum2}
 use Rattle.theory_spaces.specs.Tuples.{IsTuple, Tuple, tuple_scale, basis, constant, product}
-use Rattle.theory_spaces.specs.Tuples.{IsTableOne, IsTableAlgebra}
+use Rattle.theory_spaces.specs.Tuples.{IsTableAlgebra}
 use Rattle.theory_spaces.proofs.Tuples.Tables.{coord-sum, coord-unit, space_basis, space_basis-coord}
 use Rattle.theory_spaces.proofs.Tuples.Tuples.{at-table, IsTuple-is_tuple, is_tuple-IsTuple, IsTuple-table, IsTuple-ext}
 use Rattle.theory_spaces.proofs.Tuples.Tuples.{Tuple-path, make, tuples, tuple_space, tuples-zero, unit-basis}
@@ -30,7 +30,7 @@ use Rattle.theory_tables.specs.Structure.{Structure, IsAssociative}
 use Rattle.theory_tables.proofs.Rows.Terms.{cond_either}
 use Rattle.theory_tables.proofs.Rows.Sums.{entry-elem, mul-sum_of, sum_of-delta_mul}
 use Rattle.theory_tables.proofs.Rows.Spans.{InSpan-by, InSpan-member}
-use Rattle.theory_tables.specs.Algebras.{IsCentral, HasSmallCentre, SpansIdeal, IsCentralSimple}
+use Rattle.theory_tables.specs.Algebras.{IsIdentity, IsCentral, HasSmallCentre, SpansIdeal, IsCentralSimple}
 use Rattle.theory_tables.specs.Traces.{trace as list_trace}
 
 module _ {E : Type 0} (o : Ops E) (L : FieldLaws o) where
@@ -187,7 +187,7 @@ map_span M N f h n v x s k w each =
 -- the algebra of an associative table with an identity
 module _ {E : Type 0} (o : Ops E) (L : FieldLaws o) (T : Structure E) (constants : All (IsElem o) T.constants)
     (assoc : IsAssociative o T)
-    (one : List E) (is_one : IsTableOne o T.dim T.constants one) where
+    (one : List E) (is_one : IsIdentity o T one) where
   abbrev m : ℕ
   m = T.dim
 
@@ -258,7 +258,7 @@ module _ {E : Type 0} (o : Ops E) (L : FieldLaws o) (T : Structure E) (constants
     list_span x h = from_span o L m rows ideal.shape x h
 
   -- there is one identity
-  one_unique : (e : List E) → IsTableOne o m cs e → e ≡ one
+  one_unique : (e : List E) → IsIdentity o T e → e ≡ one
   one_unique e h = sym (one-product o L m cs constants one is_one e h.tuple)
       ∙ product-one o L m cs constants e h one is_one.tuple
 

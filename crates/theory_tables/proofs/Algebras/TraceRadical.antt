@@ -15,7 +15,6 @@ use Rattle.theory_spaces.specs.Linear.{Basis}
 use Rattle.theory_spaces.specs.Space.{ProductOn}
 use Rattle.theory_spaces.specs.Tuples.{Tuple, tuple_zero, tuple_add, tuple_scale, basis, product}
 use Rattle.theory_spaces.specs.Sets.{Power}
-use Rattle.theory_spaces.specs.Tuples.{IsTableOne}
 use Rattle.theory_spaces.proofs.Matrices.Matrices.{delta-same}
 use Rattle.theory_spaces.proofs.Linear.Modules.{map-comb}
 use Rattle.theory_spaces.proofs.ProductTraces.{by_left_linear, product_trace, product_trace-add}
@@ -30,7 +29,7 @@ use Rattle.theory_tables.specs.Matrix.{entry}
 use Rattle.theory_tables.specs.Subspace.{Combinations}
 use Rattle.theory_tables.specs.Structure.{Structure, IsAssociative, tuple_ops}
 use Rattle.theory_tables.proofs.Rows.Sums.{entry_table}
-use Rattle.theory_tables.specs.Algebras.{SpansIdeal}
+use Rattle.theory_tables.specs.Algebras.{IsIdentity, SpansIdeal}
 use Rattle.theory_tables.specs.Traces.{trace as list_trace, trace_form, InTraceRadical, PowerVanishes}
 use Rattle.theory_tables.specs.Laws.{TraceRadicalLaw}
 use Rattle.theory_tables.proofs.Algebras.Bridge.{as_tuple, IsTuple-of, basis-at}
@@ -137,7 +136,7 @@ module _ {E : Type 0} (o : Ops E) (L : FieldLaws o) (A : Structure E) (constants
       (λ i i_in. ap (K.◌⊗◌ (c i)) (h i i_in) ∙ mul-zero K.ring (c i))
 
   -- an identity has trace m·1
-  trace-one : (one : List E) → IsTableOne o m cs one → list_trace o A one ≡ times_of o m o.one
+  trace-one : (one : List E) → IsIdentity o A one → list_trace o A one ≡ times_of o m o.one
   trace-one one is_one = sum_of_congr o m (λ j. at o (product o m cs one (basis o m j)) j) (λ _. o.one) (λ j j_in.
       ap (λ xs. at o xs j) (is_one.one-mul j j_in) ∙ basis-at o L m j j j_in
       ∙ ap (λ (x : Elem o). x.0) (delta-same K.ring j))

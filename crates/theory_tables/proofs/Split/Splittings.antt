@@ -18,7 +18,7 @@ use Rattle.theory_spaces.specs.Linear.{IsLinear}
 use Rattle.theory_spaces.specs.Matrix.{Matrix, Mat, delta, mat_mul}
 use Rattle.theory_spaces.specs.Space.{SpaceOn}
 use Rattle.theory_spaces.specs.AlgebraMap.{IsAlgebraIso}
-use Rattle.theory_spaces.specs.Tuples.{Tuple, basis, product, IsTableOne}
+use Rattle.theory_spaces.specs.Tuples.{Tuple, basis, product}
 use Rattle.theory_spaces.proofs.Linear.Modules.{linear_ext, linear_comp, left_linear, right_linear}
 use Rattle.theory_spaces.proofs.Matrices.Matrices.{sum-delta_mul, delta_comm, mat, mat-entry, Mat-ext}
 use Rattle.theory_spaces.proofs.Matrices.MatrixAlgebra.{matrix_algebra}
@@ -32,6 +32,7 @@ use Rattle.theory_spaces.proofs.Tuples.TupleProducts.{IsTuple-basis, tuple_algeb
 use Rattle.theory_tables.specs.Matrix.{entry as at_entry}
 use Rattle.theory_tables.specs.Structure.{Structure, IsAssociative}
 use Rattle.theory_tables.specs.Conditions.{map_entry}
+use Rattle.theory_tables.specs.Algebras.{IsIdentity}
 use Rattle.theory_tables.proofs.Rows.Sums.{entry-elem, table_matrix, entry_table}
 use Rattle.theory_tables.specs.Split.{IsSquare, IsCombination, IsSplitBy}
 
@@ -215,7 +216,7 @@ module _ {E : Type 0} (o : Ops E) (L : FieldLaws o) (A : Structure E) (constants
       ∙ ap (λ (t : Tuple o m). t.0) (mul_assoc (b i) (b j) (b k))
       ∙ list-mul (b i) (mul (b j) (b k)) ∙ ap (λ t. product o m cs (basis o m i) t) (list-mul (b j) (b k))
 
-  pub split_one_is : IsTableOne o m cs split_one.0
+  pub split_one_is : IsIdentity o A split_one.0
   split_one_is = record {
     tuple = is_tuple-IsTuple o m split_one.0 split_one.1;
     one-mul = λ i _. sym (list-mul split_one (b i)) ∙ ap (λ (t : Tuple o m). t.0)
