@@ -84,7 +84,7 @@ module _ {E : Type 0} (o : Ops E) (L : FieldLaws o) where
         (entry_table o L (m * m) m (λ r. commutator_item o m cs (r / m) (r % m)) r j r_in j_in))
         ∙ commutator-sum (r / m) (r % m)
 
-    pub central_of_killed : IsKilled o (m * m) m (commutator_rows o m cs) v → IsCentral o m cs v
+    pub central_of_killed : IsKilled o (m * m) m (commutator_rows o m cs) v → IsCentral o (record { dim = m; constants = cs }) v
     central_of_killed killed = record {
       tuple = tuple;
       commutes = λ i i_in. IsTuple-ext o m (product o m cs v (basis o m i)) (product o m cs (basis o m i) v)
@@ -102,7 +102,7 @@ module _ {E : Type 0} (o : Ops E) (L : FieldLaws o) where
           ∙ sym (at-basis_product o L m cs constants v i k tuple.of_elements i_in k_in));
     }
 
-    pub killed_of_central : IsCentral o m cs v → IsKilled o (m * m) m (commutator_rows o m cs) v
+    pub killed_of_central : IsCentral o (record { dim = m; constants = cs }) v → IsKilled o (m * m) m (commutator_rows o m cs) v
     killed_of_central h r r_in =
         let i = r / m in
         let k = r % m in
@@ -116,7 +116,7 @@ module _ {E : Type 0} (o : Ops E) (L : FieldLaws o) where
 
   -- the kernel of the rows is the centre
   pub kernel-central : (m : ℕ) (cs : List E) → All (IsElem o) cs → (v : List E) → IsTuple o m v
-      → (IsKilled o (m * m) m (commutator_rows o m cs) v ↔ IsCentral o m cs v)
+      → (IsKilled o (m * m) m (commutator_rows o m cs) v ↔ IsCentral o (record { dim = m; constants = cs }) v)
   kernel-central m cs constants v tuple =
       (central_of_killed m cs constants v tuple, killed_of_central m cs constants v tuple)
 
@@ -135,7 +135,7 @@ module _ {E : Type 0} (o : Ops E) (L : FieldLaws o) where
   pub spans_centre : (m : ℕ) (cs : List E) (rows found : List (List E)) → All (IsElem o) cs
       → rows ≡ commutator_rows o m cs → width_of rows ≡ m
       → SpansKernel o (length rows) (width_of rows) rows found → (v : List E) → IsTuple o m v
-      → (InSpan o m found v ↔ IsCentral o m cs v)
+      → (InSpan o m found v ↔ IsCentral o (record { dim = m; constants = cs }) v)
   spans_centre m cs rows found constants e wide spans v tuple =
       let long : length rows ≡ m * m = ap length e
       ∙ length-table (m * m) (λ r. table m (commutator_item o m cs (r / m) (r % m))) in

@@ -10,6 +10,7 @@ use Rattle.theory_spaces.specs.Tuples.{product, basis, constant}
 use Rattle.theory_spaces.proofs.Tuples.Tuples.{at-table}
 use Rattle.theory_spaces.proofs.Tuples.TupleProducts.{product_basis}
 use Rattle.theory_tables.proofs.Rows.Sums.{sum_of_comm, mul-sum_of}
+use Rattle.theory_tables.specs.Structure.{Structure}
 use Rattle.theory_tables.specs.Traces.{left_matrix, trace, trace_form}
 use Rattle.spl_algebra.specs.Products.{sum_of_rows}
 use Rattle.spl_algebra.specs.Contractions.{contracted, contraction, basis_trace}
@@ -43,6 +44,9 @@ first_within n d m k en ed long r j l r_in j_in l_in =
     subst (λ p. p < k) (sym e) (constant_within r j l m k (omega arith) (omega arith) (omega arith) long)
 
 module _ {E : Type 0} (o : Ops E) (L : FieldLaws o) (m : ℕ) (cs : List E) (constants : All (IsElem o) cs) where
+  abbrev A : Structure E
+  A = record { dim = m; constants = cs }
+
   pub constant-elem : (i j k : ℕ) → IsElem o (constant o m cs i j k)
   constant-elem i j k = at-elem o L cs constants ((i * m + j) * m + k)
 
@@ -66,7 +70,7 @@ module _ {E : Type 0} (o : Ops E) (L : FieldLaws o) (m : ℕ) (cs : List E) (con
       (λ l. o.mul (at o a l) (constant o m cs i l k))
       (λ l _. ap (o.mul (at o a l)) (sym (constant-row o m cs i l k)))
 
-  pub contraction-left : (a : List E) → All (IsElem o) a → contraction o m a cs 1 m (m * m) ≡ left_matrix o m cs a
+  pub contraction-left : (a : List E) → All (IsElem o) a → contraction o m a cs 1 m (m * m) ≡ left_matrix o A a
   contraction-left a ha = table_congr m
       (λ r. table m (λ j. contracted o m a cs (r * 1 + j * m) (m * m)))
       (λ k. table m (λ j. at o (product o m cs a (basis o m j)) k))
@@ -81,14 +85,14 @@ module _ {E : Type 0} (o : Ops E) (L : FieldLaws o) (m : ℕ) (cs : List E) (con
 
   -- the same of what a program has read
   pub contraction-left_of : (n d : ℕ) (s a k : List E) → n ≡ m → d ≡ m → s ≡ a → k ≡ cs → All (IsElem o) a
-      → contraction o n s k 1 d (d * d) ≡ left_matrix o m cs a
+      → contraction o n s k 1 d (d * d) ≡ left_matrix o A a
   contraction-left_of n d s a k en ed es ek ha =
       ap₂ (λ x y. contraction o x s k 1 y (y * y)) en ed ∙ ap₂ (λ x y. contraction o m x y 1 m (m * m)) es ek
       ∙ contraction-left a ha
 
   -- the trace is linear: that of a is the sum over l of a_l times that of b_l
   pub trace-by_basis : (a : List E) → All (IsElem o) a
-      → trace o m cs a ≡ sum_of o m (λ l. o.mul (at o a l) (basis_trace o m cs l))
+      → trace o A a ≡ sum_of o m (λ l. o.mul (at o a l) (basis_trace o m cs l))
   trace-by_basis a ha =
       let a_in = at-elem o L a ha in
       sum_of_congr o m (λ j. at o (product o m cs a (basis o m j)) j)
@@ -104,13 +108,13 @@ module _ {E : Type 0} (o : Ops E) (L : FieldLaws o) (m : ℕ) (cs : List E) (con
   basis_trace-elem i = sum_of-elem o L m (λ j. constant o m cs i j j) (λ j _. constant-elem i j j)
 
   pub contraction-form : (traces : List E) → traces ≡ table m (basis_trace o m cs)
-      → contraction o m traces cs (m * m) m 1 ≡ trace_form o m cs
+      → contraction o m traces cs (m * m) m 1 ≡ trace_form o A
   contraction-form traces e = table_congr m
       (λ r. table m (λ j. contracted o m traces cs (r * (m * m) + j * m) 1))
-      (λ i. table m (λ j. trace o m cs (product o m cs (basis o m i) (basis o m j))))
+      (λ i. table m (λ j. trace o A (product o m cs (basis o m i) (basis o m j))))
       (λ r r_in. table_congr m
       (λ j. contracted o m traces cs (r * (m * m) + j * m) 1)
-      (λ j. trace o m cs (product o m cs (basis o m r) (basis o m j)))
+      (λ j. trace o A (product o m cs (basis o m r) (basis o m j)))
       (λ j j_in.
       let row = table m (λ l. constant o m cs r j l) in
       sum_of_congr o m (λ l. o.mul (at o traces l) (at o cs (r * (m * m) + j * m + l * 1)))
@@ -120,13 +124,13 @@ module _ {E : Type 0} (o : Ops E) (L : FieldLaws o) (m : ℕ) (cs : List E) (con
       ∙ L.mul_comm (basis_trace o m cs l) (constant o m cs r j l) (basis_trace-elem l) (constant-elem r j l)
       ∙ ap (λ x. o.mul x (basis_trace o m cs l)) (sym (at-table o m (λ l. constant o m cs r j l) l l_in)))
       ∙ sym (trace-by_basis row (row-elems r j))
-      ∙ ap (trace o m cs) (sym (product_basis o L m cs constants r j r_in j_in))))
+      ∙ ap (trace o A) (sym (product_basis o L m cs constants r j r_in j_in))))
     where
       row-elems : (r j : ℕ) → All (IsElem o) (table m (λ l. constant o m cs r j l))
       row-elems r j = All-table (IsElem o) m (λ l. constant o m cs r j l) (λ l _. constant-elem r j l)
 
   pub contraction-form_of : (n d : ℕ) (s k : List E) → n ≡ m → d ≡ m → s ≡ table m (basis_trace o m cs) → k ≡ cs
-      → contraction o n s k (d * d) d 1 ≡ trace_form o m cs
+      → contraction o n s k (d * d) d 1 ≡ trace_form o A
   contraction-form_of n d s k en ed es ek =
       ap₂ (λ x y. contraction o x s k (y * y) y 1) en ed ∙ ap (λ y. contraction o m s y (m * m) m 1) ek
       ∙ contraction-form s es

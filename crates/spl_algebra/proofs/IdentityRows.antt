@@ -12,7 +12,7 @@ use Rattle.theory_rings.specs.Ops.{Ops, IsElem, FieldLaws}
 use Rattle.theory_rings.specs.Sum.{at, sum_of, table}
 use Rattle.theory_rings.proofs.Rings.Elements.{at-elem, sum_of-elem, sum_of_congr}
 use Rattle.theory_rings.proofs.Sums.Lists.{length-table, get_or-table, table_congr}
-use Rattle.theory_spaces.specs.Tuples.{IsTuple, tuple_neg, basis, product, constant, IsTableOne}
+use Rattle.theory_spaces.specs.Tuples.{IsTuple, tuple_neg, basis, product, constant}
 use Rattle.theory_spaces.proofs.Tuples.Tuples.{at-table, IsTuple-table}
 use Rattle.theory_spaces.proofs.Matrices.PairIndex.{pair-lt, row-lt, column-lt}
 use Rattle.theory_tables.specs.Matrix.{entry, width_of, IsMatrix}
@@ -20,7 +20,10 @@ use Rattle.theory_tables.specs.Solve.{IsSolved, IsRefuted}
 use Rattle.theory_tables.proofs.Rows.Sums.{sum_of-add, sum_of-next, entry-elem}
 use Rattle.theory_tables.proofs.Rows.Spans.{sum_of-split}
 use Rattle.theory_tables.proofs.Rows.Terms.{add-zero, zero-mul, mul-zero, mul-one, add-mul, cond_yes, cond_no}
-use Rattle.theory_tables.specs.Claims.{multiplier_at, NoIdentityClaim}
+use Rattle.theory_tables.specs.Conditions.{multiplier_at, MultipliersAnnihilate, MultipliersRefute}
+use Rattle.theory_tables.specs.Algebras.{IsIdentity}
+use Rattle.theory_tables.specs.Claims.{NoIdentityClaim}
+use Rattle.theory_tables.specs.Structure.{Structure}
 use Rattle.spl_algebra.specs.IdentitySystem.{constant_place, unit_item, constant_row, unit_row, IsIdentitySystem}
 use Rattle.spl_algebra.specs.IdentitySystem.{ListsMultipliers}
 use Rattle.spl_algebra.specs.Products.{sum_of_rows}
@@ -141,6 +144,9 @@ module _ {E : Type 0} (o : Ops E) (L : FieldLaws o) where
 
   module _ (m : ℕ) (cs : List E) (elems : All (IsElem o) cs) (rows : List (List E))
       (S : IsIdentitySystem o m cs rows) where
+    abbrev A : Structure E
+    A = record { dim = m; constants = cs }
+
     pub system_width : width_of rows ≡ m * m + m * m
     system_width =
         let some : 0 < length rows = omega (arith, S.height) in
@@ -171,12 +177,11 @@ module _ {E : Type 0} (o : Ops E) (L : FieldLaws o) where
     pub refutes_identity : (v : List E) (left right : List (ℕ × ℕ × E))
         → IsSolved o (length rows) (width_of rows) rows (basis o (m + 1) m) v
         → ListsMultipliers o m (take (m * m) v) left → ListsMultipliers o m (drop (m * m) v) right
-        → NoIdentityClaim o m cs left right
+        → NoIdentityClaim o A left right
     refutes_identity v left right s l r = record {
-      left_multipliers = l.multipliers;
-      right_multipliers = r.multipliers;
-      kills = kills;
-      refutes = refutes;
+      fits = (l.multipliers, r.multipliers);
+      annihilate = annihilate;
+      refute = refute;
     }
       where
         of_v : (c : ℕ) → IsElem o (at o v c)
@@ -206,10 +211,8 @@ module _ {E : Type 0} (o : Ops E) (L : FieldLaws o) where
         turned : (x y a b : E) → IsElem o x → IsElem o b → a ≡ x → y ≡ b → o.mul a b ≡ o.mul y x
         turned x y a b hx hb p q = ap (λ z. o.mul z b) p ∙ L.mul_comm x b hx hb ∙ ap (λ z. o.mul z x) (sym q)
 
-        kills : (i : ℕ) → i < m → sum_of o m (λ j. sum_of o m (λ k. o.add
-            (o.mul (multiplier_at o left (j + 1) (k + 1)) (constant o m cs i j k))
-            (o.mul (multiplier_at o right (j + 1) (k + 1)) (constant o m cs j i k)))) ≡ o.zero
-        kills i h =
+        annihilate : MultipliersAnnihilate o A left right
+        annihilate i h =
             let next : i < m + 1 = omega arith in
             sum_of_congr o m
             (λ j. sum_of o m (λ k.
@@ -263,9 +266,8 @@ module _ {E : Type 0} (o : Ops E) (L : FieldLaws o) where
             (unit_term (at o v (m * m + (j * m + j))) (entry o rows m (m * m + (j * m + j)))
             (of_v (m * m + (j * m + j))) (right_unit j j hj hj ∙ cond_yes j j o.one o.zero refl))
 
-        refutes : sum_of o m (λ j.
-            o.add (multiplier_at o left (j + 1) (j + 1)) (multiplier_at o right (j + 1) (j + 1))) ≡ o.one
-        refutes =
+        refute : MultipliersRefute o A left right
+        refute =
             let next : m < m + 1 = omega arith in
             sum_of_congr o m (λ j. o.add (multiplier_at o left (j + 1) (j + 1)) (multiplier_at o right (j + 1) (j + 1)))
             (λ j. sum_of o m (λ k.
@@ -277,7 +279,7 @@ module _ {E : Type 0} (o : Ops E) (L : FieldLaws o) where
 
     -- what refutes that there is a solution is the opposite of an identity
     pub opposite_is_one : (u : List E) → IsRefuted o (length rows) (width_of rows) rows (basis o (m + 1) m) u
-        → IsTableOne o m cs (tuple_neg o m u)
+        → IsIdentity o A (tuple_neg o m u)
     opposite_is_one u r = record {
       tuple = IsTuple-table o m (λ i. o.neg (at o u i)) (λ i _. L.neg-elem (at o u i) (of_u i));
       one-mul = one-mul;

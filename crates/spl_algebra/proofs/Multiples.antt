@@ -1,21 +1,18 @@
 -- The steps to a generated ideal: products of rows with basis elements are added until nothing new comes.
 use Rattle.std.specs.Prelude.{◌≡◌, ℕ, ◌+◌, ◌<◌, ◌≤◌, List, [], ◌∷◌, ◌++◌, length, get_or, All}
-use Rattle.std.proofs.Common.{refl, sym, ◌∙◌, ap, subst, arith, below_more, length-append}
+use Rattle.std.proofs.Common.{refl, sym, subst, arith, below_more, length-append}
 use Rattle.std.proofs.lemmas.List.{get_or_append_left, get_or_push}
 use Rattle.theory_rings.specs.Ops.{Ops, IsElem, FieldLaws}
-use Rattle.theory_rings.specs.Sum.{at, sum_of, table}
-use Rattle.theory_rings.proofs.Sums.Lists.{length-table, get_or-table}
-use Rattle.theory_rings.proofs.Rings.Elements.{at-elem, sum_of_congr}
-use Rattle.theory_spaces.specs.Tuples.{IsTuple, product, basis, constant}
+use Rattle.theory_spaces.specs.Tuples.{IsTuple, product, basis}
 use Rattle.theory_spaces.proofs.Tuples.TupleProducts.{IsTuple-product, IsTuple-basis}
-use Rattle.theory_tables.specs.Matrix.{IsMatrix, entry}
+use Rattle.theory_tables.specs.Matrix.{IsMatrix}
 use Rattle.theory_tables.specs.Subspace.{InSpan, SameSpan, IsReducedBasis}
-use Rattle.theory_tables.proofs.Rows.Sums.{sums_assoc, entry-elem, All_step}
-use Rattle.theory_tables.proofs.Rows.Spans.{InSpan-by, InSpan-member, InSpan_trans, rows_in, grow_at}
-use Rattle.theory_tables.specs.Algebras.{SpansIdeal}
+use Rattle.theory_tables.proofs.Rows.Sums.{All_step}
+use Rattle.theory_tables.proofs.Rows.Spans.{InSpan-member, InSpan_trans, rows_in, grow_at}
+use Rattle.theory_tables.specs.Structure.{Structure}
+use Rattle.theory_tables.proofs.Algebras.SpannedIdeals.{spans_ideal}
 use Rattle.spl_algebra.specs.Multiples.{RowsIn, AddsMultiples, HoldsMultiples, IsBetween}
 use Rattle.spl_algebra.specs.Subspaces.{GeneratesIdeal}
-use Rattle.spl_algebra.proofs.Contractions.{constant-elem, at-product_basis, at-basis_product}
 use Rattle.spl_algebra.proofs.Inclusions.{dimension_mono, same_of_dimension}
 
 module _ {E : Type 0} (o : Ops E) (L : FieldLaws o) (m : ℕ) where
@@ -44,53 +41,9 @@ module _ {E : Type 0} (o : Ops E) (L : FieldLaws o) (m : ℕ) where
   RowsIn_trans : (a b c : List (List E)) → IsMatrix o m c → RowsIn o m a b → RowsIn o m b c → RowsIn o m a c
   RowsIn_trans a b c shape h k r r_in = InSpan_trans o L m b c (get_or a r []) shape k (h r r_in)
 
-  -- a linear map that takes each row to a combination of the rows does so with their combinations
-  map_span : (z : ℕ → ℕ → E) → ((l k : ℕ) → IsElem o (z l k)) → (f : List E → List E)
-      → ((v : List E) → All (IsElem o) v → (k : ℕ) → k < m → at o (f v) k ≡ sum_of o m (λ l. o.mul (at o v l) (z l k)))
-      → (rows : List (List E)) → IsMatrix o m rows
-      → ((s : ℕ) → s < length rows → InSpan o m rows (f (get_or rows s [])))
-      → (v : List E) → All (IsElem o) v → InSpan o m rows v → InSpan o m rows (f v)
-  map_span z z_in f is rows shape each v v_elems h =
-      let c = at o h.0 in
-      let c_in = at-elem o L h.0 h.1.of_elements in
-      let row : ℕ → List E = λ s. f (get_or rows s []) in
-      let images = table (length rows) row in
-      InSpan_trans o L m images rows (f v) shape
-      (λ s s_in.
-      let s_in' : s < length rows = omega (arith, length-table (length rows) row) in
-      subst (InSpan o m rows) (sym (get_or-table (length rows) row s [] s_in')) (each s s_in'))
-      (InSpan-by o L m images (f v) c c_in (λ k k_in.
-      is v v_elems k k_in
-      ∙ sum_of_congr o m (λ l. o.mul (at o v l) (z l k))
-      (λ l. o.mul (sum_of o (length rows) (λ s. o.mul (c s) (entry o rows s l))) (z l k))
-      (λ l l_in. ap (λ x. o.mul x (z l k)) (h.2 l l_in))
-      ∙ sums_assoc o L (length rows) m c (entry o rows) (λ l. z l k) c_in (entry-elem o L m rows shape) (λ l. z_in l k)
-      ∙ sum_of_congr o (length rows) (λ s. o.mul (c s) (sum_of o m (λ l. o.mul (entry o rows s l) (z l k))))
-      (λ s. o.mul (c s) (entry o images s k))
-      (λ s s_in. ap (o.mul (c s))
-      (sym (is (get_or rows s []) (shape s [] s_in).of_elements k k_in)
-      ∙ ap (λ xs. at o xs k) (sym (get_or-table (length rows) row s [] s_in))))
-      ∙ ap (λ n. sum_of o n (λ s. o.mul (c s) (entry o images s k))) (sym (length-table (length rows) row))))
-
   module _ (cs : List E) (constants : All (IsElem o) cs) where
-    -- an ideal is closed under multiplication of all its elements
-    pub ideal-left : (rows : List (List E)) → SpansIdeal o m cs rows → (v : List E) → All (IsElem o) v
-        → InSpan o m rows v
-        → (i : ℕ) → i < m → InSpan o m rows (product o m cs (basis o m i) v)
-    ideal-left rows ideal v v_elems h i i_in =
-        map_span (λ l k. constant o m cs i l k) (λ l k. constant-elem o L m cs constants i l k)
-        (product o m cs (basis o m i))
-        (λ v v_elems k k_in. at-basis_product o L m cs constants v i k v_elems i_in k_in) rows ideal.shape
-        (λ s s_in. ideal.left i s i_in s_in) v v_elems h
-
-    pub ideal-right : (rows : List (List E)) → SpansIdeal o m cs rows → (v : List E) → All (IsElem o) v
-        → InSpan o m rows v
-        → (i : ℕ) → i < m → InSpan o m rows (product o m cs v (basis o m i))
-    ideal-right rows ideal v v_elems h i i_in =
-        map_span (λ l k. constant o m cs l i k) (λ l k. constant-elem o L m cs constants l i k)
-        (λ v. product o m cs v (basis o m i))
-        (λ v v_elems k k_in. at-product_basis o L m cs constants v i k v_elems i_in k_in) rows ideal.shape
-        (λ s s_in. ideal.right i s i_in s_in) v v_elems h
+    abbrev A : Structure E
+    A = record { dim = m; constants = cs }
 
     pub AddsMultiples-none : (row : List E) (rows : List (List E)) → IsMatrix o m rows
         → AddsMultiples o m cs 0 row rows rows
@@ -135,8 +88,8 @@ module _ {E : Type 0} (o : Ops E) (L : FieldLaws o) (m : ℕ) where
               (subst (InSpan o m (first ++ right ∷ [])) right_is (InSpan-last first right shape2));
           only = λ other ideal h k. RowsIn-push first other right
               (RowsIn-push new other left (a.only other ideal h k)
-              (subst (InSpan o m other) (sym left_is) (ideal-left other ideal row tuple.of_elements k n n_in)))
-              (subst (InSpan o m other) (sym right_is) (ideal-right other ideal row tuple.of_elements k n n_in));
+              (subst (InSpan o m other) (sym left_is) (ideal.ideal.left (basis o m n) row (IsTuple-basis o L m cs constants n) (tuple, k)).1))
+              (subst (InSpan o m other) (sym right_is) (ideal.ideal.right (basis o m n) row (IsTuple-basis o L m cs constants n) (tuple, k)).1);
         })
 
     pub HoldsMultiples-none : (rows more : List (List E)) → IsMatrix o m rows → more ≡ rows
@@ -203,17 +156,14 @@ module _ {E : Type 0} (o : Ops E) (L : FieldLaws o) (m : ℕ) where
     -- where the dimension doesn't grow, nothing new has come
     pub generates : (by rows next : List (List E)) → IsMatrix o m by → IsBetween o m cs by rows
         → IsReducedBasis o m next → HoldsMultiples o m cs (length rows) rows next
-        → length next ≤ length rows → GeneratesIdeal o (record { dim = m; constants = cs }) by rows
+        → length next ≤ length rows → GeneratesIdeal o A by rows
     generates by rows next shape b x h short =
         let long : length rows ≡ length next = omega (arith, dimension_mono o L m rows next b.basis x h.keeps) in
         let same : rows ≡ next = same_of_dimension o L m rows next b.basis x h.keeps long in
         record {
-          ideal = record {
-            shape = b.basis.shape;
-            left = λ i r i_in r_in. back same (product o m cs (basis o m i) (get_or rows r [])) (h.left i r i_in r_in);
-            right = λ i r i_in r_in.
-                back same (product o m cs (get_or rows r []) (basis o m i)) (h.right i r i_in r_in);
-          };
+          ideal = spans_ideal o L A constants rows b.basis.shape
+              (λ i r i_in r_in. back same (product o m cs (basis o m i) (get_or rows r [])) (h.left i r i_in r_in))
+              (λ i r i_in r_in. back same (product o m cs (get_or rows r []) (basis o m i)) (h.right i r i_in r_in));
           holds = λ v _. InSpan_trans o L m by rows v b.basis.shape b.holds;
           least = λ other ideal k v _. InSpan_trans o L m rows other v ideal.shape
               (b.least other ideal (λ r r_in.

@@ -12,7 +12,8 @@ use Rattle.theory_rings.specs.Sum.{at}
 use Rattle.theory_rings.proofs.Rings.Elements.{at-elem}
 use Rattle.theory_spaces.specs.Tuples.{IsTuple}
 use Rattle.theory_spaces.proofs.Matrices.PairIndex.{pair-lt, row-lt, column-lt}
-use Rattle.theory_tables.specs.Claims.{PairBefore, multiplier_at}
+use Rattle.theory_tables.specs.Conditions.{multiplier_at}
+use Rattle.theory_tables.specs.Claims.{PairBefore}
 use Rattle.spl_algebra.specs.IdentitySystem.{ListsMultipliers}
 
 -- numbers that go up have pairs of quotient and remainder that go up

@@ -1,6 +1,6 @@
 -- What the answer to the question for an identity shows.
 use Rattle.theory_rings.specs.Ops.{Ops}
-use Rattle.theory_spaces.specs.Tuples.{IsTableOne}
+use Rattle.theory_tables.specs.Algebras.{IsIdentity}
 use Rattle.theory_tables.specs.Claims.{NoIdentityClaim}
 use Rattle.theory_tables.specs.Structure.{Structure}
 use Rattle.spl_algebra.specs.declared.identity.One.{One}
@@ -8,5 +8,5 @@ use Rattle.spl_algebra.specs.declared.identity.One.TheVariants.{Here, Refuted}
 
 -- the tuple is an identity, or the multipliers refute that there is one
 abbrev pub IsOne : {F E : Type 0} → Ops E → Structure E → One F E → Type 0
-IsOne o A (Here tuple) = IsTableOne o A.dim A.constants tuple
-IsOne o A (Refuted left right) = NoIdentityClaim o A.dim A.constants left right
+IsOne o A (Here tuple) = IsIdentity o A tuple
+IsOne o A (Refuted left right) = NoIdentityClaim o A left right

@@ -4,7 +4,8 @@ use Rattle.std.specs.Prelude.{◌≡◌, ◌+◌, ◌-◌, ◌*◌, ◌/◌, ◌
 use Rattle.theory_rings.specs.Ops.{Ops}
 use Rattle.theory_rings.specs.Sum.{table, at}
 use Rattle.theory_tables.specs.Matrix.{entry, IsMatrix}
-use Rattle.theory_tables.specs.Claims.{multiplier_at, AreMultipliers}
+use Rattle.theory_tables.specs.Conditions.{multiplier_at}
+use Rattle.theory_tables.specs.Claims.{AreMultipliers}
 
 -- the place among the m³ constants of γ_ijk where the column c is j·m + k, and of γ_jik where it is m² + j·m + k
 abbrev pub constant_place : ℕ → ℕ → ℕ → ℕ

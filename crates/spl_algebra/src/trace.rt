@@ -139,7 +139,7 @@ impl<F: Field> Algebra<F> {
         requires over { IsOver (F.ops f.now) self.now }
         requires element { IsElement (F.ops f.now) self.now a.now }
         ensures shape { IfOk result (IsMatrix (F.ops f.now) self.now.dim) }
-        ensures value { IfOk result (λ r. r ≡ left_matrix (F.ops f.now) self.now.dim self.now.constants a.now) }
+        ensures value { IfOk result (λ r. r ≡ left_matrix (F.ops f.now) self.now a.now) }
     {
         let m = self.dim();
         let constants = self.constants();
@@ -151,7 +151,7 @@ impl<F: Field> Algebra<F> {
     pub fn trace_form(&self, alloc: Global, f: &F) -> Result<Matrix<F>, NoMemory>
         requires { IsOver (F.ops f.now) self.now }
         ensures shape { IfOk result (IsMatrix (F.ops f.now) self.now.dim) }
-        ensures value { IfOk result (λ r. r ≡ trace_form (F.ops f.now) self.now.dim self.now.constants) }
+        ensures value { IfOk result (λ r. r ≡ trace_form (F.ops f.now) self.now) }
     {
         let m = self.dim();
         let constants = self.constants();

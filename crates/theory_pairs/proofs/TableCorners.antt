@@ -97,8 +97,7 @@ module _ {E : Type 0} (o : Ops E) (L : FieldLaws o) where
         let c = C in
         let p = c.module-is in
         record {
-          dim = k;
-          constants = cs;
+          structure = record { dim = k; constants = cs };
           over = cs_over;
           algebra = c.algebra;
           is_table = record {
@@ -114,6 +113,7 @@ module _ {E : Type 0} (o : Ops E) (L : FieldLaws o) where
         }
 
   pub tables_have_corners : TablesHaveCorners o L
-  tables_have_corners n cs A T e idem =
-      let b = corner_basis_of K A e idem n (space_basis (module_of A) n (table_space o L n cs A T)) in
+  tables_have_corners T A h e idem =
+      let n = T.dim in
+      let b = corner_basis_of K A e idem n (space_basis (module_of A) n (table_space o L n T.constants A h)) in
       table_of_corner n A e idem b.0 b.1

@@ -1,25 +1,25 @@
 -- The corner of an algebra of tuples by structure constants, as such an algebra over the same field of a program.
 -- (Pierce, Associative Algebras, chapter 6.)
-use Rattle.std.specs.Prelude.{◌≡◌, ℕ, ◌*◌, List}
+use Rattle.std.specs.Prelude.{◌≡◌, ℕ}
 use Rattle.theory_rings.specs.Ops.{Ops, FieldLaws}
 use Rattle.theory_rings.specs.Elements.{elements}
 use Rattle.theory_spaces.specs.Module.{AlgebraOn}
-use Rattle.theory_spaces.specs.Tuples.{IsTuple, Tuple, IsTableAlgebra}
+use Rattle.theory_spaces.specs.Tuples.{Tuple, IsTableAlgebra}
+use Rattle.theory_tables.specs.Structure.{Structure, IsOver}
 use Rattle.theory_pairs.specs.Corner.{IsCorner}
 
 module _ {E : Type 0} (o : Ops E) (L : FieldLaws o) where
   -- a dimension and structure constants, which make the tuples an algebra that is the corner of e
   pub record TableOfCorner (n : ℕ) (A : AlgebraOn (elements o L).ring (Tuple o n)) (e : Tuple o n) : Type 0 where
-    pub dim : ℕ
-    pub constants : List E
-    pub over : IsTuple o (dim * dim * dim) constants
-    pub algebra : AlgebraOn (elements o L).ring (Tuple o dim)
-    pub is_table : IsTableAlgebra o L dim constants algebra
-    pub inclusion : Tuple o dim → Tuple o n
+    pub structure : Structure E
+    pub over : IsOver o structure
+    pub algebra : AlgebraOn (elements o L).ring (Tuple o structure.dim)
+    pub is_table : IsTableAlgebra o L structure.dim structure.constants algebra
+    pub inclusion : Tuple o structure.dim → Tuple o n
     pub corner : IsCorner A e algebra inclusion
 
   -- each idempotent of the algebra of a table has one
   abbrev pub TablesHaveCorners : Type 0
   TablesHaveCorners =
-      (n : ℕ) (cs : List E) (A : AlgebraOn (elements o L).ring (Tuple o n)) → IsTableAlgebra o L n cs A
-      → (e : Tuple o n) → A.◌⊗◌ e e ≡ e → TableOfCorner n A e
+      (T : Structure E) (A : AlgebraOn (elements o L).ring (Tuple o T.dim)) → IsTableAlgebra o L T.dim T.constants A
+      → (e : Tuple o T.dim) → A.◌⊗◌ e e ≡ e → TableOfCorner T.dim A e

@@ -24,7 +24,7 @@ returns-clause-value g c =
     let a = c.args.a.now in
     let P : List (List g.row.F-Elem.Denot)
     → Type 0 = λ r. r ≡ contraction o (length items) items constants 1 d (d * d) in
-    let Q : List (List g.row.F-Elem.Denot) → Type 0 = λ r. r ≡ left_matrix o A.dim A.constants a in
+    let Q : List (List g.row.F-Elem.Denot) → Type 0 = λ r. r ≡ left_matrix o A a in
     IfOk-weaker c.contraction_of.result P Q
     (λ r e. e ∙ contraction-left_of o L A.dim A.constants c.requires.over.of_elements
     (length items) d items a constants (ap length c.as_slice.ensures ∙ c.requires.element.right_length)
