@@ -9,8 +9,8 @@ use Rattle.theory_rings.specs.Sum.{at, sum_of}
 use Rattle.theory_rings.proofs.Rings.Elements.{at-elem, sum_of_congr}
 use Rattle.theory_spaces.specs.Module.{AlgebraOn, module_of}
 use Rattle.theory_spaces.specs.Linear.{Basis}
-use Rattle.theory_spaces.specs.Tuples.{IsTuple, Tuple, tuple_scale, basis, constant, product, AssociativeTable}
-use Rattle.theory_spaces.specs.Tuples.{IsTableOne, IsTableAlgebra}
+use Rattle.theory_spaces.specs.Tuples.{IsTuple, Tuple, tuple_scale, basis, constant, product}
+use Rattle.theory_spaces.specs.Tuples.{IsTableAlgebra}
 use Rattle.theory_spaces.proofs.Linear.Modules.{linear_ext, left_linear}
 use Rattle.theory_spaces.proofs.Tuples.Tuples.{at-table, IsTuple-table, IsTuple-ext, Tuple-path}
 use Rattle.theory_spaces.proofs.Tuples.TupleProducts.{product-one, scale-product, IsTuple-basis}
@@ -19,7 +19,8 @@ use Rattle.theory_tables.specs.Subspace.{InSpan, IsReducedBasis}
 use Rattle.theory_tables.proofs.Rows.Spans.{InSpan-by, InSpan-member}
 use Rattle.theory_tables.proofs.Rows.Sums.{sum_of_zeros, entry-elem, All_step}
 use Rattle.theory_tables.proofs.Rows.Terms.{zero-mul, mul-zero, mul-one}
-use Rattle.theory_tables.specs.Algebras.{IsCentral, IsMultiple, HasSmallCentre}
+use Rattle.theory_tables.specs.Structure.{Structure, IsAssociative}
+use Rattle.theory_tables.specs.Algebras.{IsIdentity, IsCentral, IsMultiple, HasSmallCentre}
 use Rattle.theory_tables.specs.Claims.{CentralClaim}
 use Rattle.theory_tables.proofs.Algebras.Bridge.{as_tuple, algebra, algebra_is, one-is, table_basis, vec-is}
 use Rattle.theory_tables.proofs.Algebras.Bridge.{product_basis-at}
@@ -37,38 +38,38 @@ module _ {E : Type 0} (o : Ops E) (L : FieldLaws o) (m : ℕ) where
       ∙ L.zero-add (o.mul (at o s.0 0) (entry o rows 0 j))
       (L.mul-elem (at o s.0 0) (entry o rows 0 j) (at-elem o L s.0 s.1.of_elements 0) (entry-elem o L m rows shape 0 j))
 
-module _ {E : Type 0} (o : Ops E) (L : FieldLaws o) (m : ℕ) (cs : List E) where
-  multiple-at : (a v : List E) (q : IsMultiple o m cs a v) (j : ℕ) → j < m → at o v j ≡ o.mul q.factor (at o a j)
-  multiple-at a v q j j_in = ap (λ xs. at o xs j) q.is_multiple ∙ at-table o m (λ k. o.mul q.factor (at o a k)) j j_in
+module _ {E : Type 0} (o : Ops E) (L : FieldLaws o) (A : Structure E) where
+  multiple-at : (a v : List E) (q : IsMultiple o A a v) (j : ℕ) → j < A.dim → at o v j ≡ o.mul q.factor (at o a j)
+  multiple-at a v q j j_in = ap (λ xs. at o xs j) q.is_multiple ∙ at-table o A.dim (λ k. o.mul q.factor (at o a k)) j j_in
 
   -- the span of one row is its multiples
-  pub span_of_one : (a : List E) → IsTuple o m a → (v : List E) → IsTuple o m v
-      → (InSpan o m (a ∷ []) v ↔ IsMultiple o m cs a v)
+  pub span_of_one : (a : List E) → IsTuple o A.dim a → (v : List E) → IsTuple o A.dim v
+      → (InSpan o A.dim (a ∷ []) v ↔ IsMultiple o A a v)
   span_of_one a ha v hv = (to, from)
     where
-      shape : IsMatrix o m (a ∷ [])
-      shape = All_step (IsTuple o m) [] (a ∷ []) a (All-nil (IsTuple o m)) ha refl
+      shape : IsMatrix o A.dim (a ∷ [])
+      shape = All_step (IsTuple o A.dim) [] (a ∷ []) a (All-nil (IsTuple o A.dim)) ha refl
 
-      to : InSpan o m (a ∷ []) v → IsMultiple o m cs a v
+      to : InSpan o A.dim (a ∷ []) v → IsMultiple o A a v
       to s = record {
         factor = at o s.0 0;
         of_field = at-elem o L s.0 s.1.of_elements 0;
-        is_multiple = IsTuple-ext o m v (tuple_scale o m (at o s.0 0) a) hv
-            (IsTuple-scale o L m (at o s.0 0) a (at-elem o L s.0 s.1.of_elements 0) ha) (λ j j_in.
-            one_row o L m (a ∷ []) v s shape refl j j_in
-            ∙ sym (at-table o m (λ k. o.mul (at o s.0 0) (at o a k)) j j_in));
+        is_multiple = IsTuple-ext o A.dim v (tuple_scale o A.dim (at o s.0 0) a) hv
+            (IsTuple-scale o L A.dim (at o s.0 0) a (at-elem o L s.0 s.1.of_elements 0) ha) (λ j j_in.
+            one_row o L A.dim (a ∷ []) v s shape refl j j_in
+            ∙ sym (at-table o A.dim (λ k. o.mul (at o s.0 0) (at o a k)) j j_in));
       }
 
-      from : IsMultiple o m cs a v → InSpan o m (a ∷ []) v
-      from q = InSpan-by o L m (a ∷ []) v (λ _. q.factor) (λ _. q.of_field) (λ j j_in.
+      from : IsMultiple o A a v → InSpan o A.dim (a ∷ []) v
+      from q = InSpan-by o L A.dim (a ∷ []) v (λ _. q.factor) (λ _. q.of_field) (λ j j_in.
           multiple-at a v q j j_in
           ∙ sym (L.zero-add (o.mul q.factor (at o a j))
           (L.mul-elem q.factor (at o a j) q.of_field (at-elem o L a ha.of_elements j))))
 
   -- of two rows of a reduced basis one is no multiple of a
-  pub not_both_multiples : (a : List E) (rows : List (List E)) → IsTuple o m a → IsReducedBasis o m rows
+  pub not_both_multiples : (a : List E) (rows : List (List E)) → IsTuple o A.dim a → IsReducedBasis o A.dim rows
       → 2 ≤ length rows
-      → IsMultiple o m cs a (get_or rows 0 []) → IsMultiple o m cs a (get_or rows 1 []) → ⊥
+      → IsMultiple o A a (get_or rows 0 []) → IsMultiple o A a (get_or rows 1 []) → ⊥
   not_both_multiples a rows ha x two p q =
       let r = x.reduced in
       let each = x.each in
@@ -95,17 +96,23 @@ module _ {E : Type 0} (o : Ops E) (L : FieldLaws o) (m : ℕ) (cs : List E) wher
       ∙ ap (o.mul c) (sym none) ∙ mul-zero o L c p.of_field in
       L.one-nonzero (other ∙ ap (λ t. o.mul t z) vanishes ∙ zero-mul o L z z_in)
 
-module _ {E : Type 0} (o : Ops E) (L : FieldLaws o) (m : ℕ) (cs : List E) (constants : All (IsElem o) cs)
-    (assoc : AssociativeTable o m cs)
-    (one : List E) (is_one : IsTableOne o m cs one) where
-  abbrev A : AlgebraOn (elements o L).ring (Tuple o m)
-  A = algebra o L m cs constants assoc one is_one
+module _ {E : Type 0} (o : Ops E) (L : FieldLaws o) (A : Structure E) (constants : All (IsElem o) A.constants)
+    (assoc : IsAssociative o A)
+    (one : List E) (is_one : IsIdentity o A one) where
+  abbrev m : ℕ
+  m = A.dim
 
-  abbrev T : IsTableAlgebra o L m cs A
-  T = algebra_is o L m cs constants assoc one is_one
+  abbrev cs : List E
+  cs = A.constants
 
-  abbrev B : Basis (module_of A) m
-  B = table_basis o L m cs constants assoc one is_one
+  abbrev V : AlgebraOn (elements o L).ring (Tuple o m)
+  V = algebra o L A constants assoc one is_one
+
+  abbrev T : IsTableAlgebra o L m cs V
+  T = algebra_is o L A constants assoc one is_one
+
+  abbrev B : Basis (module_of V) m
+  B = table_basis o L A constants assoc one is_one
 
   -- what has the same products with the basis elements is the same
   eq_of_products : (a b : List E) → IsTuple o m a → IsTuple o m b
@@ -113,24 +120,25 @@ module _ {E : Type 0} (o : Ops E) (L : FieldLaws o) (m : ℕ) (cs : List E) (con
   eq_of_products a b ha hb h =
       let x = as_tuple o L m a ha in
       let y = as_tuple o L m b hb in
-      let M = module_of A in
-      let is = one-is o L m cs constants assoc one is_one in
-      let vec = vec-is o L m cs constants assoc one is_one in
+      let M = module_of V in
+      let is = one-is o L A constants assoc one is_one in
+      let vec = vec-is o L A constants assoc one is_one in
       sym (product-one o L m cs constants one is_one a ha)
-      ∙ sym (T.product-is x A.one ∙ ap (product o m cs a) is)
+      ∙ sym (T.product-is x V.one ∙ ap (product o m cs a) is)
       ∙ ap (λ (z : Tuple o m). z.0)
-      (linear_ext M M (λ z. A.◌⊗◌ x z) (λ z. A.◌⊗◌ y z) (left_linear A x) (left_linear A y) m B.vec (λ i i_in.
-      Tuple-path o L m (A.◌⊗◌ x (B.vec i)) (A.◌⊗◌ y (B.vec i))
+      (linear_ext M M (λ z. V.◌⊗◌ x z) (λ z. V.◌⊗◌ y z) (left_linear V x) (left_linear V y) m B.vec (λ i i_in.
+      Tuple-path o L m (V.◌⊗◌ x (B.vec i)) (V.◌⊗◌ y (B.vec i))
       (T.product-is x (B.vec i) ∙ ap (product o m cs a) (vec i) ∙ h i i_in
       ∙ sym (T.product-is y (B.vec i) ∙ ap (product o m cs b) (vec i))))
-      A.one (record { weights = B.coord A.one; combines = B.expand A.one }))
-      ∙ (T.product-is y A.one ∙ ap (product o m cs b) is)
+      V.one (record { weights = B.coord V.one; combines = B.expand V.one }))
+      ∙ (T.product-is y V.one ∙ ap (product o m cs b) is)
       ∙ product-one o L m cs constants one is_one b hb
 
   -- a central element that is no multiple of the identity
-  pub central_claim : (a : List E) → IsCentral o m cs a → (IsMultiple o m cs one a → ⊥) → CentralClaim o m cs a
+  pub central_claim : (a : List E) → IsCentral o A a → (IsMultiple o A one a → ⊥) → CentralClaim o A a
   central_claim a h d = record {
-    central = h;
+    fits = h.tuple;
+    commutes = h.commutes;
     no_multiple = λ c hc e. d (record {
       factor = c;
       of_field = hc;
@@ -143,7 +151,7 @@ module _ {E : Type 0} (o : Ops E) (L : FieldLaws o) (m : ℕ) (cs : List E) (con
     });
   }
 
-  pub one_central : IsCentral o m cs one
+  pub one_central : IsCentral o A one
   one_central = record {
     tuple = is_one.tuple;
     commutes = λ i i_in. is_one.one-mul i i_in
@@ -163,8 +171,8 @@ module _ {E : Type 0} (o : Ops E) (L : FieldLaws o) (m : ℕ) (cs : List E) (con
 
   -- a centre with a basis of fewer than two rows
   pub small_centre : (rows : List (List E)) → 1 ≤ m → IsReducedBasis o m rows
-      → ((v : List E) → IsTuple o m v → (InSpan o m rows v ↔ IsCentral o m cs v))
-      → length rows < 2 → HasSmallCentre o m cs
+      → ((v : List E) → IsTuple o m v → (InSpan o m rows v ↔ IsCentral o A v))
+      → length rows < 2 → HasSmallCentre o A
   small_centre rows some x spans small = ⊎_elim
       (λ (few : length rows < 1).
       let none : length rows ≡ 0 = omega arith in
@@ -197,7 +205,7 @@ module _ {E : Type 0} (o : Ops E) (L : FieldLaws o) (m : ℕ) (cs : List E) (con
           ∙ ap (o.mul c) (sym (L.mul_assoc (o.inv (at o expansion.0 0)) (at o expansion.0 0) r i_in d_in r_in)
           ∙ ap (λ t. o.mul t r) (L.inv-mul (at o expansion.0 0) d_in n) ∙ L.one-mul r r_in)
 
-      of_one_row : length rows ≡ 1 → HasSmallCentre o m cs
+      of_one_row : length rows ≡ 1 → HasSmallCentre o A
       of_one_row single = record {
         one = one;
         is_one = is_one;
@@ -221,20 +229,20 @@ module _ {E : Type 0} (o : Ops E) (L : FieldLaws o) (m : ℕ) (cs : List E) (con
 
   -- of the first two rows of a basis of the centre, one is no multiple of the identity
   module _ (centre multiples : List (List E)) (x : IsReducedBasis o m centre) (large : 2 ≤ length centre)
-      (spans : (v : List E) → IsTuple o m v → (InSpan o m centre v ↔ IsCentral o m cs v))
-      (are_multiples : (v : List E) → IsTuple o m v → (InSpan o m multiples v ↔ IsMultiple o m cs one v)) where
-    row_central : (r : ℕ) → r < length centre → IsCentral o m cs (get_or centre r [])
+      (spans : (v : List E) → IsTuple o m v → (InSpan o m centre v ↔ IsCentral o A v))
+      (are_multiples : (v : List E) → IsTuple o m v → (InSpan o m multiples v ↔ IsMultiple o A one v)) where
+    row_central : (r : ℕ) → r < length centre → IsCentral o A (get_or centre r [])
     row_central r r_in = (spans (get_or centre r []) (x.shape r [] r_in)).0 (InSpan-member o L m centre x.shape r r_in)
 
-    pub first_row_claim : (InSpan o m multiples (get_or centre 0 []) → ⊥) → CentralClaim o m cs (get_or centre 0 [])
+    pub first_row_claim : (InSpan o m multiples (get_or centre 0 []) → ⊥) → CentralClaim o A (get_or centre 0 [])
     first_row_claim d =
         let low : 0 < length centre = omega arith in
         central_claim (get_or centre 0 []) (row_central 0 low)
         (λ q. d ((are_multiples (get_or centre 0 []) (x.shape 0 [] low)).1 q))
 
-    pub second_row_claim : InSpan o m multiples (get_or centre 0 []) → CentralClaim o m cs (get_or centre 1 [])
+    pub second_row_claim : InSpan o m multiples (get_or centre 0 []) → CentralClaim o A (get_or centre 1 [])
     second_row_claim s =
         let low : 0 < length centre = omega arith in
         central_claim (get_or centre 1 []) (row_central 1 large) (λ q.
-        not_both_multiples o L m cs one centre is_one.tuple x large
+        not_both_multiples o L A one centre is_one.tuple x large
         ((are_multiples (get_or centre 0 []) (x.shape 0 [] low)).0 s) q)

@@ -9,5 +9,5 @@ use Rattle.theory_tables.specs.Claims.{IdealClaim}
 
 -- the tuples are a basis of an ideal, neither 0 nor everything, and it is the radical of the trace form
 pub record IsTraceIdeal {E : Type 0} (o : Ops E) (A : Structure E) (tuples : List (List E)) : Type 0 where
-  pub claim : IdealClaim o A.dim A.constants tuples
-  pub spans : (a : List E) → IsTuple o A.dim a → (InSpan o A.dim tuples a ↔ InTraceRadical o A.dim A.constants a)
+  pub claim : IdealClaim o A tuples
+  pub spans : (a : List E) → IsTuple o A.dim a → (InSpan o A.dim tuples a ↔ InTraceRadical o A a)

@@ -40,10 +40,10 @@ pub fn identity_or_refutation(
 pub fn centre_fault(alloc: Global, f: &Fractions, a: &KAlgebra) -> Result<Option<Tuple>, NoMemory>
     requires over { IsOver (fractions_over (field_of f.now)) a.now }
     requires associative { IsAssociative (fractions_over (field_of f.now)) a.now }
-    requires identity { HasIdentity (fractions_over (field_of f.now)) a.now.dim a.now.constants }
+    requires identity { HasIdentity (fractions_over (field_of f.now)) a.now }
     ensures { IfOk result (λ r. MatchOption r
-        (HasSmallCentre (fractions_over (field_of f.now)) a.now.dim a.now.constants)
-        (CentralClaim (fractions_over (field_of f.now)) a.now.dim a.now.constants)) }
+        (HasSmallCentre (fractions_over (field_of f.now)) a.now)
+        (CentralClaim (fractions_over (field_of f.now)) a.now)) }
 {
     fault_of(alloc, f, a)
 }
@@ -66,10 +66,10 @@ fn copies(alloc: Global, f: &Fractions, rows: &[Tuple]) -> Result<Tuples, NoMemo
 pub fn trace_ideal(alloc: Global, f: &Fractions, a: &KAlgebra) -> Result<Option<Tuples>, NoMemory>
     requires over { IsOver (fractions_over (field_of f.now)) a.now }
     requires associative { IsAssociative (fractions_over (field_of f.now)) a.now }
-    requires identity { HasIdentity (fractions_over (field_of f.now)) a.now.dim a.now.constants }
+    requires identity { HasIdentity (fractions_over (field_of f.now)) a.now }
     requires apart { a.now.dim % characteristic (field_of f.now) ≢ 0 }
     ensures { IfOk result (λ r. MatchOption r
-        (IsNondegenerate (fractions_over (field_of f.now)) a.now.dim a.now.constants)
+        (IsNondegenerate (fractions_over (field_of f.now)) a.now)
         (IsTraceIdeal (fractions_over (field_of f.now)) a.now)) }
 {
     let radical = radical_of(alloc, f, a)?;

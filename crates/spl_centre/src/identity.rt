@@ -1,10 +1,9 @@
 // The identity of an algebra that has one, its multiples, and the first central element that is none of them.
 ghost use Rattle.std.specs.Prelude.{◌≡◌, ◌≢◌, ◌↔◌, ◌<◌, ◌≤◌, ℕ, List, length, IfOk, MatchOption};
-ghost use Rattle.theory_spaces.specs.Tuples.{IsTableOne};
 ghost use Rattle.theory_tables.specs.Subspace.{InSpan, IsSubspace};
 ghost use Rattle.theory_tables.specs.Structure.{IsOver, IsAssociative, IsElement};
 ghost use Rattle.spl_algebra.specs.Subspaces.{SpansCentre};
-ghost use Rattle.theory_tables.specs.Algebras.{HasIdentity, HasSmallCentre, IsMultiple};
+ghost use Rattle.theory_tables.specs.Algebras.{IsIdentity, HasIdentity, HasSmallCentre, IsMultiple};
 ghost use Rattle.theory_tables.specs.Claims.{CentralClaim};
 
 use spl_algebra::algebra::Algebra;
@@ -18,8 +17,8 @@ use std::alloc::Global;
 /// The identity of an algebra that has one.
 fn identity_of<F: Field>(alloc: Global, f: &F, a: &Algebra<F>) -> Result<Vector<F>, NoMemory>
     requires over { IsOver (F.ops f.now) a.now }
-    requires identity { HasIdentity (F.ops f.now) a.now.dim a.now.constants }
-    ensures { IfOk result (IsTableOne (F.ops f.now) a.now.dim a.now.constants) }
+    requires identity { HasIdentity (F.ops f.now) a.now }
+    ensures { IfOk result (IsIdentity (F.ops f.now) a.now) }
 {
     match a.identity(alloc, f)? {
         One::Here { tuple } => Ok(tuple),
@@ -38,7 +37,7 @@ fn multiples_of<F: Field>(
     ensures basis { IfOk result (IsSubspace (F.ops f.now)) }
     ensures width { IfOk result (λ s. s.width ≡ a.now.dim) }
     ensures members { IfOk result (λ s. (v : List F.Elem) → IsElement (F.ops f.now) a.now v
-        → (InSpan (F.ops f.now) a.now.dim s.rows v ↔ IsMultiple (F.ops f.now) a.now.dim a.now.constants element v)) }
+        → (InSpan (F.ops f.now) a.now.dim s.rows v ↔ IsMultiple (F.ops f.now) a.now element v)) }
 {
     let mut rows = Matrix::new(alloc);
     rows.push(element)?;
@@ -56,12 +55,12 @@ fn outside<F: Field>(
 ) -> Result<Vector<F>, NoMemory>
     requires over { IsOver (F.ops f.now) a.now }
     requires associative { IsAssociative (F.ops f.now) a.now }
-    requires identity { HasIdentity (F.ops f.now) a.now.dim a.now.constants }
+    requires identity { HasIdentity (F.ops f.now) a.now }
     requires basis { IsSubspace (F.ops f.now) centre.now }
     requires width { centre.now.width ≡ a.now.dim }
     requires members { SpansCentre (F.ops f.now) a.now centre.now.rows }
     requires large { 2 ≤ length centre.now.rows }
-    ensures { IfOk result (CentralClaim (F.ops f.now) a.now.dim a.now.constants) }
+    ensures { IfOk result (CentralClaim (F.ops f.now) a.now) }
 {
     let one = identity_of(alloc, f, a)?;
     let multiples = multiples_of(alloc, f, a, one)?;
@@ -82,10 +81,10 @@ pub(crate) fn fault_of<F: Field>(
 ) -> Result<Option<Vector<F>>, NoMemory>
     requires over { IsOver (F.ops f.now) a.now }
     requires associative { IsAssociative (F.ops f.now) a.now }
-    requires identity { HasIdentity (F.ops f.now) a.now.dim a.now.constants }
+    requires identity { HasIdentity (F.ops f.now) a.now }
     ensures { IfOk result (λ r. MatchOption r
-        (HasSmallCentre (F.ops f.now) a.now.dim a.now.constants)
-        (CentralClaim (F.ops f.now) a.now.dim a.now.constants)) }
+        (HasSmallCentre (F.ops f.now) a.now)
+        (CentralClaim (F.ops f.now) a.now)) }
 {
     let _ = a.dim();
     let centre = a.centre(alloc, f)?;

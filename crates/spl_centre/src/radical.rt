@@ -19,11 +19,11 @@ pub(crate) fn radical_of<F: Field>(
 ) -> Result<Subspace<F>, NoMemory>
     requires over { IsOver (F.ops f.now) a.now }
     requires associative { IsAssociative (F.ops f.now) a.now }
-    requires identity { HasIdentity (F.ops f.now) a.now.dim a.now.constants }
+    requires identity { HasIdentity (F.ops f.now) a.now }
     ensures basis { IfOk result (IsSubspace (F.ops f.now)) }
     ensures width { IfOk result (λ s. s.width ≡ a.now.dim) }
     ensures members { IfOk result (λ s. (v : List F.Elem) → IsTuple (F.ops f.now) a.now.dim v
-        → (InSpan (F.ops f.now) a.now.dim s.rows v ↔ InTraceRadical (F.ops f.now) a.now.dim a.now.constants v)) }
+        → (InSpan (F.ops f.now) a.now.dim s.rows v ↔ InTraceRadical (F.ops f.now) a.now v)) }
 {
     let _ = a.dim();
     let form = a.trace_form(alloc, f)?;

@@ -11,7 +11,7 @@ returns-then-dim-eq0 c =
     let f = field_of c.args.f.now in
     let a = c.args.a.now in
     nondegenerate (fractions_over f)
-    (fractions_laws f) a.dim a.constants c.requires.over c.requires.associative c.requires.identity
+    (fractions_laws f) a c.requires.over c.requires.associative c.requires.identity
     c.in_ok-radical.radical.rows (sym c.dim.ensures ∙ c.if-dim-eq0.true) c.in_ok-radical.ensures.members
 
 pub returns : goal.returns
@@ -23,7 +23,7 @@ returns c =
     let basis = rw c.in_ok-radical.ensures.width at c.in_ok-radical.ensures.basis in
     let some : length rows ≢ 0 = λ e. c.if-dim-eq0.false (c.dim.ensures ∙ e) in
     let claim = ideal_claim o
-    (fractions_laws f) a.dim a.constants c.requires.over c.requires.associative c.requires.identity rows basis some
+    (fractions_laws f) a c.requires.over c.requires.associative c.requires.identity rows basis some
     c.in_ok-radical.ensures.members
     (times_one-nonzero_over f a.dim c.requires.apart) in
     subst (λ tuples. IsTraceIdeal o a tuples) (sym (c.in_ok-copies.ensures ∙ c.as_slice.ensures ∙ c.rows.ensures))

@@ -11,5 +11,5 @@ returns-then-dim-lt2 g c =
     let small : length rows < 2 = omega (arith, c.dim-2.ensures) in
     let basis = rw c.in_ok-centre.ensures.width at c.in_ok-centre.ensures.basis in
     small_centre (g.F.Field.ops c.args.f.now)
-    (g.met.F.Field.laws c.args.f.now) a.dim a.constants c.requires.over.of_elements c.requires.associative
+    (g.met.F.Field.laws c.args.f.now) a c.requires.over.of_elements c.requires.associative
     q.one q.is_one rows some basis c.in_ok-centre.ensures.members small

@@ -14,5 +14,5 @@ returns-clause-members g c =
     (c.in_ok-push.ensures.ok ∙ ap (λ xs. xs ++ element ∷ []) c.new-rows.ensures) of_dim in
     λ v hv.
     let s = same v hv in
-    let q = span_of_one o (g.met.F.Field.laws c.args.f.now) a.dim a.constants element c.requires v hv in
+    let q = span_of_one o (g.met.F.Field.laws c.args.f.now) a element c.requires v hv in
     (λ h. q.0 (s.0 h), λ h. s.1 (q.1 h))

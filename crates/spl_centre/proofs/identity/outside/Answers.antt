@@ -28,11 +28,11 @@ returns-then-branch g c =
     (c.in_ok-contains.ensures.0 c.if-branch.true)) in
     let basis = rw c.requires.width at c.requires.basis in
     let claim = second_row_claim o
-    (g.met.F.Field.laws c.args.f.now) a.dim a.constants c.requires.over.of_elements c.requires.associative
+    (g.met.F.Field.laws c.args.f.now) a c.requires.over.of_elements c.requires.associative
     c.in_ok-one.one c.in_ok-one.ensures rows multiples basis c.requires.large c.requires.members
     c.in_ok-multiples.ensures.members inside in
-    IfOk-weaker c.copy.result (λ v. v ≡ c.index-rows-1.result) (λ v. CentralClaim o a.dim a.constants v)
-    (λ v e. subst (λ x. CentralClaim o a.dim a.constants x) (sym (e ∙ second)) claim) c.copy.ensures
+    IfOk-weaker c.copy.result (λ v. v ≡ c.index-rows-1.result) (λ v. CentralClaim o a v)
+    (λ v e. subst (λ x. CentralClaim o a x) (sym (e ∙ second)) claim) c.copy.ensures
 
 pub returns : goal.returns
 returns g c =
@@ -50,12 +50,12 @@ returns g c =
     c.index-rows-0-else-branch.is refl ∙ ap (λ r. get_or r 0 []) slice in
     let basis = rw c.requires.width at c.requires.basis in
     let claim = first_row_claim o
-    (g.met.F.Field.laws c.args.f.now) a.dim a.constants c.requires.over.of_elements c.requires.associative
+    (g.met.F.Field.laws c.args.f.now) a c.requires.over.of_elements c.requires.associative
     c.in_ok-one.one c.in_ok-one.ensures rows multiples basis c.requires.large c.requires.members
     c.in_ok-multiples.ensures.members
     (λ s. both_ways c.in_ok-contains.field-0 c.if-branch.false (c.in_ok-contains.ensures.1
     (subst (λ w. InSpan o w multiples c.as_slice.result.now) (sym c.in_ok-multiples.ensures.width)
     (subst (λ v. InSpan o a.dim multiples v) (sym tested) s)))) in
     IfOk-weaker c.copy-else-branch.result (λ v. v ≡ c.index-rows-0-else-branch.result)
-    (λ v. CentralClaim o a.dim a.constants v)
-    (λ v e. subst (λ x. CentralClaim o a.dim a.constants x) (sym (e ∙ first)) claim) c.copy-else-branch.ensures
+    (λ v. CentralClaim o a v)
+    (λ v e. subst (λ x. CentralClaim o a x) (sym (e ∙ first)) claim) c.copy-else-branch.ensures
