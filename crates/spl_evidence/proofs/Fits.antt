@@ -9,7 +9,7 @@ use Rattle.spl_evidence.specs.Evidence.{Fits}
 use Rattle.spl_evidence.specs.Claim.{Claim}
 
 pub fits_of_claim : (o : Ops (Pair ℕ)) (A : Structure (Pair ℕ)) (e : Evidence) → Claim o A e → Fits o A.dim e
-fits_of_claim o A (Triple i j k) c = ((c.i_low, c.i_high), (c.j_low, c.j_high), (c.k_low, c.k_high))
-fits_of_claim o A (NoIdentity left right) c = (c.left_multipliers, c.right_multipliers)
-fits_of_claim o A (Central tuple) c = c.central.tuple
-fits_of_claim o A (Ideal tuples) c = (c.some, c.fewer, c.ideal.shape)
+fits_of_claim o A (Triple i j k) c = c.fits
+fits_of_claim o A (NoIdentity left right) c = c.fits
+fits_of_claim o A (Central tuple) c = c.fits
+fits_of_claim o A (Ideal tuples) c = c.fits

@@ -8,7 +8,7 @@ use Rattle.spl_evidence.specs.declared.evidence.Evidence.{Evidence}
 use Rattle.spl_evidence.specs.declared.evidence.Evidence.TheVariants.{Triple, NoIdentity, Central, Ideal}
 
 abbrev pub Claim : Ops (Pair ℕ) → Structure (Pair ℕ) → Evidence → Type 0
-Claim o A (Triple i j k) = TripleClaim o A.dim A.constants i j k
-Claim o A (NoIdentity left right) = NoIdentityClaim o A.dim A.constants left right
-Claim o A (Central tuple) = CentralClaim o A.dim A.constants tuple
-Claim o A (Ideal tuples) = IdealClaim o A.dim A.constants tuples
+Claim o A (Triple i j k) = TripleClaim o A i j k
+Claim o A (NoIdentity left right) = NoIdentityClaim o A left right
+Claim o A (Central tuple) = CentralClaim o A tuple
+Claim o A (Ideal tuples) = IdealClaim o A tuples

@@ -1,25 +1,20 @@
 -- The evidence text: which evidence fits an algebra, and how it is spelled. Each evidence has one text.
-use Rattle.std.specs.Prelude.{◌≡◌, ◌<◌, ◌≤◌, ℕ, List, ◌++◌, length, codes, decimal}
-use Rattle.std.specs.List.{flat_map, All}
+use Rattle.std.specs.Prelude.{◌≡◌, ℕ, List, ◌++◌, length, codes, decimal}
+use Rattle.std.specs.List.{flat_map}
 use Rattle.theory_rings.specs.Ops.{Ops}
-use Rattle.theory_spaces.specs.Tuples.{IsTuple}
 use Rattle.spl_text.specs.Text.{line}
 use Rattle.theory_fractions.specs.Fraction.{Pair}
 use Rattle.spl_fraction.specs.CanonicalText.{canonical_text}
-use Rattle.theory_tables.specs.Claims.{AreMultipliers}
+use Rattle.theory_tables.specs.Claims.{TripleFits, NoIdentityFits, CentralFits, IdealFits}
 use Rattle.spl_evidence.specs.declared.evidence.Evidence.{Evidence}
 use Rattle.spl_evidence.specs.declared.evidence.Evidence.TheVariants.{Triple, NoIdentity, Central, Ideal}
 
--- a basis element of m, counted from 1
-abbrev pub IsPlace : ℕ → ℕ → Type 0
-IsPlace m i = (1 ≤ i) × (i ≤ m)
-
 -- the evidence speaks of an algebra of dimension m over these fractions
 abbrev pub Fits : Ops (Pair ℕ) → ℕ → Evidence → Type 0
-Fits o m (Triple i j k) = IsPlace m i × IsPlace m j × IsPlace m k
-Fits o m (NoIdentity left right) = AreMultipliers o m left × AreMultipliers o m right
-Fits o m (Central tuple) = IsTuple o m tuple
-Fits o m (Ideal tuples) = (1 ≤ length tuples) × (length tuples < m) × All (IsTuple o m) tuples
+Fits o m (Triple i j k) = TripleFits m i j k
+Fits o m (NoIdentity left right) = NoIdentityFits o m left right
+Fits o m (Central tuple) = CentralFits o m tuple
+Fits o m (Ideal tuples) = IdealFits o m tuples
 
 -- ---- how it is spelled
 
