@@ -5,8 +5,8 @@
 // fractions of a program.
 //
 // It stands on the other theory crates: theory_spaces (forms, corners), theory_orders (orders, lattices and duals at a
-// place), theory_lattices (common bases and the degree count), theory_places (finite places), theory_fractions
-// (fractions as values) and theory_blocks (decisions).
+// place), theory_tables (structure constants), theory_lattices (common bases and the degree count), theory_places
+// (finite places), theory_fractions (fractions as values) and theory_blocks (decisions).
 //
 // Read specs/Corner, specs/Subring and specs/OwnDual first, then corner_laws and dual_laws; place_laws, with
 // specs/PlaceLaws, degree_laws, with specs/DegreeElement, and order_laws stand by themselves; fraction_laws, with
