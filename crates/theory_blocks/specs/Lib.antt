@@ -5,5 +5,4 @@ pub mod FieldFactors
 pub mod FactorLaws
 pub mod Centre
 pub mod MaximalIdeals
-pub mod Maps
 pub mod TwoSidedRank

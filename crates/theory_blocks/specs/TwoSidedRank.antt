@@ -10,7 +10,7 @@ use Rattle.theory_spaces.specs.AlgebraMap.{IsSimple}
 use Rattle.theory_spaces.specs.Functions.{functions}
 use Rattle.theory_spaces.specs.Families.{push}
 use Rattle.theory_blocks.specs.Centre.{Centre, CentreIsField}
-use Rattle.theory_blocks.specs.Maps.{maps}
+use Rattle.theory_spaces.specs.Functions.{maps}
 
 module _ {K V : Type 0} {R : RingOn K} (A : AlgebraOn R V) where
   -- 0 is a combination of v 0, .., v (n − 1) with weights in the centre in one way only

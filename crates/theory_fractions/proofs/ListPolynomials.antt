@@ -14,7 +14,7 @@ use Rattle.theory_rings.specs.Division.{Divides as DividesIn}
 use Rattle.theory_rings.proofs.Polynomials.PolynomialRing.{get_or-trim, coefficient-neg}
 use Rattle.theory_rings.proofs.Polynomials.Bezout.{field_polynomials}
 use Rattle.theory_rings.proofs.Polynomials.ElementLists.{values, at-values, IsTrimmed-values}
-use Rattle.theory_fractions.specs.PolynomialLists.{IsOver, Divides}
+use Rattle.theory_fractions.specs.PolynomialLists.{IsOver, IsPolynomialList, Divides}
 use Rattle.theory_fractions.proofs.Lifting.{HasCoefficients, values-over}
 use Rattle.theory_fractions.proofs.Lifting.{eq_of_coefficients, coefficients_of_eq, has-mul}
 use Rattle.theory_fractions.specs.FractionOps.{is_trimmed, polynomial_of, is_polynomial}
@@ -59,26 +59,21 @@ module _ {E : Type 0} (o : Ops E) (L : FieldLaws o) where
       both_ways (o.is_zero x) (not-true (o.is_zero x) t) (ap o.is_zero e ∙ L.is_zero-zero)
   trimmed-is_trimmed (x ∷ y ∷ ys) t = trimmed-is_trimmed (y ∷ ys) t
 
-  -- a list of elements that does not end with 0
-  pub record IsPolynomial (xs : List E) : Type 0 where
-    pub over : IsOver o xs
-    pub trimmed : IsTrimmed o.zero xs
-
-  pub is_polynomial-from : (xs : List E) → IsPolynomial xs → is_polynomial o L xs ≡ true
+  pub is_polynomial-from : (xs : List E) → IsPolynomialList o xs → is_polynomial o L xs ≡ true
   is_polynomial-from xs h =
       and_from (list_all o.is_elem xs) (is_trimmed o.is_zero xs) (list_all-over xs h.over)
       (is_trimmed-trimmed xs h.over h.trimmed)
 
-  pub is_polynomial-gives : (xs : List E) → is_polynomial o L xs ≡ true → IsPolynomial xs
+  pub is_polynomial-gives : (xs : List E) → is_polynomial o L xs ≡ true → IsPolynomialList o xs
   is_polynomial-gives xs h =
       let parts = and_parts (list_all o.is_elem xs) (is_trimmed o.is_zero xs) h in
       record { over = over-list_all xs parts.0; trimmed = trimmed-is_trimmed xs parts.1 }
 
-  pub values_back : (xs : List E) → IsPolynomial xs → values o L (polynomial_of o L xs).0 ≡ xs
+  pub values_back : (xs : List E) → IsPolynomialList o xs → values o L (polynomial_of o L xs).0 ≡ xs
   values_back xs h = values-polynomial_of o L xs (is_polynomial-from xs h)
 
-  pub IsPolynomial-values : (p : Poly F.cring) → IsPolynomial (values o L p.0)
-  IsPolynomial-values p = record { over = values-over o L p.0; trimmed = IsTrimmed-values o L p.0 p.1 }
+  pub IsPolynomialList-values : (p : Poly F.cring) → IsPolynomialList o (values o L p.0)
+  IsPolynomialList-values p = record { over = values-over o L p.0; trimmed = IsTrimmed-values o L p.0 p.1 }
 
   -- ---- coefficients
 
@@ -96,15 +91,15 @@ module _ {E : Type 0} (o : Ops E) (L : FieldLaws o) where
   degree-map [] = refl
   degree-map (x ∷ xs) = length-map xs (λ a. a.0)
 
-  pub length-polynomial_of : (xs : List E) → IsPolynomial xs → length (polynomial_of o L xs).0 ≡ length xs
+  pub length-polynomial_of : (xs : List E) → IsPolynomialList o xs → length (polynomial_of o L xs).0 ≡ length xs
   length-polynomial_of xs h = sym (length-map (polynomial_of o L xs).0 (λ a. a.0)) ∙ ap length (values_back xs h)
 
-  pub degree-polynomial_of : (xs : List E) → IsPolynomial xs → degree (polynomial_of o L xs).0 ≡ degree xs
+  pub degree-polynomial_of : (xs : List E) → IsPolynomialList o xs → degree (polynomial_of o L xs).0 ≡ degree xs
   degree-polynomial_of xs h = sym (degree-map (polynomial_of o L xs).0) ∙ ap degree (values_back xs h)
 
   -- ---- divisors
 
-  pub divides_polynomial_of : (g u : List E) → IsPolynomial g → IsPolynomial u → Divides o g u
+  pub divides_polynomial_of : (g u : List E) → IsPolynomialList o g → IsPolynomialList o u → Divides o g u
       → DividesIn P (polynomial_of o L g) (polynomial_of o L u)
   divides_polynomial_of g u hg hu d =
       let c : Poly F.cring = polynomial_of o L d.0 in (

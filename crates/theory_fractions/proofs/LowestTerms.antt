@@ -14,13 +14,13 @@ use Rattle.theory_rings.proofs.Polynomials.Bezout.{field_polynomials}
 use Rattle.theory_rings.proofs.Polynomials.ElementLists.{values}
 use Rattle.theory_rings.proofs.Fractions.Lowest.{Lowest}
 use Rattle.theory_rings.proofs.Fractions.LowestTests.{is_lowest, is_lowest-complete}
-use Rattle.theory_fractions.specs.PolynomialLists.{Divides}
+use Rattle.theory_fractions.specs.PolynomialLists.{Divides, IsPolynomialList}
 use Rattle.theory_fractions.specs.Fraction.{IsCoprime, IsLowestTerms}
 use Rattle.theory_fractions.specs.FractionOps.{polynomial_of, is_polynomial, is_fraction, fraction_ops}
 use Rattle.theory_fractions.proofs.FractionField.{is_fraction-parts}
-use Rattle.theory_fractions.proofs.ListPolynomials.{IsPolynomial, is_polynomial-from, is_polynomial-gives, values_back}
+use Rattle.theory_fractions.proofs.ListPolynomials.{is_polynomial-from, is_polynomial-gives, values_back}
 use Rattle.theory_fractions.proofs.ListPolynomials.{has_polynomial_of, length-polynomial_of, degree-polynomial_of}
-use Rattle.theory_fractions.proofs.ListPolynomials.{divides_polynomial_of, divides_values, IsPolynomial-values}
+use Rattle.theory_fractions.proofs.ListPolynomials.{divides_polynomial_of, divides_values, IsPolynomialList-values}
 
 module _ {E : Type 0} (o : Ops E) (L : FieldLaws o) where
   abbrev F : FieldOn (Elem o)
@@ -30,7 +30,7 @@ module _ {E : Type 0} (o : Ops E) (L : FieldLaws o) where
   P = field_polynomials F
 
   -- the leading coefficients
-  pub lead_value : (v : List E) → IsPolynomial o L v → at o v (degree v) ≡ (lead F.cring (polynomial_of o L v)).0
+  pub lead_value : (v : List E) → IsPolynomialList o v → at o v (degree v) ≡ (lead F.cring (polynomial_of o L v)).0
   lead_value v h =
       has_polynomial_of o L v h.over (degree v)
       ∙ ap (λ n. (coefficient F.cring (polynomial_of o L v) n).0) (sym (degree-polynomial_of o L v h))
@@ -40,10 +40,10 @@ module _ {E : Type 0} (o : Ops E) (L : FieldLaws o) where
   degree_short (x ∷ xs) l = omega arith
 
   -- coprime polynomials, and coprime lists
-  pub coprime_lists : (u v : List E) → IsPolynomial o L u → IsPolynomial o L v
+  pub coprime_lists : (u v : List E) → IsPolynomialList o u → IsPolynomialList o v
       → IsCoprimeIn F.cring P (polynomial_of o L u) (polynomial_of o L v) → IsCoprime o u v
   coprime_lists u v hu hv c g og tg du dv =
-      let hg : IsPolynomial o L g = record { over = og; trimmed = tg } in
+      let hg : IsPolynomialList o g = record { over = og; trimmed = tg } in
       omega (
         arith,
         length-polynomial_of o L g hg,
@@ -51,11 +51,11 @@ module _ {E : Type 0} (o : Ops E) (L : FieldLaws o) where
         c (polynomial_of o L g) (divides_polynomial_of o L g u hg hu du) (divides_polynomial_of o L g v hg hv dv),
       )
 
-  pub coprime_polynomials : (u v : List E) → IsPolynomial o L u → IsPolynomial o L v → IsCoprime o u v
+  pub coprime_polynomials : (u v : List E) → IsPolynomialList o u → IsPolynomialList o v → IsCoprime o u v
       → IsCoprimeIn F.cring P (polynomial_of o L u) (polynomial_of o L v)
   coprime_polynomials u v hu hv c g du dv =
       let gs : List E = values o L g.0 in
-      let hg : IsPolynomial o L gs = IsPolynomial-values o L g in
+      let hg : IsPolynomialList o gs = IsPolynomialList-values o L g in
       degree_short g.0 (omega (
         arith,
         length-map g.0 (λ a. a.0),
@@ -68,8 +68,8 @@ module _ {E : Type 0} (o : Ops E) (L : FieldLaws o) where
   pub lowest_of_fraction : (u v : List E) → is_fraction o L (u, v) ≡ true → IsLowestTerms o u v
   lowest_of_fraction u v h =
       let parts = is_fraction-parts o L (u, v) h in
-      let hu : IsPolynomial o L u = is_polynomial-gives o L u parts.0 in
-      let hv : IsPolynomial o L v = is_polynomial-gives o L v parts.1 in
+      let hu : IsPolynomialList o u = is_polynomial-gives o L u parts.0 in
+      let hv : IsPolynomialList o v = is_polynomial-gives o L v parts.1 in
       let low : Lowest F (polynomial_of o L u) (polynomial_of o L v) = parts.2 in
       record {
         numerator_over = hu.over;
@@ -82,7 +82,7 @@ module _ {E : Type 0} (o : Ops E) (L : FieldLaws o) where
       }
 
   -- and back
-  pub fraction_of_polynomials : (u v : List E) → IsPolynomial o L u → IsPolynomial o L v
+  pub fraction_of_polynomials : (u v : List E) → IsPolynomialList o u → IsPolynomialList o v
       → Lowest F (polynomial_of o L u) (polynomial_of o L v)
       → is_fraction o L (u, v) ≡ true
   unfolding is_fraction
@@ -94,8 +94,8 @@ module _ {E : Type 0} (o : Ops E) (L : FieldLaws o) where
 
   pub fraction_of_lowest : (u v : List E) → IsLowestTerms o u v → is_fraction o L (u, v) ≡ true
   fraction_of_lowest u v h =
-      let hu : IsPolynomial o L u = record { over = h.numerator_over; trimmed = h.numerator_trimmed } in
-      let hv : IsPolynomial o L v = record { over = h.denominator_over; trimmed = h.denominator_trimmed } in
+      let hu : IsPolynomialList o u = record { over = h.numerator_over; trimmed = h.numerator_trimmed } in
+      let hv : IsPolynomialList o v = record { over = h.denominator_over; trimmed = h.denominator_trimmed } in
       let q : Poly F.cring = polynomial_of o L v in
       fraction_of_polynomials u v hu hv record {
         monic = record {
@@ -105,7 +105,7 @@ module _ {E : Type 0} (o : Ops E) (L : FieldLaws o) where
         coprime = coprime_polynomials u v hu hv h.coprime;
       }
 
-  pub lowest_of_polynomials : (u v : List E) → IsPolynomial o L u → IsPolynomial o L v
+  pub lowest_of_polynomials : (u v : List E) → IsPolynomialList o u → IsPolynomialList o v
       → Lowest F (polynomial_of o L u) (polynomial_of o L v)
       → IsLowestTerms o u v
   lowest_of_polynomials u v hu hv low = lowest_of_fraction u v (fraction_of_polynomials u v hu hv low)

@@ -11,12 +11,12 @@ use Rattle.theory_rings.proofs.Polynomials.PolynomialRing.{Poly-path, coefficien
 use Rattle.theory_rings.proofs.Polynomials.Degrees.{ne_zero_of_length, length-degree_of_ne_zero}
 use Rattle.theory_rings.proofs.Polynomials.Constants.{coefficient-constant_mul}
 use Rattle.theory_rings.proofs.Polynomials.Bezout.{field_polynomials, degree_zero_inverse}
-use Rattle.theory_fractions.specs.PolynomialLists.{IsProduct}
+use Rattle.theory_fractions.specs.PolynomialLists.{IsProduct, IsPolynomialList}
 use Rattle.theory_fractions.specs.Fraction.{Pair, IsCoprime as IsCoprimeList, IsLowestTerms, IsFraction}
 use Rattle.theory_fractions.specs.Fraction.{IsFractionProduct, IsFractionNegative}
 use Rattle.theory_fractions.specs.FractionOps.{polynomial_of}
 use Rattle.theory_fractions.proofs.FractionField.{polynomial_of-nil}
-use Rattle.theory_fractions.proofs.ListPolynomials.{IsPolynomial, length-polynomial_of}
+use Rattle.theory_fractions.proofs.ListPolynomials.{length-polynomial_of}
 use Rattle.theory_fractions.proofs.LowestTerms.{coprime_lists, coprime_polynomials}
 use Rattle.theory_fractions.proofs.Coprime.{coprime-unit_mul}
 use Rattle.theory_fractions.proofs.Reducing.{poly-mul, eq_of_fraction, constant_poly, poly-constant_mul, constant_unit}
@@ -52,7 +52,7 @@ module _ {E : Type 0} (o : Ops E) (L : FieldLaws o) where
   P = field_polynomials F
 
   abbrev Is : List E → Type 0
-  Is = IsPolynomial o L
+  Is = IsPolynomialList o
 
   abbrev Lowest : Pair E → Type 0
   Lowest w = IsLowestTerms o w.0 w.1

@@ -22,14 +22,14 @@ use Rattle.theory_rings.proofs.Polynomials.Bezout.{field_polynomials, field_degr
 use Rattle.theory_rings.proofs.Polynomials.Bezout.{poly_mul-ne-zero, poly_mul_cancel_left, poly_one-ne-zero}
 use Rattle.theory_rings.proofs.Polynomials.Bezout.{combination_one, coprime_of_bezout}
 use Rattle.theory_rings.proofs.Polynomials.ElementLists.{values}
-use Rattle.theory_fractions.specs.PolynomialLists.{IsOver, IsSum, IsProduct, IsDivision, Divides}
+use Rattle.theory_fractions.specs.PolynomialLists.{IsOver, IsSum, IsProduct, IsDivision, Divides, IsPolynomialList}
 use Rattle.theory_fractions.proofs.Lifting.{HasCoefficients}
 use Rattle.theory_fractions.proofs.Lifting.{eq_of_coefficients, coefficients_of_eq, has-add, has-mul}
 use Rattle.theory_fractions.specs.Fraction.{Pair, IsCoprime, IsLowestTerms, IsFraction}
 use Rattle.theory_fractions.specs.FractionOps.{polynomial_of}
 use Rattle.theory_fractions.proofs.FractionField.{polynomial_of-nil, is_fraction-one}
 use Rattle.theory_fractions.specs.CommonDivisor.{IsCommonDivisor}
-use Rattle.theory_fractions.proofs.ListPolynomials.{IsPolynomial, is_polynomial-from, values_back, has_polynomial_of}
+use Rattle.theory_fractions.proofs.ListPolynomials.{is_polynomial-from, values_back, has_polynomial_of}
 use Rattle.theory_fractions.proofs.ListPolynomials.{length-polynomial_of, divides_polynomial_of}
 use Rattle.theory_fractions.proofs.LowestTerms.{lead_value, lowest_of_fraction, coprime_lists, coprime_polynomials}
 use Rattle.theory_fractions.proofs.LowestTerms.{lowest_of_polynomials}
@@ -48,7 +48,7 @@ module _ {E : Type 0} (o : Ops E) (L : FieldLaws o) where
   P = field_polynomials F
 
   abbrev Is : List E → Type 0
-  Is = IsPolynomial o L
+  Is = IsPolynomialList o
 
   abbrev poly : List E → Poly F.cring
   poly = polynomial_of o L

@@ -8,11 +8,10 @@ use Rattle.theory_rings.specs.Polynomial.{Poly}
 use Rattle.theory_rings.specs.Division.{IsCoprime}
 use Rattle.theory_rings.proofs.Rings.Solver.{◌⊞◌, ◌⊠◌, nil, unit, ring2, ring3}
 use Rattle.theory_rings.proofs.Polynomials.Bezout.{field_polynomials, poly_mul-ne-zero}
-use Rattle.theory_fractions.specs.PolynomialLists.{IsOver, IsSum, IsProduct}
+use Rattle.theory_fractions.specs.PolynomialLists.{IsOver, IsSum, IsProduct, IsPolynomialList}
 use Rattle.theory_fractions.specs.Fraction.{Pair, IsLowestTerms, IsFraction, IsFractionSum}
 use Rattle.theory_fractions.specs.FractionOps.{polynomial_of}
 use Rattle.theory_fractions.proofs.FractionField.{polynomial_of-nil}
-use Rattle.theory_fractions.proofs.ListPolynomials.{IsPolynomial}
 use Rattle.theory_fractions.proofs.LowestTerms.{coprime_lists, coprime_polynomials}
 use Rattle.theory_fractions.proofs.Coprime.{coprime-add_mul}
 use Rattle.theory_fractions.proofs.Reducing.{poly-mul, poly-add, poly-ne-zero, eq_of_fraction, lowest_over_one}
@@ -39,7 +38,7 @@ module _ {E : Type 0} (o : Ops E) (L : FieldLaws o) where
   P = field_polynomials F
 
   abbrev Is : List E → Type 0
-  Is = IsPolynomial o L
+  Is = IsPolynomialList o
 
   abbrev Lowest : Pair E → Type 0
   Lowest w = IsLowestTerms o w.0 w.1

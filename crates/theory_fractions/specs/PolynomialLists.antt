@@ -5,12 +5,17 @@ use Rattle.std.specs.Prelude.{◌≡◌, ℕ, ◌<◌, List, length}
 use Rattle.std.specs.List.{All}
 use Rattle.theory_rings.specs.Ops.{Ops, IsElem}
 use Rattle.theory_rings.specs.Sum.{at}
-use Rattle.theory_rings.specs.Polynomial.{convolution_of}
+use Rattle.theory_rings.specs.Polynomial.{IsTrimmed, convolution_of}
 
 module _ {E : Type 0} (o : Ops E) where
   -- the coefficients are elements
   abbrev pub IsOver : List E → Type 0
   IsOver a = All (IsElem o) a
+
+  -- the coefficients of a polynomial: elements, of which the last is not 0
+  pub record IsPolynomialList (a : List E) : Type 0 where
+    pub over : IsOver a
+    pub trimmed : IsTrimmed o.zero a
 
   -- c is the sum of a and b
   abbrev pub IsSum : List E → List E → List E → Type 0

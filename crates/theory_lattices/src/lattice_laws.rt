@@ -9,7 +9,8 @@ ghost use Rattle.theory_spaces.specs.Form.{IsBilinear};
 ghost use Rattle.theory_spaces.specs.Algebra.{InCorner, Central, CentralSimple};
 ghost use Rattle.theory_lattices.specs.Degree.{DegreeOn};
 ghost use Rattle.theory_lattices.specs.ReducedRows.{Reduced};
-ghost use Rattle.theory_lattices.specs.CommonBasis.{InSpanWith, InFinite, InInfinite, InBoth, CommonBasis};
+ghost use Rattle.theory_spaces.specs.Lattice.{LatticeOver};
+ghost use Rattle.theory_lattices.specs.CommonBasis.{InFinite, InInfinite, InBoth, CommonBasis};
 ghost use Rattle.theory_lattices.specs.Members.{PolynomialsOf, IntersectionBasis};
 
 use theory_spaces::algebra_laws::BasedAlgebra;
@@ -114,11 +115,11 @@ pub trait FormWithWeights {
 pub fn self_dual_lattice<B: FormWithWeights>()
     ensures { (n : ℕ) (f g : ℕ → B.Vector) → ((i j : ℕ) → i < n → j < n → B.form (f i) (g j) ≡ delta B.field.ring i j)
         → ((x : B.Vector) → InSpan B.space n f x)
-        → ((x : B.Vector) → InSpanWith B.space n (λ i c. B.Weight c) f x → InSpanWith B.space n (λ i c. B.Weight c) g x)
-        → ((x : B.Vector) → InSpanWith B.space n (λ i c. B.Weight c) g x → InSpanWith B.space n (λ i c. B.Weight c) f x)
-        → ((i : ℕ) → i < n → InSpanWith B.space n (λ i c. B.Weight c) f (f i))
-        → (x : B.Vector) → ((y : B.Vector) → InSpanWith B.space n (λ i c. B.Weight c) f y → B.Weight (B.form y x))
-        → InSpanWith B.space n (λ i c. B.Weight c) f x }
+        → ((x : B.Vector) → LatticeOver B.space B.Weight n f x → LatticeOver B.space B.Weight n g x)
+        → ((x : B.Vector) → LatticeOver B.space B.Weight n g x → LatticeOver B.space B.Weight n f x)
+        → ((i : ℕ) → i < n → LatticeOver B.space B.Weight n f (f i))
+        → (x : B.Vector) → ((y : B.Vector) → LatticeOver B.space B.Weight n f y → B.Weight (B.form y x))
+        → LatticeOver B.space B.Weight n f x }
 {}
 
 /// An idempotent of an algebra, a map to the scalars, a set of elements and one of scalars.

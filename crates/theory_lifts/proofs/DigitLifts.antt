@@ -28,8 +28,8 @@ use Rattle.theory_radical.specs.LiftLaws.{IsBijective}
 use Rattle.theory_radical.specs.Tower.{TowerElement, TowerMod, double_coefficient}
 use Rattle.theory_radical.proofs.Lifts.IntegerLifts.{reduce, reduce-residue, integers_lift}
 use Rattle.theory_radical.proofs.Lifts.LiftRings.{isomorphic_lift_rings}
-use Rattle.theory_radical.proofs.Lifts.RemainderRings.{Remainder-ext, remainder-coefficient-zero, small_remainder}
-use Rattle.theory_radical.proofs.Lifts.RemainderRings.{small_remainder-all}
+use Rattle.theory_rings.proofs.Polynomials.RemainderRings.{Remainder-ext, remainder-coefficient-zero, small_remainder}
+use Rattle.theory_rings.proofs.Polynomials.RemainderRings.{small_remainder-all}
 use Rattle.theory_radical.proofs.Lifts.RemainderLifts.{IsSection, lift_poly, lift_poly-coefficient, lift_poly-reduces}
 use Rattle.theory_radical.proofs.Lifts.RemainderLifts.{lift_poly_monic, remainder_down, remainder_down-coefficient}
 use Rattle.theory_radical.proofs.Lifts.RemainderLifts.{remainders_lift}

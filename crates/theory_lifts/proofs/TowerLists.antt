@@ -24,8 +24,8 @@ use Rattle.theory_spaces.proofs.Matrices.PairIndex.{pair-lt, row-lt, column-lt}
 use Rattle.theory_spaces.proofs.Tuples.Tuples.{at-table, IsTuple-is_tuple, is_tuple-IsTuple, IsTuple-table, IsTuple-ext}
 use Rattle.theory_radical.specs.LiftLaws.{IsBijective}
 use Rattle.theory_radical.specs.Tower.{TowerElement, TowerMod, double_coefficient}
-use Rattle.theory_radical.proofs.Lifts.RemainderRings.{Remainder-ext, remainder-past, small_remainder}
-use Rattle.theory_radical.proofs.Lifts.RemainderRings.{small_remainder-coefficient, remainders_zero_test}
+use Rattle.theory_rings.proofs.Polynomials.RemainderRings.{Remainder-ext, remainder-past, small_remainder}
+use Rattle.theory_rings.proofs.Polynomials.RemainderRings.{small_remainder-coefficient, remainders_zero_test}
 
 module _ (q : ℕ) (two_le : 2 ≤ q) (T : TowerMod q two_le) (e c : ℕ) (height : degree T.second_modulus.0 ≡ e)
     (width : degree T.first_modulus.0 ≡ c) where

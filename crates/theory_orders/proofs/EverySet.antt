@@ -6,7 +6,6 @@ use Rattle.theory_rings.specs.Ring.{FieldOn}
 use Rattle.theory_spaces.specs.Module.{ModuleOn, AlgebraOn, module_of}
 use Rattle.theory_spaces.specs.Linear.{Basis, Coords, IsSubmodule}
 use Rattle.theory_spaces.specs.Valuation.{ValuationOn, integers, restrict}
-use Rattle.theory_spaces.proofs.Linear.Modules.{InSpan-scale, span_in}
 use Rattle.theory_spaces.proofs.Linear.Spaces.{coords_of}
 use Rattle.theory_orders.specs.Uniformizer.{UniformizerOn}
 use Rattle.theory_orders.specs.Orders.{IsOrder, IsIdeal, Around, Generated, Multiple, Power, Radical}
@@ -17,12 +16,13 @@ use Rattle.theory_orders.proofs.Ideals.Ideals.{ideal_same, whole, generated_in}
 use Rattle.theory_orders.proofs.LeftOrder.LeftOrders.{Power_map}
 use Rattle.theory_orders.proofs.Lattices.Multiples.{Multiple-ideal}
 use Rattle.theory_orders.proofs.Lattices.Scaling.{Lam_scale}
-use Rattle.theory_orders.proofs.Lattices.LatticeTests.{lattice_test, lattice_test-in, in-lattice_test}
+use Rattle.theory_spaces.proofs.Linear.LatticeTests.{lattice_test, lattice_test-in, in-lattice_test}
 use Rattle.theory_orders.proofs.Ideals.SimpleQuotients.{simple_by_elements, one_or_within, size, vec, each, J_Gen}
 use Rattle.theory_orders.proofs.Ideals.SimpleQuotients.{T_Gen}
 use Rattle.theory_orders.proofs.Ideals.SimpleQuotients.{Gen_ideal}
 use Rattle.theory_orders.proofs.Splitting.Composition.{multiple_same}
 use Rattle.theory_orders.proofs.Ideals.OnlyMaximal.{not_one, within_maximal}
+use Rattle.theory_spaces.proofs.Linear.LatticeSpans.{lattice-scale, lattice_in}
 
 module _ {K V : Type 0} (F : FieldOn K) (Z : ValuationOn F) (p q : K) (U : UniformizerOn F Z p q)
     (A : AlgebraOn F.ring V) (N : ℕ) (B : Basis (module_of A) N) where
@@ -66,7 +66,7 @@ module _ {K V : Type 0} (F : FieldOn K) (Z : ValuationOn F) (p q : K) (U : Unifo
         zero-in = I.zero_in;
         add-in = I.add_in;
         scale-in = λ c x h. subst T (A.scale-left c.0 A.one x ∙ ap (λ y. c.0 • y) (A.one-mul x))
-            (I.left (c.0 • A.one) x (InSpan-scale RA N os c A.one O.one_in) h);
+            (I.left (c.0 • A.one) x (lattice-scale F Z M N os c A.one O.one_in) h);
       }
 
       -- what a member and p times the order generate
@@ -81,7 +81,7 @@ module _ {K V : Type 0} (F : FieldOn K) (Z : ValuationOn F) (p q : K) (U : Unifo
         Gen = Lattice F Z A k g
 
         Gen_in : Within Gen T
-        Gen_in = span_in RA T T_submodule k g (λ i l. ⊎_elim
+        Gen_in = lattice_in F Z M T T_submodule k g (λ i l. ⊎_elim
             (λ (w : Around A L x (g i)). subst T (sym w.4) (I.right w.1 (w.0 ⊗ x) w.3 (I.left w.0 x w.2 h)))
             (λ (j : Lattice F Z A N ps (g i)). over (g i) (P_same.1 (g i) j))
             (each F Z A N C N os N ps O P_ideal x (I.inside x h) i l))

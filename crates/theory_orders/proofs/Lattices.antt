@@ -1,6 +1,5 @@
 -- Lattices at a place and their duals.
 pub mod Columns
-pub mod LatticeTests
 pub mod Independence
 pub mod Scaling
 pub mod Multiples

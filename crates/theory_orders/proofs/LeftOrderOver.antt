@@ -13,9 +13,8 @@ use Rattle.theory_spaces.specs.Module.{ModuleOn, AlgebraOn, module_of}
 use Rattle.theory_spaces.specs.Linear.{InSpan, Independent, IsLinear, IsSubmodule, Basis, Coords}
 use Rattle.theory_spaces.specs.Valuation.{ValuationOn, integers, restrict, LatticeBasis}
 use Rattle.theory_spaces.proofs.Linear.Families.{join, each_join, below_suc}
-use Rattle.theory_spaces.proofs.Linear.Modules.{scale-neg, map-comb, InSpan-zero, InSpan-add, InSpan-neg, InSpan-scale}
-use Rattle.theory_spaces.proofs.Linear.Modules.{InSpan-member, InSpan_trans, InSpan-join_left, InSpan-join_right}
-use Rattle.theory_spaces.proofs.Linear.Modules.{span_in}
+use Rattle.theory_spaces.proofs.Linear.Modules.{scale-neg, map-comb, InSpan-scale}
+use Rattle.theory_spaces.proofs.Linear.Modules.{InSpan_trans}
 use Rattle.theory_spaces.proofs.Linear.Spaces.{basis_of, coords_of}
 use Rattle.theory_spaces.proofs.Linear.Dimension.{dimension_unique}
 use Rattle.theory_spaces.proofs.Linear.Lattices.{lattice_basis}
@@ -23,11 +22,15 @@ use Rattle.theory_spaces.proofs.Matrices.PairIndex.{pair-lt, row-lt, column-lt}
 use Rattle.theory_orders.specs.Uniformizer.{IsIntegral, IsUnit, UniformizerOn}
 use Rattle.theory_orders.specs.Orders.{IsIdeal, Multiple, LeftOrder, Within, Same}
 use Rattle.theory_orders.specs.Lattices.{Lattice, IsOrderAt}
-use Rattle.theory_orders.proofs.Lattices.LatticeTests.{all_or_not, over_field, over_integers, integral_weights}
+use Rattle.theory_spaces.proofs.Linear.LatticeTests.{all_or_not, integral_weights}
 use Rattle.theory_orders.proofs.Ideals.SimpleQuotients.{mul_lattice}
 use Rattle.theory_orders.proofs.Splitting.Ramified.{spanning}
 use Rattle.theory_orders.proofs.LeftOrder.LeftOrders.{left_order_is_order, in_left_order, left_order_bounded}
 use Rattle.theory_orders.proofs.LeftOrder.LeftOrderLattice.{order_same}
+use Rattle.theory_spaces.specs.Lattice.{LatticeOver}
+use Rattle.theory_spaces.proofs.Linear.LatticeSpans.{lattice_span, lattice-zero, lattice-add, lattice-scale}
+use Rattle.theory_spaces.proofs.Linear.LatticeSpans.{lattice-neg, lattice-member, lattice_trans, lattice-join_left}
+use Rattle.theory_spaces.proofs.Linear.LatticeSpans.{lattice-join_right, lattice_in}
 
 module _ {K V : Type 0} (F : FieldOn K) (Z : ValuationOn F) (p q : K) (U : UniformizerOn F Z p q)
     (M : ModuleOn F.ring V) where
@@ -44,7 +47,7 @@ module _ {K V : Type 0} (F : FieldOn K) (Z : ValuationOn F) (p q : K) (U : Unifo
   In = IsIntegral F Z
 
   abbrev Lat : ℕ → (ℕ → V) → V → Type 0
-  Lat n g = InSpan RM n g
+  Lat n g = LatticeOver M (IsIntegral F Z) n g
 
   qp : (a : K) → q ⊗ (p ⊗ a) ≡ a
   qp a = sym (F.mul_assoc q p a) ∙ ap (λ b. b ⊗ a) (F.mul_comm q p ∙ U.pq) ∙ F.one-mul a
@@ -62,7 +65,8 @@ module _ {K V : Type 0} (F : FieldOn K) (Z : ValuationOn F) (p q : K) (U : Unifo
   map_lattice : (h : V → V) → IsLinear M M h → (n : ℕ) (g : ℕ → V) (x : V) → Lat n g x → Lat n (λ i. h (g i)) (h x)
   map_lattice h l n g x s = record {
     weights = s.weights;
-    combines = ap h s.combines ∙ map-comb M M h l n (λ i. (s.weights i).0) g;
+    passes = s.passes;
+    combines = ap h s.combines ∙ map-comb M M h l n s.weights g;
   }
 
   -- c times a lattice
@@ -80,15 +84,15 @@ module _ {K V : Type 0} (F : FieldOn K) (Z : ValuationOn F) (p q : K) (U : Unifo
     cut_submodule : (n : ℕ) (g : ℕ → V) → IsSubmodule RM (Cut (Lat n g))
     cut_submodule n g = record {
       zero-in = (
-        InSpan-zero RM n g,
+        lattice-zero F Z M n g,
         subst In (sym (ap (λ a. q ⊗ a) (additive-zero M.additive F.additive f f-add) ∙ mul-zero F.ring q)) Z.zero_in,
       );
       add-in = λ x y h k. (
-        InSpan-add RM n g x y h.0 k.0,
+        lattice-add F Z M n g x y h.0 k.0,
         subst In (sym (ap (λ a. q ⊗ a) (f-add x y) ∙ F.mul-add q (f x) (f y))) (Z.add_in (q ⊗ f x) (q ⊗ f y) h.1 k.1),
       );
       scale-in = λ c x h. (
-        InSpan-scale RM n g c x h.0,
+        lattice-scale F Z M n g c x h.0,
         subst In (sym (ap (λ a. q ⊗ a) (f-scale c.0 x) ∙ mul_left_comm (semiring F.cring) q c.0 (f x)))
             (Z.mul_in c.0 (q ⊗ f x) c.1 h.1),
       );
@@ -106,7 +110,7 @@ module _ {K V : Type 0} (F : FieldOn K) (Z : ValuationOn F) (p q : K) (U : Unifo
         vec = g;
         same = (
           λ x c. c.0,
-          span_in RM (Cut (Lat n g)) (cut_submodule n g) n g (λ j l. (InSpan-member RM n j g l, h j l)),
+          lattice_in F Z M (Cut (Lat n g)) (cut_submodule n g) n g (λ j l. (lattice-member F Z M n j g l, h j l)),
         );
       }
 
@@ -160,22 +164,22 @@ module _ {K V : Type 0} (F : FieldOn K) (Z : ValuationOn F) (p q : K) (U : Unifo
           same = (
             λ x c.
                 let P : V → Type 0 = Lat (n + n) corrected in
-                subst P (back x) (InSpan-add RM (n + n) corrected (rest x) (((q ⊗ f x) ⊗ d) • (p • g i))
-                (InSpan_trans RM n (n + n) (λ j. rest (g j)) corrected (rest x)
-                (InSpan-join_left RM n n (λ j. rest (g j)) (λ j. p • g j)) (map_lattice rest rest_linear n g x c.0))
-                (InSpan-scale RM (n + n) corrected ((q ⊗ f x) ⊗ d, Z.mul_in (q ⊗ f x) d c.1 u.1) (p • g i)
-                (InSpan-join_right RM n n (λ j. rest (g j)) (λ j. p • g j) i l))),
-            span_in RM (Cut (Lat n g)) (cut_submodule n g) (n + n) corrected
+                subst P (back x) (lattice-add F Z M (n + n) corrected (rest x) (((q ⊗ f x) ⊗ d) • (p • g i))
+                (lattice_trans F Z M n (n + n) (λ j. rest (g j)) corrected (rest x)
+                (lattice-join_left F Z M n n (λ j. rest (g j)) (λ j. p • g j)) (map_lattice rest rest_linear n g x c.0))
+                (lattice-scale F Z M (n + n) corrected ((q ⊗ f x) ⊗ d, Z.mul_in (q ⊗ f x) d c.1 u.1) (p • g i)
+                (lattice-join_right F Z M n n (λ j. rest (g j)) (λ j. p • g j) i l))),
+            lattice_in F Z M (Cut (Lat n g)) (cut_submodule n g) (n + n) corrected
                 (each_join n n (λ j. rest (g j)) (λ j. p • g j) (Cut (Lat n g))
                 (λ j b. (
-                  InSpan-add RM n g (g j) (neg ((f (g j) ⊗ d) • g i)) (InSpan-member RM n j g b)
-                      (InSpan-neg RM n g ((f (g j) ⊗ d) • g i)
-                      (InSpan-scale RM n g (f (g j) ⊗ d, Z.mul_in (f (g j)) d (int j b) u.1) (g i)
-                      (InSpan-member RM n i g l))),
+                  lattice-add F Z M n g (g j) (neg ((f (g j) ⊗ d) • g i)) (lattice-member F Z M n j g b)
+                      (lattice-neg F Z M n g ((f (g j) ⊗ d) • g i)
+                      (lattice-scale F Z M n g (f (g j) ⊗ d, Z.mul_in (f (g j)) d (int j b) u.1) (g i)
+                      (lattice-member F Z M n i g l))),
                   subst In (sym (ap (λ a. q ⊗ a) (rest-value (g j)) ∙ mul-zero F.ring q)) Z.zero_in,
                 ))
                 (λ j b. (
-                  InSpan-scale RM n g (p, U.p_in) (g j) (InSpan-member RM n j g b),
+                  lattice-scale F Z M n g (p, U.p_in) (g j) (lattice-member F Z M n j g b),
                   subst In (sym (ap (λ a. q ⊗ a) (f-scale p (g j)) ∙ qp (f (g j)))) (int j b),
                 ))),
           );
@@ -201,7 +205,7 @@ module _ {K V : Type 0} (F : FieldOn K) (Z : ValuationOn F) (p q : K) (U : Unifo
     cuts (suc k) int =
         let r = cuts k (λ t l. int t (omega arith)) in
         let c = cut (f k) (f-add k) (f-scale k) r.0 r.1
-        (λ j l. int k (omega arith) (r.1 j) (r.2.1 (r.1 j) (InSpan-member RM r.0 j r.1 l)).0) in (
+        (λ j l. int k (omega arith) (r.1 j) (r.2.1 (r.1 j) (lattice-member F Z M r.0 j r.1 l)).0) in (
           c.size,
           c.vec,
           (
@@ -245,7 +249,7 @@ module _ {K V : Type 0} (F : FieldOn K) (Z : ValuationOn F) (p q : K) (U : Unifo
   b = JB.vec
 
   J_basis : Same J (Lattice F Z A r b)
-  J_basis = (λ x. InSpan_trans RA m r w b x JB.spans, λ x. InSpan_trans RA r m b w x JB.within)
+  J_basis = (λ x. lattice_trans F Z MA m r w b x JB.spans, λ x. lattice_trans F Z MA r m b w x JB.within)
 
   -- what holds L spans everything over the field
   spans_all : (k : ℕ) (g : ℕ → V) → ((i : ℕ) → i < n → InSpan MA k g (v i)) → (x : V) → InSpan MA k g x
@@ -259,8 +263,8 @@ module _ {K V : Type 0} (F : FieldOn K) (Z : ValuationOn F) (p q : K) (U : Unifo
 
   basis_all : (x : V) → InSpan MA r b x
   basis_all = spans_all r b (λ i l.
-      let s = over_field F Z MA r b (p • v i) (J_basis.0 (p • v i)
-      (over (p • v i) (v i, InSpan-member RA n i v l, refl))) in
+      let s = lattice_span F Z MA r b (p • v i) (J_basis.0 (p • v i)
+      (over (p • v i) (v i, lattice-member F Z MA n i v l, refl))) in
       let P : V → Type 0 = InSpan MA r b in
       subst P (cancel (v i)) (InSpan-scale MA r b q (p • v i) s))
 
@@ -283,10 +287,10 @@ module _ {K V : Type 0} (F : FieldOn K) (Z : ValuationOn F) (p q : K) (U : Unifo
   J_coord x h = integral_weights F Z MA r b JB.independent x (J_basis.0 x h) (E.coord x) (E.expand x)
 
   coord_J : (x : V) → ((k : ℕ) → k < r → IsIntegral F Z (E.coord x k)) → J x
-  coord_J x h = J_basis.1 x (over_integers F Z MA r b x (E.coord x) (E.expand x) h)
+  coord_J x h = J_basis.1 x (record { weights = E.coord x; passes = h; combines = E.expand x })
 
   b_in : (j : ℕ) → j < r → J (b j)
-  b_in j l = J_basis.1 (b j) (InSpan-member RA r j b l)
+  b_in j l = J_basis.1 (b j) (lattice-member F Z MA r j b l)
 
   abbrev cut_out : (s : ℕ) × (g : ℕ → V) × Same (Cuts F Z p q U MA f f-add f-scale n v (r * r)) (Lattice F Z A s g)
   cut_out = cuts F Z p q U MA f f-add f-scale n v (r * r) (λ t l x h.
@@ -326,8 +330,8 @@ module _ {K V : Type 0} (F : FieldOn K) (Z : ValuationOn F) (p q : K) (U : Unifo
     λ a h. scaled F Z p q U MA p q cancel size cut_out.1 a (cut_out.2.0 (p • a) (to_kept a h)),
     λ a s. of_kept a (cut_out.2.1 (p • a) (let P : V → Type 0 = Lattice F Z A size cut_out.1 in
         let g : ℕ → V = λ i. p • vec i in
-        InSpan_trans RA size size g cut_out.1 (p • a) (λ i l. subst P (sym (uncancel (cut_out.1 i)))
-        (InSpan-member RA size i cut_out.1 l))
+        lattice_trans F Z MA size size g cut_out.1 (p • a) (λ i l. subst P (sym (uncancel (cut_out.1 i)))
+        (lattice-member F Z MA size i cut_out.1 l))
         (map_lattice F Z p q U MA (λ x. p • x) (scale_linear F Z p q U MA p) size vec a s))),
   )
 
@@ -336,15 +340,15 @@ module _ {K V : Type 0} (F : FieldOn K) (Z : ValuationOn F) (p q : K) (U : Unifo
 
   basis_same : Same (Lattice F Z A size vec) (Lattice F Z A LB.rank LB.vec)
   basis_same = (
-    λ x. InSpan_trans RA size LB.rank vec LB.vec x LB.spans,
+    λ x. lattice_trans F Z MA size LB.rank vec LB.vec x LB.spans,
     λ x.
-        InSpan_trans RA LB.rank size LB.vec vec x LB.within,
+        lattice_trans F Z MA LB.rank size LB.vec vec x LB.within,
   )
 
   rank-is : LB.rank ≡ n
   rank-is = dimension_unique F MA LB.rank n (basis_of MA LB.rank LB.vec LB.independent (spans_all LB.rank LB.vec (λ i l.
-      over_field F Z MA LB.rank LB.vec (v i) (basis_same.0 (v i) (left_spanned.0 (v i)
-      (in_left_order A L D.order J I (v i) (InSpan-member RA n i v l))))))) B
+      lattice_span F Z MA LB.rank LB.vec (v i) (basis_same.0 (v i) (left_spanned.0 (v i)
+      (in_left_order A L D.order J I (v i) (lattice-member F Z MA n i v l))))))) B
 
   -- independent vectors, as many as the dimension, span the left order
   pub left_order_over : (u : ℕ → V) × IsOrderAt F Z A n u × Same Left (Lattice F Z A n u)

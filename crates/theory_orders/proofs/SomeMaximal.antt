@@ -19,7 +19,7 @@ use Rattle.theory_orders.specs.Orders.{Multiple}
 use Rattle.theory_orders.specs.Lattices.{Lattice, IsOrderAt}
 use Rattle.theory_orders.specs.MaximalIdealLaws.{SomeIsOnly, RadicalIsTheOnly, NothingGrowsByList}
 use Rattle.theory_orders.proofs.Lattices.Multiples.{of-Multiple}
-use Rattle.theory_orders.proofs.Lattices.LatticeTests.{integral_weights}
+use Rattle.theory_spaces.proofs.Linear.LatticeTests.{integral_weights}
 use Rattle.theory_orders.proofs.LeftOrder.LeftOrders.{Power_one}
 use Rattle.theory_orders.proofs.Ideals.OnlyMaximal.{some_power, only_of, radical_is_one}
 
@@ -47,7 +47,7 @@ module _ {K V : Type 0} (F : FieldOn K) (Z : ValuationOn F) (p q : K) (U : Unifo
       (D.order.mul_in (q • A.one) (c • A.one) h (power_in h k))
 
   abbrev c : ℕ → K
-  c i = (D.order.one_in.weights i).0
+  c i = D.order.one_in.weights i
 
   one_is : A.one ≡ comb M N c os
   one_is = D.order.one_in.combines

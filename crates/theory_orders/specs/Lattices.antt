@@ -2,14 +2,15 @@
 use Rattle.std.specs.Prelude.{ℕ, suc, ◌<◌}
 use Rattle.theory_rings.specs.Ring.{FieldOn}
 use Rattle.theory_spaces.specs.Module.{AlgebraOn, module_of}
-use Rattle.theory_spaces.specs.Linear.{InSpan, Independent}
-use Rattle.theory_spaces.specs.Valuation.{ValuationOn, restrict}
+use Rattle.theory_spaces.specs.Linear.{Independent}
+use Rattle.theory_spaces.specs.Lattice.{LatticeOver}
+use Rattle.theory_spaces.specs.Valuation.{ValuationOn, IsIntegral}
 use Rattle.theory_orders.specs.Orders.{IsOrder, Within, Same, ProperlyWithin, IsMaximalIdeal, LeftOrder}
 
 module _ {K V : Type 0} (F : FieldOn K) (Z : ValuationOn F) (A : AlgebraOn F.ring V) where
   -- the combinations of v 0, .., v (n − 1) with integral weights
   abbrev pub Lattice : ℕ → (ℕ → V) → V → Type 0
-  Lattice n v x = InSpan (restrict F Z (module_of A)) n v x
+  Lattice = LatticeOver (module_of A) (IsIntegral F Z)
 
   -- n independent vectors span an order
   pub record IsOrderAt (n : ℕ) (v : ℕ → V) : Type 0 where

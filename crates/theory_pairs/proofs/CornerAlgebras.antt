@@ -82,11 +82,14 @@ module _ {K V : Type 0} {R : RingOn K} (A : AlgebraOn R V) (e : V) (idem : A.◌
             mul-add = λ a b c. Corner-path (times a (plus b c)) (plus (times a b) (times a c)) (A.mul-add a.0 b.0 c.0);
             add-mul = λ a b c. Corner-path (times (plus a b) c) (plus (times a c) (times b c)) (A.add-mul a.0 b.0 c.0);
           };
-          ◌•◌ = scale;
-          scale-add = λ k a b. Corner-path (scale k (plus a b)) (plus (scale k a) (scale k b)) (A.scale-add k a.0 b.0);
-          add-scale = λ k l a. Corner-path (scale (R.◌⊕◌ k l) a) (plus (scale k a) (scale l a)) (A.add-scale k l a.0);
-          mul-scale = λ k l a. Corner-path (scale (R.◌⊗◌ k l) a) (scale k (scale l a)) (A.mul-scale k l a.0);
-          one-scale = λ a. Corner-path (scale R.one a) a (A.one-scale a.0);
+          scalars = record {
+            ◌•◌ = scale;
+            scale-add = λ k a b. Corner-path (scale k (plus a b)) (plus (scale k a) (scale k b))
+                (A.scale-add k a.0 b.0);
+            add-scale = λ k l a. Corner-path (scale (R.◌⊕◌ k l) a) (plus (scale k a) (scale l a)) (A.add-scale k l a.0);
+            mul-scale = λ k l a. Corner-path (scale (R.◌⊗◌ k l) a) (scale k (scale l a)) (A.mul-scale k l a.0);
+            one-scale = λ a. Corner-path (scale R.one a) a (A.one-scale a.0);
+          };
           scale-left = λ k a b. Corner-path (times (scale k a) b) (scale k (times a b)) (A.scale-left k a.0 b.0);
           scale-right = λ k a b. Corner-path (times a (scale k b)) (scale k (times a b)) (A.scale-right k a.0 b.0);
         }

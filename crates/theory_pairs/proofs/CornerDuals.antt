@@ -5,12 +5,13 @@ use Rattle.theory_rings.specs.Ring.{RingOn, FieldOn}
 use Rattle.theory_rings.specs.Power.{power}
 use Rattle.theory_spaces.specs.Module.{AlgebraOn}
 use Rattle.theory_spaces.specs.Algebra.{InCorner, IsNilpotent}
+use Rattle.theory_spaces.specs.Lattice.{DualOf, IsOwnDual}
 use Rattle.theory_spaces.proofs.Algebras.Corners.{corner_dual}
 use Rattle.theory_orders.specs.Orders.{Same}
 use Rattle.theory_lattices.specs.Degree.{DegreeOn, DegreeBelow}
 use Rattle.theory_lattices.specs.SelfDual.{SelfDualPair}
 use Rattle.theory_pairs.specs.Corner.{IsCorner}
-use Rattle.theory_pairs.specs.OwnDual.{DualOf, IsOwnDual, CornerPart}
+use Rattle.theory_pairs.specs.OwnDual.{CornerPart}
 use Rattle.theory_pairs.proofs.CornerAlgebras.{between, between_corner, ι-zero}
 use Rattle.theory_rings.proofs.Rings.RingLaws.{mul-zero}
 

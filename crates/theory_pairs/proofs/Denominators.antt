@@ -9,10 +9,11 @@ use Rattle.theory_spaces.specs.Linear.{Basis}
 use Rattle.theory_spaces.specs.Matrix.{Matrix}
 use Rattle.theory_spaces.specs.Algebra.{Nondegenerate}
 use Rattle.theory_spaces.specs.Form.{gram, trace_form}
+use Rattle.theory_spaces.specs.Lattice.{IsSubring}
 use Rattle.theory_spaces.proofs.Linear.Families.{below_suc}
 use Rattle.theory_spaces.proofs.Forms.TraceForms.{trace_form_bilinear}
 use Rattle.theory_orders.specs.Uniformizer.{IsIntegral}
-use Rattle.theory_pairs.specs.Subring.{IsSubring, HasFractions}
+use Rattle.theory_pairs.specs.Subring.{HasFractions}
 use Rattle.theory_pairs.specs.OwnDual.{InvertsGram}
 use Rattle.theory_pairs.specs.PlaceLaws.{SelfDualOutside}
 use Rattle.theory_pairs.proofs.DualSpans.{gram_inverse}

@@ -4,25 +4,20 @@ use Rattle.std.specs.Prelude.{◌≡◌, ℕ, ◌<◌}
 use Rattle.std.proofs.Common.{refl, sym, ◌∙◌, ap, ap₂, subst}
 use Rattle.theory_rings.specs.Ring.{FieldOn}
 use Rattle.theory_rings.proofs.Sums.Sums.{sum_congr}
-use Rattle.theory_spaces.specs.Module.{ModuleOn, AlgebraOn, module_of}
+use Rattle.theory_spaces.specs.Module.{ModuleOn}
 use Rattle.theory_spaces.specs.Linear.{comb, Basis}
 use Rattle.theory_spaces.specs.Matrix.{Matrix, delta}
 use Rattle.theory_spaces.specs.Form.{IsBilinear, IsNondegenerate, DualBasis, gram, transpose, flip}
-use Rattle.theory_spaces.specs.Valuation.{ValuationOn}
 use Rattle.theory_spaces.proofs.Matrices.Matrices.{delta_comm}
 use Rattle.theory_spaces.proofs.Linear.Modules.{comb_injective}
 use Rattle.theory_spaces.proofs.Forms.Forms.{form-comb_left, form-comb_right, flip_bilinear, flip_nondegenerate}
 use Rattle.theory_spaces.proofs.Forms.Forms.{flip_nondegenerate_of_dual, left_dual_basis, dual_basis, dual-expand}
 use Rattle.theory_spaces.proofs.Forms.Forms.{gram_mul-gram_dual}
-use Rattle.theory_orders.specs.Uniformizer.{IsIntegral}
 use Rattle.theory_orders.specs.Orders.{Same}
-use Rattle.theory_orders.specs.Lattices.{Lattice}
-use Rattle.theory_orders.proofs.Lattices.LatticeTests.{over_integers}
-use Rattle.theory_lattices.specs.CommonBasis.{InSpanWith}
-use Rattle.theory_pairs.specs.Subring.{IsSubring}
+use Rattle.theory_spaces.specs.Lattice.{IsSubring, LatticeOver, DualOf, IsOwnDual}
 use Rattle.theory_lattices.proofs.Duals.DualLattices.{weights_are}
-use Rattle.theory_pairs.specs.OwnDual.{DualOf, IsOwnDual, EntriesIn, InvertsGram}
-use Rattle.theory_pairs.proofs.Spans.{sum_in, span-comb, span-member}
+use Rattle.theory_pairs.specs.OwnDual.{EntriesIn, InvertsGram}
+use Rattle.theory_spaces.proofs.Linear.LatticeSpans.{sum_in, span-comb, span-member}
 
 module _ {K V : Type 0} (F : FieldOn K) (M : ModuleOn F.ring V) (form : V → V → K) (bilinear : IsBilinear M form)
     (n : ℕ) (B : Basis M n) where
@@ -48,7 +43,7 @@ module _ {K V : Type 0} (F : FieldOn K) (M : ModuleOn F.ring V) (form : V → V 
 
   module _ (P : K → Type 0) (closed : IsSubring F.ring P) where
     abbrev Span : (ℕ → V) → V → Type 0
-    Span v = InSpanWith M n (λ i c. P c) v
+    Span v = LatticeOver M P n v
 
     abbrev In : V → Type 0
     In = Span B.vec
@@ -117,21 +112,3 @@ module _ {K V : Type 0} (F : FieldOn K) (M : ModuleOn F.ring V) (form : V → V 
             (sum_in F P closed n (λ j. F.◌⊗◌ (s.weights j) (form (B.vec i) (B.vec j))) (λ j a.
             closed.mul_in (s.weights j) (form (B.vec i) (B.vec j)) (s.passes j a) (g i j l a)))))),
       )
-
--- a valuation ring as weights
-module _ {K V : Type 0} (F : FieldOn K) (Z : ValuationOn F) (A : AlgebraOn F.ring V) where
-  pub integral_subring : IsSubring F.ring (IsIntegral F Z)
-  integral_subring = record {
-    zero_in = Z.zero_in;
-    one_in = Z.one_in;
-    add_in = Z.add_in;
-    neg_in = Z.neg_in;
-    mul_in = Z.mul_in;
-  }
-
-  pub lattice_is_span : (n : ℕ) (v : ℕ → V)
-      → Same (Lattice F Z A n v) (InSpanWith (module_of A) n (λ i c. IsIntegral F Z c) v)
-  lattice_is_span n v = (
-    λ x s. record { weights = λ i. (s.weights i).0; passes = λ i _. (s.weights i).1; combines = s.combines },
-    λ x s. over_integers F Z (module_of A) n v x s.weights s.combines s.passes,
-  )

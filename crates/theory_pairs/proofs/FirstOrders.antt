@@ -9,9 +9,8 @@ use Rattle.theory_spaces.specs.Linear.{comb}
 use Rattle.theory_spaces.proofs.Linear.Families.{push, push-below, push-at}
 use Rattle.theory_spaces.proofs.Linear.Modules.{comb-scale}
 use Rattle.theory_orders.specs.Orders.{IsOrder}
-use Rattle.theory_lattices.specs.CommonBasis.{InSpanWith}
-use Rattle.theory_pairs.specs.Subring.{IsSubring}
-use Rattle.theory_pairs.proofs.Spans.{span-comb, span-member, span_order}
+use Rattle.theory_spaces.specs.Lattice.{IsSubring, LatticeOver}
+use Rattle.theory_spaces.proofs.Linear.LatticeSpans.{span-comb, span-member, span_order}
 
 module _ {K V : Type 0} (F : FieldOn K) (A : AlgebraOn F.ring V) (n : ℕ) (b : ℕ → V) (γ : ℕ → ℕ → ℕ → K)
     (products : (i j : ℕ) → i < n → j < n → A.◌⊗◌ (b i) (b j) ≡ comb (module_of A) n (γ i j) b)
@@ -28,7 +27,7 @@ module _ {K V : Type 0} (F : FieldOn K) (A : AlgebraOn F.ring V) (n : ℕ) (b : 
   w = push n A.one (λ i. c • b i)
 
   abbrev In : V → Type 0
-  In = InSpanWith M (suc n) (λ i x. P x) w
+  In = LatticeOver M P (suc n) w
 
   w-below : (i : ℕ) → i < n → w i ≡ c • b i
   w-below i l = push-below n A.one (λ i. c • b i) i l

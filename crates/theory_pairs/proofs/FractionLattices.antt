@@ -43,7 +43,8 @@ use Rattle.theory_fractions.specs.FractionOps.{polynomial_of, rational_function,
 use Rattle.theory_fractions.specs.FractionLaws.{FractionsAreRational}
 use Rattle.theory_fractions.proofs.RationalFractions.{fractions_are_rational}
 use Rattle.theory_fractions.proofs.FractionField.{polynomial_of-one, is_fraction-parts, rational_function_eq}
-use Rattle.theory_fractions.proofs.ListPolynomials.{IsPolynomial as IsList, is_polynomial-gives}
+use Rattle.theory_fractions.specs.PolynomialLists.{IsPolynomialList}
+use Rattle.theory_fractions.proofs.ListPolynomials.{is_polynomial-gives}
 use Rattle.theory_fractions.proofs.ListPolynomials.{degree-polynomial_of, values_back}
 use Rattle.theory_places.specs.FractionPlaces.{fractions}
 use Rattle.theory_places.proofs.FractionPlaces.{x_list, x_poly}
@@ -138,7 +139,7 @@ module _ {E : Type 0} (o : Ops E) (L : FieldLaws o) (M : FieldLaws (fraction_ops
       (d.0, record { degree-is = λ a. d.1 a ∙ degree_path a })
 
   -- the polynomials are those of the rational functions
-  one_list : IsList o L (o.one ∷ [])
+  one_list : IsPolynomialList o (o.one ∷ [])
   one_list = record { over = All-cons (IsElem o) o.one [] L.one-elem (All-nil (IsElem o)); trimmed = L.one-nonzero }
 
   one_values : values o L P.one.0 ≡ o.one ∷ []

@@ -1,4 +1,3 @@
-pub mod Spans
 pub mod Polynomials
 pub mod CornerAlgebras
 pub mod CornerIdeals

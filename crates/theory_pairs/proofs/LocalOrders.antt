@@ -8,12 +8,11 @@ use Rattle.theory_spaces.specs.Valuation.{ValuationOn}
 use Rattle.theory_orders.specs.Uniformizer.{IsIntegral}
 use Rattle.theory_orders.specs.Orders.{IsOrder, Same}
 use Rattle.theory_orders.specs.Lattices.{Lattice, IsOrderAt}
-use Rattle.theory_orders.proofs.Lattices.LatticeTests.{over_integers, integral_weights}
-use Rattle.theory_orders.proofs.LeftOrder.LeftOrderLattice.{order_same}
-use Rattle.theory_lattices.specs.CommonBasis.{InSpanWith}
-use Rattle.theory_pairs.specs.Subring.{IsSubring, IsIntersection}
-use Rattle.theory_pairs.proofs.Spans.{span-member, span_order}
-use Rattle.theory_pairs.proofs.DualSpans.{integral_subring, lattice_is_span}
+use Rattle.theory_spaces.proofs.Linear.LatticeTests.{integral_weights}
+use Rattle.theory_spaces.specs.Lattice.{IsSubring, LatticeOver}
+use Rattle.theory_pairs.specs.Subring.{IsIntersection}
+use Rattle.theory_spaces.proofs.Linear.LatticeSpans.{span-member, span_order}
+use Rattle.theory_spaces.proofs.Linear.LatticeSpans.{integral_subring}
 
 module _ {K V Place : Type 0} (F : FieldOn K) (P : K → Type 0) (Z : Place → ValuationOn F) (I : IsIntersection F P Z)
     (A : AlgebraOn F.ring V) (n : ℕ) (B : Basis (module_of A) n) where
@@ -24,7 +23,7 @@ module _ {K V Place : Type 0} (F : FieldOn K) (P : K → Type 0) (Z : Place → 
   M = module_of A
 
   abbrev In : V → Type 0
-  In = InSpanWith M n (λ i c. P c) B.vec
+  In = LatticeOver M P n B.vec
 
   abbrev At : Place → V → Type 0
   At π = Lattice F (Z π) A n B.vec
@@ -40,7 +39,11 @@ module _ {K V Place : Type 0} (F : FieldOn K) (P : K → Type 0) (Z : Place → 
 
   pub local_members : Same In (λ x. (π : Place) → At π x)
   local_members = (
-    λ x s π. over_integers F (Z π) M n B.vec x s.weights s.combines (λ i l. (I (s.weights i)).0 (s.passes i l) π),
+    λ x s π. record {
+      weights = s.weights;
+      passes = λ i l. (I (s.weights i)).0 (s.passes i l) π;
+      combines = s.combines;
+    },
     λ x h. record {
       weights = B.coord x;
       passes = λ i l. (I (B.coord x i)).1
@@ -54,15 +57,12 @@ module _ {K V Place : Type 0} (F : FieldOn K) (P : K → Type 0) (Z : Place → 
 
   pub order_at : IsOrder A In → (π : Place) → IsOrderAt F (Z π) A n B.vec
   order_at O π =
-      let e = lattice_is_span F (Z π) A n B.vec in
-      let Q : K → Type 0 = IsIntegral F (Z π) in
-      let S : V → Type 0 = InSpanWith M n (λ i c. Q c) B.vec in
-      let into : (x : V) → In x → S x = λ x s. e.0 x (local_members.0 x s π) in
+      let into : (x : V) → In x → At π x = λ x s. local_members.0 x s π in
       record {
         independent = B.independent;
-        order = order_same F A S (At π) (e.1, e.0) (span_order F Q (integral_subring F (Z π) A) A n B.vec
+        order = span_order F (IsIntegral F (Z π)) (integral_subring F (Z π)) A n B.vec
             (λ i j l g. into (B.vec i ⊗ B.vec j) (O.mul_in (B.vec i) (B.vec j) (member i l) (member j g)))
-            (into A.one O.one_in));
+            (into A.one O.one_in);
       }
 
   pub order_everywhere : ((π : Place) → IsOrderAt F (Z π) A n B.vec) → IsOrder A In

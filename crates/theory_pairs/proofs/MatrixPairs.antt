@@ -21,11 +21,10 @@ use Rattle.theory_spaces.proofs.Matrices.MatrixAlgebra.{matrix_basis-vec, matric
 use Rattle.theory_spaces.proofs.Tuples.Tables.{space_basis-coord}
 use Rattle.theory_spaces.proofs.Matrices.PairIndex.{pair-lt, row-lt, column-lt, delta-pairs}
 use Rattle.theory_lattices.specs.Degree.{DegreeOn, DegreeBelow}
-use Rattle.theory_lattices.specs.CommonBasis.{InSpanWith}
-use Rattle.theory_pairs.specs.Subring.{IsSubring}
+use Rattle.theory_spaces.specs.Lattice.{IsSubring, LatticeOver}
 use Rattle.theory_pairs.specs.OwnDual.{UnimodularGram, IsTraceMap}
 use Rattle.theory_pairs.specs.MatrixPair.{MatrixPair}
-use Rattle.theory_pairs.proofs.Spans.{delta_in, span-member, span-scale}
+use Rattle.theory_spaces.proofs.Linear.LatticeSpans.{delta_in, span-member, span-scale}
 use Rattle.theory_pairs.proofs.PairsByGram.{below_subring, pair_by_gram, trace_by_gram}
 use Rattle.theory_pairs.proofs.MatrixTraces.{matrix_trace_map}
 
@@ -116,7 +115,7 @@ module _ {K : Type 0} (F : FieldOn K) (n : ℕ) (A : AlgebraOn F.ring (Mat F.rin
     }
 
     abbrev In : Mat F.ring n → Type 0
-    In = InSpanWith M (n * n) (λ i c. P c) b
+    In = LatticeOver M P (n * n) b
 
     unit-in : (i j : ℕ) → i < n → j < n → In (E i j)
     unit-in i j l g = let u = U in

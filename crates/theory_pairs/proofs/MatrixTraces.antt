@@ -17,7 +17,7 @@ use Rattle.theory_spaces.specs.Algebra.{iterate, map_trace}
 use Rattle.theory_spaces.specs.MatrixAlgebra.{IsMatrixAlgebra}
 use Rattle.theory_spaces.proofs.Matrices.Matrices.{mat_mul_assoc, mat_trace_comm, sum-mul_delta, sum-delta_mul}
 use Rattle.theory_spaces.proofs.Tuples.Tables.{unit, coord-unit, space_basis, space_basis-coord}
-use Rattle.theory_spaces.proofs.Forms.Traces.{map_trace-nilpotent}
+use Rattle.theory_spaces.proofs.Forms.MapTraces.{map_trace-nilpotent}
 use Rattle.theory_orders.proofs.Lattices.Columns.{Column, columns, column_space}
 use Rattle.theory_pairs.specs.OwnDual.{IsTraceMap}
 

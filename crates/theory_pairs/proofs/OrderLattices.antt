@@ -7,9 +7,8 @@ use Rattle.theory_rings.proofs.Rings.RingLaws.{mul-zero}
 use Rattle.theory_rings.proofs.Sums.Sums.{sum_congr}
 use Rattle.theory_spaces.specs.Module.{ModuleOn, AlgebraOn, module_of}
 use Rattle.theory_spaces.specs.Linear.{InSpan, Independent, Basis}
-use Rattle.theory_spaces.specs.Valuation.{ValuationOn, restrict, LatticeBasis}
+use Rattle.theory_spaces.specs.Valuation.{ValuationOn, LatticeBasis}
 use Rattle.theory_spaces.proofs.Linear.Families.{push, push-below}
-use Rattle.theory_spaces.proofs.Linear.Modules.{InSpan_trans}
 use Rattle.theory_spaces.proofs.Linear.Dimension.{exchange}
 use Rattle.theory_spaces.proofs.Linear.IndependentVectors.{Independent-at_most}
 use Rattle.theory_spaces.proofs.Linear.Spaces.{coords_of}
@@ -17,12 +16,11 @@ use Rattle.theory_spaces.proofs.Linear.Lattices.{lattice_basis}
 use Rattle.theory_orders.specs.Uniformizer.{IsIntegral}
 use Rattle.theory_orders.specs.Orders.{IsOrder, Same}
 use Rattle.theory_orders.specs.Lattices.{Lattice, IsOrderAt}
-use Rattle.theory_orders.proofs.Lattices.LatticeTests.{over_field}
 use Rattle.theory_orders.proofs.LeftOrder.LeftOrderLattice.{order_same}
-use Rattle.theory_lattices.specs.CommonBasis.{InSpanWith}
+use Rattle.theory_spaces.specs.Lattice.{LatticeOver}
 use Rattle.theory_pairs.specs.PlaceLaws.{OrderOnLattice}
-use Rattle.theory_pairs.proofs.DualSpans.{integral_subring, lattice_is_span}
 use Rattle.theory_pairs.proofs.FirstOrders as orders
+use Rattle.theory_spaces.proofs.Linear.LatticeSpans.{lattice_span, lattice_trans, integral_subring}
 
 -- multiples of independent vectors by an element other than 0 are independent
 scaled_independent : {K V : Type 0} (F : FieldOn K) (M : ModuleOn F.ring V) (n : ℕ) (b : ℕ → V) (c : K)
@@ -54,11 +52,11 @@ module _ {K V : Type 0} (F : FieldOn K) (Z : ValuationOn F) (A : AlgebraOn F.rin
   Q = IsIntegral F Z
 
   abbrev In : V → Type 0
-  In = InSpanWith M (suc n) (λ i x. Q x) w
+  In = LatticeOver M Q (suc n) w
 
   order : IsOrder A In
   order = orders.first_order F A n B.vec (λ i j. B.coord (B.vec i ⊗ B.vec j)) (λ i j _ _. B.expand (B.vec i ⊗ B.vec j))
-      Q (integral_subring F Z A) c integral
+      Q (integral_subring F Z) c integral
 
   found : LatticeBasis F Z M (suc n) w
   found = lattice_basis F Z M n (coords_of M n B) (suc n) w
@@ -71,9 +69,10 @@ module _ {K V : Type 0} (F : FieldOn K) (Z : ValuationOn F) (A : AlgebraOn F.rin
 
   same : Same (Lattice F Z A r u) (Lattice F Z A (suc n) w)
   same =
-      let f = found in
-      let RM = restrict F Z M in
-      (λ x s. InSpan_trans RM r (suc n) u w x f.within s, λ x s. InSpan_trans RM (suc n) r w u x f.spans s)
+      let f = found in (
+        λ x s. lattice_trans F Z M r (suc n) u w x f.within s,
+        λ x s. lattice_trans F Z M (suc n) r w u x f.spans s,
+      )
 
   rank-is : r ≡ n
   rank-is =
@@ -82,18 +81,14 @@ module _ {K V : Type 0} (F : FieldOn K) (Z : ValuationOn F) (A : AlgebraOn F.rin
       let free = scaled_independent F M n B.vec c nz B.independent in
       let within : (i : ℕ) → i < n → InSpan M r u (c • B.vec i) = λ i l.
       subst (InSpan M r u) (push-below n A.one (λ i. c • B.vec i) i l)
-      (over_field F Z M r u (w i) (f.spans i (omega arith))) in
+      (lattice_span F Z M r u (w i) (f.spans i (omega arith))) in
       let below = exchange F M n r (λ i. c • B.vec i) u free within in
       omega arith
 
   order_here : IsOrderAt F Z A r u
   order_here =
       let f = found in
-      let e = lattice_is_span F Z A (suc n) w in
-      record {
-        independent = f.independent;
-        order = order_same F A In (Lattice F Z A r u) (λ x s. same.1 x (e.1 x s), λ x s. e.0 x (same.0 x s)) order;
-      }
+      record { independent = f.independent; order = order_same F A In (Lattice F Z A r u) (same.1, same.0) order }
 
   pub first_order_at : OrderOnLattice F Z A n (suc n) w
   first_order_at =

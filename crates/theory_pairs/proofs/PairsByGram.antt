@@ -8,13 +8,13 @@ use Rattle.theory_spaces.specs.Module.{ModuleOn, AlgebraOn, module_of}
 use Rattle.theory_spaces.specs.Linear.{Basis}
 use Rattle.theory_spaces.specs.Form.{IsBilinear}
 use Rattle.theory_lattices.specs.Degree.{DegreeOn, DegreeBelow}
-use Rattle.theory_lattices.specs.CommonBasis.{InSpanWith, InFinite, InInfinite}
+use Rattle.theory_spaces.specs.Lattice.{IsSubring, LatticeOver, IsOwnDual}
+use Rattle.theory_lattices.specs.CommonBasis.{InFinite, InInfinite}
 use Rattle.theory_lattices.specs.SelfDual.{SelfDualPair, IntegralTrace}
 use Rattle.theory_lattices.proofs.Degree.Degrees.{below-mul, below-neg, below_of_degree}
 use Rattle.theory_lattices.proofs.Degree.PowersOfDegreeOne.{has_degree-one}
-use Rattle.theory_pairs.specs.OwnDual.{IsOwnDual, UnimodularGram, IsTraceMap}
-use Rattle.theory_pairs.specs.Subring.{IsSubring}
-use Rattle.theory_pairs.proofs.Spans.{span_mul}
+use Rattle.theory_pairs.specs.OwnDual.{UnimodularGram, IsTraceMap}
+use Rattle.theory_spaces.proofs.Linear.LatticeSpans.{span_mul}
 use Rattle.theory_pairs.proofs.DualSpans.{own_dual_of_entries}
 
 module _ {K : Type 0} (F : FieldOn K) (W : DegreeOn F.ring) where
@@ -47,7 +47,7 @@ module _ {K V : Type 0} (F : FieldOn K) (A : AlgebraOn F.ring V) (tr : V → K) 
 
   module _ (n : ℕ) where
     own_dual : (P : K → Type 0) → IsSubring F.ring P → (B : Basis M n) → UnimodularGram M form P n B.vec
-        → IsOwnDual form P (InSpanWith M n (λ i c. P c) B.vec)
+        → IsOwnDual form P (LatticeOver M P n B.vec)
     own_dual P closed B u =
         own_dual_of_entries F M form trace_bilinear n B P closed u.inverse u.inverts u.gram-in u.inverse-in
 

@@ -3,6 +3,7 @@ use Rattle.std.proofs.Common.{refl, sym, ◌∙◌}
 use Rattle.theory_rings.specs.Ring.{CommRingOn, FieldOn}
 use Rattle.theory_rings.specs.Polynomial.{Poly}
 use Rattle.theory_rings.specs.Fraction.{IsFractionField, IsLowest}
+use Rattle.theory_spaces.specs.Lattice.{IsSubring}
 use Rattle.theory_rings.proofs.Rings.Solver.{◌⊠◌, unit, ring2}
 use Rattle.theory_rings.proofs.Polynomials.Bezout.{field_polynomials}
 use Rattle.theory_rings.proofs.Fractions.Fractions.{IsReduction, denominator-ne-zero, value_same, fraction_of_value}
@@ -10,7 +11,7 @@ use Rattle.theory_rings.proofs.Fractions.Lowest.{polynomial_reduction}
 use Rattle.theory_lattices.specs.RationalFunctions.{Rational, IsPolynomial, of_polynomial}
 use Rattle.theory_lattices.proofs.Degree.FractionDegrees.{of-ne-zero, rational_degree, rational_degree-is}
 use Rattle.theory_lattices.proofs.Common.RationalMembers.{polynomials_closed}
-use Rattle.theory_pairs.specs.Subring.{IsSubring, IsDenominator, HasFractions}
+use Rattle.theory_pairs.specs.Subring.{IsDenominator, HasFractions}
 
 module _ {k : Type 0} (F : FieldOn k) (Q : FieldOn (Rational F))
     (H : IsFractionField (field_polynomials F) (IsLowest F.cring (field_polynomials F)) Q) where

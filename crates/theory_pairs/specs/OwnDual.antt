@@ -1,20 +1,10 @@
--- The dual of a set for a form with values in a ring of scalars, sets that are their own duals, and the part of a
--- lattice in a corner.
+-- When a lattice is its own dual, by its Gram matrix, and the part of a lattice in a corner.
 use Rattle.std.specs.Prelude.{◌≡◌, ℕ, ◌<◌}
 use Rattle.theory_rings.specs.Ring.{RingOn}
 use Rattle.theory_spaces.specs.Module.{ModuleOn, AlgebraOn}
 use Rattle.theory_spaces.specs.Matrix.{Matrix, delta, mat_mul}
 use Rattle.theory_spaces.specs.Form.{gram}
 use Rattle.theory_spaces.specs.Algebra.{IsNilpotent}
-use Rattle.theory_orders.specs.Orders.{Same}
-
-module _ {K V : Type 0} (form : V → V → K) (P : K → Type 0) where
-  -- what all of L pairs with into P
-  abbrev pub DualOf : (V → Type 0) → V → Type 0
-  DualOf L x = (y : V) → L y → P (form y x)
-
-  abbrev pub IsOwnDual : (V → Type 0) → Type 0
-  IsOwnDual L = Same (DualOf L) L
 
 -- e·y·e with y in L
 abbrev pub CornerPart : {K V : Type 0} {R : RingOn K} → AlgebraOn R V → V → (V → Type 0) → V → Type 0

@@ -2,14 +2,9 @@
 -- places, and where the field has their fractions alone. (Lang, Algebra, sections II.4 and VII.1; Reiner, Maximal
 -- Orders, section 4.)
 use Rattle.std.specs.Prelude.{◌≡◌, ◌↔◌}
-use Rattle.theory_rings.specs.Ring.{RingOn, FieldOn}
-use Rattle.theory_spaces.specs.Sets.{ring_ops, IsOrder}
+use Rattle.theory_rings.specs.Ring.{FieldOn}
 use Rattle.theory_spaces.specs.Valuation.{ValuationOn}
 use Rattle.theory_orders.specs.Uniformizer.{IsIntegral}
-
--- P holds of the elements of a subring
-abbrev pub IsSubring : {K : Type 0} → RingOn K → (K → Type 0) → Type 0
-IsSubring R P = IsOrder (ring_ops R) R.one P
 
 module _ {K : Type 0} (F : FieldOn K) (P : K → Type 0) where
   -- P holds of the elements that are integral at each of the places, the ring of the integral elements of all of them

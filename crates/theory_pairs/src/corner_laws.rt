@@ -7,11 +7,11 @@ ghost use Rattle.theory_spaces.specs.Linear.{Basis, BasisOf};
 ghost use Rattle.theory_spaces.specs.Space.{SpaceOn};
 ghost use Rattle.theory_spaces.specs.Subspaces.{Whole};
 ghost use Rattle.theory_spaces.specs.Algebra.{CentralSimple, InCorner};
+ghost use Rattle.theory_spaces.specs.Lattice.{IsOwnDual};
 ghost use Rattle.theory_orders.specs.Orders.{IsIdeal, Within};
 ghost use Rattle.theory_lattices.specs.Degree.{DegreeOn};
 ghost use Rattle.theory_lattices.specs.SelfDual.{SelfDualPair, IntegralTrace};
 ghost use Rattle.theory_pairs.specs.Corner.{Corner, IsCorner, IdealOf, CornerConstants, CornerTable};
-ghost use Rattle.theory_pairs.specs.OwnDual.{IsOwnDual};
 ghost use Rattle.theory_pairs.specs.TableCorner.{TablesHaveCorners};
 
 use theory_spaces::algebra_laws::BasedAlgebra;

@@ -11,11 +11,12 @@ ghost use Rattle.theory_orders.specs.Uniformizer.{IsIntegral};
 ghost use Rattle.theory_orders.specs.Orders.{Same};
 ghost use Rattle.theory_orders.specs.Lattices.{Lattice};
 ghost use Rattle.theory_lattices.specs.Degree.{DegreeOn, DegreeBelow};
-ghost use Rattle.theory_lattices.specs.CommonBasis.{InSpanWith, InFinite, InInfinite};
+ghost use Rattle.theory_spaces.specs.Lattice.{IsSubring, LatticeOver, DualOf, IsOwnDual};
+ghost use Rattle.theory_lattices.specs.CommonBasis.{InFinite, InInfinite};
 ghost use Rattle.theory_lattices.specs.RationalFunctions.{IsPolynomial};
 ghost use Rattle.theory_lattices.specs.SelfDual.{SelfDualPair, IntegralTrace};
-ghost use Rattle.theory_pairs.specs.Subring.{IsSubring, HasFractions};
-ghost use Rattle.theory_pairs.specs.OwnDual.{DualOf, IsOwnDual, CornerPart, EntriesIn, InvertsGram, UnimodularGram};
+ghost use Rattle.theory_pairs.specs.Subring.{HasFractions};
+ghost use Rattle.theory_pairs.specs.OwnDual.{CornerPart, EntriesIn, InvertsGram, UnimodularGram};
 ghost use Rattle.theory_pairs.specs.OwnDual.{IsTraceMap};
 
 use theory_lattices::lattice_laws::{DegreeSpace, IdempotentWithLattice};
@@ -62,8 +63,8 @@ pub trait FormOverRing {
 /// The dual of the lattice of a basis is the lattice of the dual basis.
 pub fn dual_of_span<B: FormOverRing>()
     ensures { (D : DualBasis B.space B.form B.dimension B.basis)
-        → Same (DualOf B.form B.Weight (InSpanWith B.space B.dimension (λ i c. B.Weight c) B.basis.vec))
-        (InSpanWith B.space B.dimension (λ i c. B.Weight c) D.basis.vec) }
+        → Same (DualOf B.form B.Weight (LatticeOver B.space B.Weight B.dimension B.basis.vec))
+        (LatticeOver B.space B.Weight B.dimension D.basis.vec) }
 {}
 
 /// The Gram matrix of a basis has an inverse where the form is nondegenerate. The lattice of the basis is then its own
@@ -72,19 +73,16 @@ pub fn own_dual_by_gram<B: FormOverRing>()
     ensures inverse { IsNondegenerate B.space B.form → (N : Matrix B.Scalar)
         × InvertsGram B.space B.form B.dimension B.basis.vec N }
     ensures entries { (N : Matrix B.Scalar) → InvertsGram B.space B.form B.dimension B.basis.vec N
-        → IsOwnDual B.form B.Weight (InSpanWith B.space B.dimension (λ i c. B.Weight c) B.basis.vec)
+        → IsOwnDual B.form B.Weight (LatticeOver B.space B.Weight B.dimension B.basis.vec)
         → EntriesIn B.Weight B.dimension (gram B.space B.form B.basis.vec) × EntriesIn B.Weight B.dimension N }
     ensures own_dual { (N : Matrix B.Scalar) → InvertsGram B.space B.form B.dimension B.basis.vec N
         → EntriesIn B.Weight B.dimension (gram B.space B.form B.basis.vec) → EntriesIn B.Weight B.dimension N
-        → IsOwnDual B.form B.Weight (InSpanWith B.space B.dimension (λ i c. B.Weight c) B.basis.vec) }
+        → IsOwnDual B.form B.Weight (LatticeOver B.space B.Weight B.dimension B.basis.vec) }
 {}
 
-/// A valuation ring is a subring, and its lattices are the combinations with weights in it.
+/// A valuation ring is a subring.
 pub fn valuation_weights<A: PlacedAlgebra>()
-    ensures subring { IsSubring A.field.ring (IsIntegral A.field A.valuation) }
-    ensures lattice { (n : ℕ) (v : ℕ → A.Vector)
-        → Same (Lattice A.field A.valuation A.algebra n v)
-        (InSpanWith (module_of A.algebra) n (λ i c. IsIntegral A.field A.valuation c) v) }
+    ensures { IsSubring A.field.ring (IsIntegral A.field A.valuation) }
 {}
 
 /// The polynomials among the rational functions are a subring, and each rational function is a fraction of them.

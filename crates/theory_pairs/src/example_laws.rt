@@ -5,8 +5,8 @@ ghost use Rattle.theory_spaces.specs.Module.{AlgebraOn, module_of};
 ghost use Rattle.theory_spaces.specs.Linear.{Basis};
 ghost use Rattle.theory_spaces.specs.Matrix.{Mat};
 ghost use Rattle.theory_spaces.specs.MatrixAlgebra.{IsMatrixAlgebra};
+ghost use Rattle.theory_spaces.specs.Lattice.{IsSubring};
 ghost use Rattle.theory_lattices.specs.Degree.{DegreeOn};
-ghost use Rattle.theory_pairs.specs.Subring.{IsSubring};
 ghost use Rattle.theory_pairs.specs.MatrixPair.{MatrixPair};
 
 /// A field with a degree, and a subring of it.

@@ -5,9 +5,8 @@ ghost use Rattle.theory_spaces.specs.Module.{AlgebraOn, module_of};
 ghost use Rattle.theory_spaces.specs.Linear.{comb};
 ghost use Rattle.theory_spaces.specs.Families.{push};
 ghost use Rattle.theory_orders.specs.Orders.{IsOrder};
-ghost use Rattle.theory_lattices.specs.CommonBasis.{InSpanWith};
+ghost use Rattle.theory_spaces.specs.Lattice.{IsSubring, LatticeOver};
 ghost use Rattle.theory_orders.specs.Uniformizer.{IsIntegral};
-ghost use Rattle.theory_pairs.specs.Subring.{IsSubring};
 ghost use Rattle.theory_pairs.specs.PlaceLaws.{OrderOnLattice};
 
 use crate::place_laws::AlgebraOverFractions;
@@ -43,12 +42,12 @@ pub trait AlgebraWithTable {
 pub fn first_order<A: AlgebraWithTable>()
     ensures order { (c : A.Scalar) → ((i j k : ℕ) → i < A.size → j < A.size → k < A.size
         → A.Weight (A.field.◌⊗◌ c (A.constants i j k)))
-        → IsOrder A.algebra (InSpanWith (module_of A.algebra) (suc A.size) (λ i x. A.Weight x)
+        → IsOrder A.algebra (LatticeOver (module_of A.algebra) A.Weight (suc A.size)
         (push A.size A.algebra.one (λ i. A.algebra.◌•◌ c (A.vec i)))) }
     ensures members { (c : A.Scalar)
         → ((i j k : ℕ) → i < A.size → j < A.size → k < A.size → A.Weight (A.field.◌⊗◌ c (A.constants i j k)))
         → (i : ℕ) → i < A.size
-        → InSpanWith (module_of A.algebra) (suc A.size) (λ i x. A.Weight x)
+        → LatticeOver (module_of A.algebra) A.Weight (suc A.size)
         (push A.size A.algebra.one (λ i. A.algebra.◌•◌ c (A.vec i))) (A.algebra.◌•◌ c (A.vec i)) }
 {}
 

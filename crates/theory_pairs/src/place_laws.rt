@@ -16,8 +16,8 @@ ghost use Rattle.theory_orders.specs.Uniformizer.{IsIntegral, IsUnit};
 ghost use Rattle.theory_orders.specs.Orders.{IsOrder, Same};
 ghost use Rattle.theory_orders.specs.Lattices.{Lattice, IsOrderAt};
 ghost use Rattle.theory_orders.specs.Dual.{Dual, IsSelfDual};
-ghost use Rattle.theory_lattices.specs.CommonBasis.{InSpanWith};
-ghost use Rattle.theory_pairs.specs.Subring.{IsSubring, IsIntersection, HasFractions};
+ghost use Rattle.theory_spaces.specs.Lattice.{IsSubring, LatticeOver};
+ghost use Rattle.theory_pairs.specs.Subring.{IsIntersection, HasFractions};
 ghost use Rattle.theory_pairs.specs.OwnDual.{EntriesIn, InvertsGram};
 ghost use Rattle.theory_pairs.specs.PlaceLaws.{SelfDualOutside};
 
@@ -50,9 +50,9 @@ pub trait RingOfPlaces {
 /// The lattice of the basis over the subring is the intersection of its lattices at the places; and it is an order
 /// exactly where each of these is one.
 pub fn orders_are_local<R: RingOfPlaces>()
-    ensures members { Same (InSpanWith (module_of R.algebra) R.dimension (λ i c. R.Weight c) R.basis.vec)
+    ensures members { Same (LatticeOver (module_of R.algebra) R.Weight R.dimension R.basis.vec)
         (λ x. (place : R.Place) → Lattice R.field (R.valuation place) R.algebra R.dimension R.basis.vec x) }
-    ensures order { IsOrder R.algebra (InSpanWith (module_of R.algebra) R.dimension (λ i c. R.Weight c) R.basis.vec)
+    ensures order { IsOrder R.algebra (LatticeOver (module_of R.algebra) R.Weight R.dimension R.basis.vec)
         ↔ ((place : R.Place) → IsOrderAt R.field (R.valuation place) R.algebra R.dimension R.basis.vec) }
 {}
 

@@ -26,7 +26,7 @@ use Rattle.theory_rings.proofs.Rings.RingLaws.{zero-mul}
 use Rattle.theory_rings.proofs.Rings.Fields.{mul-inv}
 use Rattle.theory_rings.proofs.Polynomials.Irreducible.{irreducible-ne-zero}
 use Rattle.theory_rings.proofs.Fractions.Fractions.{fraction_of_value, value_unique}
-use Rattle.theory_fractions.specs.PolynomialLists.{Divides}
+use Rattle.theory_fractions.specs.PolynomialLists.{Divides, IsPolynomialList}
 use Rattle.theory_fractions.specs.Fraction.{Pair, IsFraction}
 use Rattle.theory_fractions.specs.FractionOps.{polynomial_of, rational_function, pair_of, fraction_ops}
 use Rattle.theory_fractions.specs.FractionLaws.{FractionsAreRational}
@@ -34,7 +34,7 @@ use Rattle.theory_fractions.proofs.RationalFractions.{fractions_are_rational}
 use Rattle.theory_fractions.proofs.Lifting.{values-over, coefficients_of_eq, has-mul}
 use Rattle.theory_fractions.proofs.FractionField.{polynomial_of-nil, polynomial_of-one, polynomial_of-values}
 use Rattle.theory_fractions.proofs.FractionField.{is_fraction-parts, rational_function_eq}
-use Rattle.theory_fractions.proofs.ListPolynomials.{IsPolynomial, is_polynomial-gives, IsPolynomial-values}
+use Rattle.theory_fractions.proofs.ListPolynomials.{is_polynomial-gives, IsPolynomialList-values}
 use Rattle.theory_fractions.proofs.ListPolynomials.{has_polynomial_of, degree-polynomial_of, divides_polynomial_of}
 use Rattle.theory_fractions.proofs.ListPolynomials.{divides_values, values_back}
 use Rattle.theory_fractions.proofs.Reducing.{fraction_of_eq, eq_of_fraction, lowest_of_monic, lowest_over_one}
@@ -43,7 +43,7 @@ use Rattle.theory_fractions.proofs.LowestTerms.{lead_value}
 use Rattle.theory_fractions.proofs.ElementClauses.{elem_of_lowest}
 use Rattle.theory_places.specs.Places.{PlaceOf, Finite, Infinite}
 use Rattle.theory_places.specs.Places as rational
-use Rattle.theory_places.specs.FractionPlaces.{IsPolynomialList, IsIntegralOff, IsIntegralAtInfinity, IsIntegralAt}
+use Rattle.theory_places.specs.FractionPlaces.{IsIntegralOff, IsIntegralAtInfinity, IsIntegralAt}
 use Rattle.theory_places.specs.FractionPlaces.{IsMonicIrreducible, IsPlace, uniformizer_at, fractions}
 use Rattle.theory_places.specs.FractionPlaces.{FractionPlaceValuation, FractionPlacesAreValuationRings}
 use Rattle.theory_places.specs.FractionPlaces.{FractionFiniteResidues, FractionInfiniteResidue}
@@ -72,12 +72,6 @@ module _ {E : Type 0} (o : Ops E) (L : FieldLaws o) where
   abbrev Frac : Pair E → Type 0
   Frac w = IsElem (fraction_ops o L) w
 
-  is_list : (u : List E) → IsPolynomialList o u → IsPolynomial o L u
-  is_list u h = record { over = h.over; trimmed = h.trimmed }
-
-  of_values : (u : Poly F.cring) → IsPolynomialList o (values o L u.0)
-  of_values u = let h = IsPolynomial-values o L u in record { over = h.over; trimmed = h.trimmed }
-
   -- numerator and denominator of a fraction
   num_path : (w : Pair E) → Frac w → (map w).0.0 ≡ poly w.0
   unfolding fraction_ops
@@ -87,11 +81,11 @@ module _ {E : Type 0} (o : Ops E) (L : FieldLaws o) where
   unfolding fraction_ops
   den_path w h = ap (λ (x : Rational F). x.0.1) (rational_function_eq o L w h)
 
-  num_is : (w : Pair E) → Frac w → IsPolynomial o L w.0
+  num_is : (w : Pair E) → Frac w → IsPolynomialList o w.0
   unfolding fraction_ops
   num_is w h = is_polynomial-gives o L w.0 (is_fraction-parts o L w h).0
 
-  den_is : (w : Pair E) → Frac w → IsPolynomial o L w.1
+  den_is : (w : Pair E) → Frac w → IsPolynomialList o w.1
   unfolding fraction_ops
   den_is w h = is_polynomial-gives o L w.1 (is_fraction-parts o L w h).1
 
@@ -123,18 +117,18 @@ module _ {E : Type 0} (o : Ops E) (L : FieldLaws o) where
     λ s. record {
       u = values o L s.0.0;
       v = values o L s.1.0;
-      numerator = of_values s.0;
-      denominator = of_values s.1;
+      numerator = IsPolynomialList-values o L s.0;
+      denominator = IsPolynomialList-values o L s.1;
       value = of_value w s.0 s.1 h s.2;
       off = λ d. s.3 (subst (DividesIn P (poly m)) (polynomial_of-values o L s.1)
-          (divides_polynomial_of o L m (values o L s.1.0) (is_list m hm) (IsPolynomial-values o L s.1) d));
+          (divides_polynomial_of o L m (values o L s.1.0) hm (IsPolynomialList-values o L s.1) d));
     },
     λ s. (
       poly s.u,
       poly s.v,
       value_of w s.u s.v h s.numerator s.denominator s.value,
-      λ d. s.off (subst (Divides o m) (values_back o L s.v (is_list s.v s.denominator))
-          (subst (λ t. Divides o t (values o L (poly s.v).0)) (values_back o L m (is_list m hm))
+      λ d. s.off (subst (Divides o m) (values_back o L s.v s.denominator)
+          (subst (λ t. Divides o t (values o L (poly s.v).0)) (values_back o L m hm)
           (divides_values o L (poly m) (poly s.v) d))),
     ),
   )
@@ -158,12 +152,12 @@ module _ {E : Type 0} (o : Ops E) (L : FieldLaws o) where
 
   -- the polynomial of a place
   degree_values : (u : Poly F.cring) → degree (values o L u.0) ≡ degree u.0
-  degree_values u = sym (degree-polynomial_of o L (values o L u.0) (IsPolynomial-values o L u))
+  degree_values u = sym (degree-polynomial_of o L (values o L u.0) (IsPolynomialList-values o L u))
       ∙ ap (λ (t : Poly F.cring). degree t.0) (polynomial_of-values o L u)
 
   finite_place : (m : List E) → IsMonicIrreducible o m → rational.IsPlace F (Finite (poly m))
   finite_place m s =
-      let hm = is_list m s.polynomial in
+      let hm = s.polynomial in
       let d = degree-polynomial_of o L m hm in
       let l = degree_le_length F.cring (poly m) in
       let g = s.positive in (
@@ -176,7 +170,8 @@ module _ {E : Type 0} (o : Ops E) (L : FieldLaws o) where
           no_factors = λ a b la lb e.
               let da = degree_values a in
               let db = degree_values b in
-              s.no_factors (values o L a.0) (values o L b.0) (of_values a) (of_values b) (omega arith) (omega arith)
+              s.no_factors (values o L a.0) (values o L b.0) (IsPolynomialList-values o L a)
+              (IsPolynomialList-values o L b) (omega arith) (omega arith)
               (coefficients_of_eq o L (poly m) (P.◌⊗◌ a b) (at o m)
               (convolution_of o (at o (values o L a.0)) (at o (values o L b.0)))
               (has_polynomial_of o L m hm.over)
@@ -200,13 +195,13 @@ module _ {E : Type 0} (o : Ops E) (L : FieldLaws o) where
 
   -- ---- uniformizers
 
-  one_list : IsPolynomial o L (o.one ∷ [])
+  one_list : IsPolynomialList o (o.one ∷ [])
   one_list = record { over = All-cons (IsElem o) o.one [] L.one-elem (All-nil (IsElem o)); trimmed = L.one-nonzero }
 
   unfoldable pub x_list : List E
   x_list = o.zero ∷ o.one ∷ []
 
-  x_is : IsPolynomial o L x_list
+  x_is : IsPolynomialList o x_list
   unfolding x_list
   x_is = record { over = All-cons (IsElem o) o.zero (o.one ∷ []) L.zero-elem one_list.over; trimmed = L.one-nonzero }
 
@@ -228,7 +223,7 @@ module _ {E : Type 0} (o : Ops E) (L : FieldLaws o) where
   pub uniformizer_frac : (place : PlaceOf (List E)) → IsPlace o place → Frac (uniformizer_at o place)
   unfolding x_list
   uniformizer_frac (Finite m) s =
-      elem_of_lowest o L (m, o.one ∷ []) (lowest_over_one o L m (is_list m s.polynomial))
+      elem_of_lowest o L (m, o.one ∷ []) (lowest_over_one o L m s.polynomial)
   uniformizer_frac Infinite s = elem_of_lowest o L (o.one ∷ [], x_list)
       (lowest_of_monic o L (o.one ∷ []) x_list one_list x_is (λ e. let f = ap length e in omega arith) refl
       (coprime_of_constant_left o L (o.one ∷ []) x_list one_list refl))

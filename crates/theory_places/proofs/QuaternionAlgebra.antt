@@ -154,13 +154,15 @@ module _ {K : Type 0} (F : FieldOn K) (p b : K) where
       mul-add = times_plus;
       add-mul = plus_times;
     };
-    ◌•◌ = scale;
-    scale-add = λ c x y. ap₄ four (F.mul-add c x.0 y.0) (F.mul-add c x.1 y.1) (F.mul-add c x.2 y.2)
-        (F.mul-add c x.3 y.3);
-    add-scale = λ c d x. ap₄ four (F.add-mul c d x.0) (F.add-mul c d x.1) (F.add-mul c d x.2) (F.add-mul c d x.3);
-    mul-scale = λ c d x. ap₄ four (F.mul_assoc c d x.0) (F.mul_assoc c d x.1) (F.mul_assoc c d x.2)
-        (F.mul_assoc c d x.3);
-    one-scale = λ x. ap₄ four (F.one-mul x.0) (F.one-mul x.1) (F.one-mul x.2) (F.one-mul x.3);
+    scalars = record {
+      ◌•◌ = scale;
+      scale-add = λ c x y. ap₄ four (F.mul-add c x.0 y.0) (F.mul-add c x.1 y.1) (F.mul-add c x.2 y.2)
+          (F.mul-add c x.3 y.3);
+      add-scale = λ c d x. ap₄ four (F.add-mul c d x.0) (F.add-mul c d x.1) (F.add-mul c d x.2) (F.add-mul c d x.3);
+      mul-scale = λ c d x. ap₄ four (F.mul_assoc c d x.0) (F.mul_assoc c d x.1) (F.mul_assoc c d x.2)
+          (F.mul_assoc c d x.3);
+      one-scale = λ x. ap₄ four (F.one-mul x.0) (F.one-mul x.1) (F.one-mul x.2) (F.one-mul x.3);
+    };
     scale-left = scale_left;
     scale-right = scale_right;
   }
@@ -184,3 +186,9 @@ fourth a b c d zero = a
 fourth a b c d (suc zero) = b
 fourth a b c d (suc (suc zero)) = c
 fourth a b c d (suc (suc (suc i))) = d
+
+pub fourth_in : {X : Type 0} (P : X → Type 0) (a b c d : X) → P a → P b → P c → P d → (i : ℕ) → P (fourth a b c d i)
+fourth_in P a b c d ha hb hc hd zero = ha
+fourth_in P a b c d ha hb hc hd (suc zero) = hb
+fourth_in P a b c d ha hb hc hd (suc (suc zero)) = hc
+fourth_in P a b c d ha hb hc hd (suc (suc (suc i))) = hd

@@ -17,7 +17,7 @@ use Rattle.theory_orders.proofs.Lattices.Multiples.{Multiple-add}
 use Rattle.theory_orders.proofs.Ideals.SimpleQuotients.{radical_of_simple, simple_by_tests}
 use Rattle.theory_places.proofs.QuaternionAlgebra.{E, times_ex, add_ex, one_ex, x_ex}
 use Rattle.theory_places.proofs.QuaternionAlgebra.{Quaternion, times, quaternions, order_vectors}
-use Rattle.theory_places.proofs.QuaternionAlgebra.{radical_vectors, fourth, ap₄}
+use Rattle.theory_places.proofs.QuaternionAlgebra.{radical_vectors, fourth, fourth_in, ap₄}
 
 -- x and y are multiples of p where x² − b·y² is
 abbrev pub NoSquareModulo : {K : Type 0} (F : FieldOn K) → ValuationOn F → K → K → Type 0
@@ -101,32 +101,34 @@ module _ {K : Type 0} (F : FieldOn K) (Z : ValuationOn F) (p q : K) (U : Uniform
 
   L-in : (x : W) → Whole x → L x
   L-in x h = record {
-    weights = fourth (x.0, h.0) (x.1, h.1) (x.2, h.2) (x.3, h.3);
+    weights = fourth x.0 x.1 x.2 x.3;
+    passes = λ i _. fourth_in In x.0 x.1 x.2 x.3 h.0 h.1 h.2 h.3 i;
     combines = sym (os-comb x.0 x.1 x.2 x.3);
   }
 
   in-L : (x : W) → L x → Whole x
   in-L x s =
-      let e = s.combines ∙ os-comb (s.weights 0).0 (s.weights 1).0 (s.weights 2).0 (s.weights 3).0 in (
-        subst In (sym (ap (λ (z : W). z.0) e)) (s.weights 0).1,
-        subst In (sym (ap (λ (z : W). z.1) e)) (s.weights 1).1,
-        subst In (sym (ap (λ (z : W). z.2) e)) (s.weights 2).1,
-        subst In (sym (ap (λ (z : W). z.3) e)) (s.weights 3).1,
+      let e = s.combines ∙ os-comb (s.weights 0) (s.weights 1) (s.weights 2) (s.weights 3) in (
+        subst In (sym (ap (λ (z : W). z.0) e)) (s.passes 0 (omega arith)),
+        subst In (sym (ap (λ (z : W). z.1) e)) (s.passes 1 (omega arith)),
+        subst In (sym (ap (λ (z : W). z.2) e)) (s.passes 2 (omega arith)),
+        subst In (sym (ap (λ (z : W). z.3) e)) (s.passes 3 (omega arith)),
       )
 
   J-in : (x : W) → Low x → J x
   J-in x h = record {
-    weights = fourth (q ⊗ x.0, h.0) (x.1, h.1) (q ⊗ x.2, h.2) (x.3, h.3);
+    weights = fourth (q ⊗ x.0) x.1 (q ⊗ x.2) x.3;
+    passes = λ i _. fourth_in In (q ⊗ x.0) x.1 (q ⊗ x.2) x.3 h.0 h.1 h.2 h.3 i;
     combines = sym (js-comb (q ⊗ x.0) x.1 (q ⊗ x.2) x.3 ∙ ap₄ four' (pq x.0) refl (pq x.2) refl);
   }
 
   in-J : (x : W) → J x → Low x
   in-J x s =
-      let e = s.combines ∙ js-comb (s.weights 0).0 (s.weights 1).0 (s.weights 2).0 (s.weights 3).0 in (
-        subst In (sym (ap (λ (z : W). q ⊗ z.0) e ∙ qp (s.weights 0).0)) (s.weights 0).1,
-        subst In (sym (ap (λ (z : W). z.1) e)) (s.weights 1).1,
-        subst In (sym (ap (λ (z : W). q ⊗ z.2) e ∙ qp (s.weights 2).0)) (s.weights 2).1,
-        subst In (sym (ap (λ (z : W). z.3) e)) (s.weights 3).1,
+      let e = s.combines ∙ js-comb (s.weights 0) (s.weights 1) (s.weights 2) (s.weights 3) in (
+        subst In (sym (ap (λ (z : W). q ⊗ z.0) e ∙ qp (s.weights 0))) (s.passes 0 (omega arith)),
+        subst In (sym (ap (λ (z : W). z.1) e)) (s.passes 1 (omega arith)),
+        subst In (sym (ap (λ (z : W). q ⊗ z.2) e ∙ qp (s.weights 2))) (s.passes 2 (omega arith)),
+        subst In (sym (ap (λ (z : W). z.3) e)) (s.passes 3 (omega arith)),
       )
 
   up : (a : K) → In (q ⊗ a) → In a

@@ -26,7 +26,8 @@ use Rattle.theory_rings.proofs.Fractions.Lowest.{polynomial_reduction, rational_
 use Rattle.theory_lattices.specs.RationalFunctions.{Rational, of_polynomial, of_constant, power_of_x}
 use Rattle.theory_tables.specs.Ramified.{RamifiedTable}
 use Rattle.theory_fractions.specs.FractionOps.{polynomial_of, rational_function, fraction_ops}
-use Rattle.theory_fractions.proofs.ListPolynomials.{IsPolynomial, has_polynomial_of, degree-polynomial_of}
+use Rattle.theory_fractions.specs.PolynomialLists.{IsPolynomialList}
+use Rattle.theory_fractions.proofs.ListPolynomials.{has_polynomial_of, degree-polynomial_of}
 use Rattle.theory_fractions.proofs.Reducing.{lowest_over_one, poly-mul}
 use Rattle.theory_fractions.proofs.ElementClauses.{elem_of_lowest}
 use Rattle.theory_fractions.proofs.RationalFractions.{fractions_are_rational}
@@ -158,7 +159,7 @@ module _ {E : Type 0} (o : Ops E) (L : FieldLaws o) (M : FieldLaws (fraction_ops
       (zero-mul F.ring F.zero ∙ sym (zero-mul F.ring (F.◌⊗◌ F.one F.one))
       ∙ ap (λ t. F.◌⊗◌ t (F.◌⊗◌ F.one F.one)) (sym (Elem-path o b F.zero e)))).1
 
-  b_list : IsPolynomial o L (b.0 ∷ [])
+  b_list : IsPolynomialList o (b.0 ∷ [])
   b_list = record { over = All-cons (IsElem o) b.0 [] b.1 (All-nil (IsElem o)); trimmed = b_ne }
 
   -- the constant b as a fraction
@@ -236,7 +237,7 @@ module _ {E : Type 0} (o : Ops E) (L : FieldLaws o) (M : FieldLaws (fraction_ops
   unfolding x_list
   x_poly_here = x_poly o L
 
-  x_is_here : IsPolynomial o L x_place
+  x_is_here : IsPolynomialList o x_place
   x_is_here = record {
     over = All-cons (IsElem o) o.zero (o.one ∷ []) L.zero-elem
         (All-cons (IsElem o) o.one [] L.one-elem (All-nil (IsElem o)));
@@ -245,15 +246,13 @@ module _ {E : Type 0} (o : Ops E) (L : FieldLaws o) (M : FieldLaws (fraction_ops
 
   x_is_place : IsPlace o (Finite x_place)
   x_is_place = record {
-    polynomial = record { over = x_is_here.over; trimmed = x_is_here.trimmed };
+    polynomial = x_is_here;
     monic = refl;
     positive = omega arith;
     no_factors = λ u v hu hv lu lv e.
         let P = field_polynomials F in
-        let iu : IsPolynomial o L u = record { over = hu.over; trimmed = hu.trimmed } in
-        let iv : IsPolynomial o L v = record { over = hv.over; trimmed = hv.trimmed } in
-        let du = degree-polynomial_of o L u iu in
-        let dv = degree-polynomial_of o L v iv in
+        let du = degree-polynomial_of o L u hu in
+        let dv = degree-polynomial_of o L v hv in
         let d = ap (λ (t : Poly F.cring). degree t.0) (sym x_poly_here) ∙ degree-polynomial_of o L x_place x_is_here in
         let i = (variable_place F Q HQ).1 in
         i.no_factors (polynomial_of o L u) (polynomial_of o L v) (omega arith) (omega arith)

@@ -5,7 +5,7 @@ use Rattle.theory_rings.specs.Ring.{FieldOn}
 use Rattle.theory_rings.specs.Ops.{Ops, FieldLaws}
 use Rattle.theory_rings.specs.Elements.{Elem, elements}
 use Rattle.theory_rings.specs.Sum.{at}
-use Rattle.theory_rings.specs.Polynomial.{IsTrimmed, degree}
+use Rattle.theory_rings.specs.Polynomial.{degree}
 use Rattle.theory_rings.specs.Remainder.{Remainder, IsRemainderRing}
 use Rattle.theory_rings.proofs.Polynomials.Bezout.{field_polynomials}
 use Rattle.theory_spaces.specs.Valuation.{ValuationOn}
@@ -15,23 +15,18 @@ use Rattle.theory_tables.specs.Structure.{Structure}
 use Rattle.theory_tables.specs.Ramified.{RamifiedTable}
 use Rattle.theory_tables.specs.Split.{IsSplit}
 use Rattle.theory_residue.specs.Residue.{ResidueOn}
-use Rattle.theory_fractions.specs.PolynomialLists.{IsOver, IsProduct, Divides}
+use Rattle.theory_fractions.specs.PolynomialLists.{IsPolynomialList, IsProduct, Divides}
 use Rattle.theory_fractions.specs.Fraction.{Pair, IsFraction}
 use Rattle.theory_fractions.specs.FractionOps.{polynomial_of, fraction_ops}
 use Rattle.theory_places.specs.Places.{PlaceOf, Finite, Infinite}
 
 module _ {E : Type 0} (o : Ops E) where
-  -- coefficients of a polynomial
-  pub record IsPolynomialList (u : List E) : Type 0 where
-    pub over : IsOver o u
-    pub trimmed : IsTrimmed o.zero u
-
   -- the same as some u/v where m does not divide v
   pub record IsIntegralOff (m : List E) (w : Pair E) : Type 0 where
     pub u : List E
     pub v : List E
-    pub numerator : IsPolynomialList u
-    pub denominator : IsPolynomialList v
+    pub numerator : IsPolynomialList o u
+    pub denominator : IsPolynomialList o v
     pub value : IsFraction o w u v
     pub off : Divides o m v → ⊥
 
@@ -46,10 +41,10 @@ module _ {E : Type 0} (o : Ops E) where
 
   -- monic, of degree at least 1, and no product of two polynomials of smaller degree
   pub record IsMonicIrreducible (m : List E) : Type 0 where
-    pub polynomial : IsPolynomialList m
+    pub polynomial : IsPolynomialList o m
     pub monic : at o m (degree m) ≡ o.one
     pub positive : 1 ≤ degree m
-    pub no_factors : (a b : List E) → IsPolynomialList a → IsPolynomialList b → degree a < degree m
+    pub no_factors : (a b : List E) → IsPolynomialList o a → IsPolynomialList o b → degree a < degree m
         → degree b < degree m
         → IsProduct o a b m → ⊥
 

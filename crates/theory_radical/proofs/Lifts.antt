@@ -3,6 +3,5 @@ pub mod IntegerLifts
 pub mod LiftRings
 pub mod LiftedMatrices
 pub mod RemainderLifts
-pub mod RemainderRings
 pub mod TowerFields
 pub mod Towers

@@ -6,8 +6,7 @@ use Rattle.theory_spaces.specs.Module.{ModuleOn, AlgebraOn, module_of}
 use Rattle.theory_spaces.specs.Linear.{InSpan, Basis}
 use Rattle.theory_spaces.specs.Subspaces.{Whole}
 use Rattle.theory_spaces.specs.Algebra.{IdealSpan}
-use Rattle.theory_spaces.specs.Valuation.{ValuationOn, restrict}
-use Rattle.theory_spaces.proofs.Linear.Modules.{InSpan-member}
+use Rattle.theory_spaces.specs.Valuation.{ValuationOn}
 use Rattle.theory_spaces.proofs.Linear.Spaces.{coords_of, basis_of}
 use Rattle.theory_orders.specs.Uniformizer.{UniformizerOn}
 use Rattle.theory_orders.specs.Orders.{IsIdeal, Multiple, Radical, SimpleQuotient, IsMaximalIdeal, Within, Same, Test}
@@ -16,7 +15,7 @@ use Rattle.theory_spaces.specs.Sets.{ring_ops}
 use Rattle.theory_spaces.proofs.Algebras.SetLemmas as lemmas
 use Rattle.theory_orders.proofs.Ideals.Ideals.{ideal_same}
 use Rattle.theory_orders.proofs.Lattices.Multiples.{Multiple-zero}
-use Rattle.theory_orders.proofs.Lattices.LatticeTests.{lattice_test, lattice_test-in, in-lattice_test}
+use Rattle.theory_spaces.proofs.Linear.LatticeTests.{lattice_test, lattice_test-in, in-lattice_test}
 use Rattle.theory_orders.proofs.Splitting.Ramified.{spanning}
 use Rattle.theory_radical.specs.Ideal.{IsLargestNilpotentIdeal}
 use Rattle.theory_blocks.specs.MaximalIdeals.{IsMaximalIdeal as IsMaximalRingIdeal}
@@ -28,6 +27,7 @@ use Rattle.theory_residue.proofs.Correspondence.{lifted_over, ends_correspond}
 use Rattle.theory_residue.proofs.Radicals.{maximal_of_simple, simple_of_maximal, largest_of_radical, radical_of_largest}
 use Rattle.theory_residue.proofs.Reductions.{residue_reduction, residue_algebra}
 use Rattle.theory_residue.proofs.ReducedLattices.{reduced_lattice, lifted_vec, lifted_lattice}
+use Rattle.theory_spaces.proofs.Linear.LatticeSpans.{lattice-member}
 
 -- sets with the same members
 module _ {K V : Type 0} (F : FieldOn K) (A : AlgebraOn F.ring V) (I J : V → Type 0) (e : Same I J) where
@@ -119,7 +119,7 @@ module _ {K E V : Type 0} (F : FieldOn K) (Z : ValuationOn F) (p q : K) (U : Uni
         let J : V → Type 0 = Lattice F Z A m u in
         let g : ℕ → W = λ i. R.red (u i) in
         let s = reduced_lattice F Z p q U k D A B n v o.order R r.map-scale m u
-        (λ i l. I.inside (u i) (InSpan-member (restrict F Z MA) m i u l)) in
+        (λ i l. I.inside (u i) (lattice-member F Z MA m i u l)) in
         record {
           ideal = reduced_is A L N o.order B R J I over;
           span = s;

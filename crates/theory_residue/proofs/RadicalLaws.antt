@@ -6,8 +6,7 @@ use Rattle.theory_spaces.specs.Module.{ModuleOn, AlgebraOn, module_of}
 use Rattle.theory_spaces.specs.Linear.{InSpan, Basis}
 use Rattle.theory_spaces.specs.Space.{SpaceOn}
 use Rattle.theory_spaces.specs.Algebra.{IdealSpan}
-use Rattle.theory_spaces.specs.Valuation.{ValuationOn, restrict}
-use Rattle.theory_spaces.proofs.Linear.Modules.{InSpan-member}
+use Rattle.theory_spaces.specs.Valuation.{ValuationOn}
 use Rattle.theory_spaces.proofs.Linear.Spaces.{coords_of}
 use Rattle.theory_orders.specs.Uniformizer.{UniformizerOn}
 use Rattle.theory_orders.specs.Orders.{IsIdeal, Multiple, Radical, IsMaximalIdeal, Within, Same}
@@ -25,6 +24,7 @@ use Rattle.theory_residue.proofs.QuotientAlgebras.{quotient_exists}
 use Rattle.theory_residue.proofs.RadicalQuotients.{composed, none_nilpotent, reduced_span, from_vec, lifted_span}
 use Rattle.theory_residue.proofs.RadicalQuotients.{nilpotent_in_maximal}
 use Rattle.theory_residue.proofs.Laws.{other, maximal_same, lattice_law, t, decides}
+use Rattle.theory_spaces.proofs.Linear.LatticeSpans.{lattice-member}
 
 module _ {K E V : Type 0} (F : FieldOn K) (Z : ValuationOn F) (p q : K) (U : UniformizerOn F Z p q) (k : FieldOn E)
     (D : ResidueOn F Z q k)
@@ -94,7 +94,7 @@ module _ {K E V : Type 0} (F : FieldOn K) (Z : ValuationOn F) (p q : K) (U : Uni
 
         first : Same (Reduced A L N B f Lat) (InSpan MB a (λ i. f.red (x i)))
         first = reduced_lattice F Z p q U k D A B n v o.order f r.map-scale a x
-            (λ i l. I.inside (x i) (InSpan-member (restrict F Z (module_of A)) a i x l))
+            (λ i l. I.inside (x i) (lattice-member F Z (module_of A) a i x l))
 
         second : Same (Reduced B (λ y. Unit {0}) (InSpan MB m g) C T.reduction (InSpan MB a (λ i. f.red (x i)))) image
         second = reduced_span k B n w (InSpan MB m g) C T.reduction T.map-scale a (λ i. f.red (x i))

@@ -5,7 +5,7 @@ use Rattle.std.proofs.Common.{sym, ◌∙◌, ap}
 use Rattle.theory_rings.specs.Ring.{FieldOn}
 use Rattle.theory_spaces.specs.Module.{ModuleOn, AlgebraOn, module_of}
 use Rattle.theory_spaces.specs.Linear.{comb, Basis}
-use Rattle.theory_spaces.specs.Space.{SpaceOn, ProductOn}
+use Rattle.theory_spaces.specs.Space.{SpaceOn, ProductOn, product_on}
 use Rattle.theory_spaces.specs.Valuation.{ValuationOn}
 use Rattle.theory_spaces.proofs.Linear.Spaces.{Basis-coord}
 use Rattle.theory_spaces.proofs.Tuples.Tables.{space_basis, space_basis-coord, table_on, coord-unit_mul, algebra_of}
@@ -13,7 +13,7 @@ use Rattle.theory_orders.specs.Uniformizer.{UniformizerOn}
 use Rattle.theory_orders.specs.Orders.{IsOrder}
 use Rattle.theory_orders.specs.Lattices.{Lattice}
 use Rattle.theory_residue.specs.Residue.{ResidueOn, ResidueConstants, ResidueReduction, ResidueAlgebra}
-use Rattle.theory_residue.proofs.ResidueAlgebra.{basis_ext, product_of, red, lift, lift_in, red-lift, red-comb, red-add}
+use Rattle.theory_residue.proofs.ResidueAlgebra.{basis_ext, red, lift, lift_in, red-lift, red-comb, red-add}
 use Rattle.theory_residue.proofs.ResidueAlgebra.{red-scale, red-mul, kernel_to, kernel_from, multiple_in, residue_assoc}
 use Rattle.theory_residue.proofs.ResidueAlgebra.{residue_one-mul, residue_mul-one}
 
@@ -53,9 +53,9 @@ module _ {K E V : Type 0} (F : FieldOn K) (Z : ValuationOn F) (p q : K) (U : Uni
         lift = lift F Z p q U k D A n b O MB w;
         lift_in = lift_in F Z p q U k D A n b O MB w;
         red-lift = red-lift F Z p q U k D A n b O MB w;
-        map-one = sym (B.mul-one (r A.one)) ∙ residue_one-mul F Z p q U k D A n b O MB w (product_of B) constants B.one;
+        map-one = sym (B.mul-one (r A.one)) ∙ residue_one-mul F Z p q U k D A n b O MB w (product_on B) constants B.one;
         map-add = red-add F Z p q U k D A n b O MB w;
-        map-mul = red-mul F Z p q U k D A n b O MB w (product_of B) constants;
+        map-mul = red-mul F Z p q U k D A n b O MB w (product_on B) constants;
         kernel = λ x l. (kernel_to F Z p q U k D A n b O MB w x l, kernel_from F Z p q U k D A n b O MB w x);
         kernel_in = multiple_in F Z p q U k D A n b O MB w;
       };

@@ -8,18 +8,19 @@ use Rattle.theory_rings.proofs.Sums.Sums.{sum_congr, mul-sum}
 use Rattle.theory_spaces.specs.Module.{ModuleOn, AlgebraOn, module_of}
 use Rattle.theory_spaces.specs.Linear.{comb, Coords, Basis}
 use Rattle.theory_spaces.specs.Matrix.{delta}
-use Rattle.theory_spaces.specs.Space.{ProductOn, sum2}
-use Rattle.theory_spaces.specs.Valuation.{ValuationOn, restrict}
-use Rattle.theory_spaces.proofs.Linear.Modules.{map-comb, comb_congr, InSpan-member, InSpan-scale}
+use Rattle.theory_spaces.specs.Space.{ProductOn, product_on, sum2}
+use Rattle.theory_spaces.specs.Valuation.{ValuationOn}
+use Rattle.theory_spaces.proofs.Linear.Modules.{map-comb, comb_congr}
 use Rattle.theory_spaces.proofs.Linear.IndependentVectors.{comb-delta}
 use Rattle.theory_spaces.proofs.Linear.Spaces.{coords_of, coord-comb, Basis-coord}
 use Rattle.theory_spaces.proofs.Tuples.Tables.{sum2_congr, product_left, product_right}
 use Rattle.theory_orders.specs.Uniformizer.{IsIntegral, UniformizerOn}
 use Rattle.theory_orders.specs.Orders.{IsOrder, Multiple}
 use Rattle.theory_orders.specs.Lattices.{Lattice}
-use Rattle.theory_orders.proofs.Lattices.LatticeTests.{integral_weights, over_integers}
+use Rattle.theory_spaces.proofs.Linear.LatticeTests.{integral_weights}
 use Rattle.theory_orders.proofs.Lattices.Multiples.{Multiple-of}
 use Rattle.theory_residue.specs.Residue.{ResidueOn}
+use Rattle.theory_spaces.proofs.Linear.LatticeSpans.{lattice-scale, lattice-member}
 
 -- the coordinates of a product, by those of the products of the vectors of a basis
 module _ {K V : Type 0} {R : RingOn K} (M : ModuleOn R V) (P : ProductOn M) (n : ℕ) (B : Basis M n) where
@@ -52,16 +53,6 @@ module _ {K V : Type 0} {R : RingOn K} (M : ModuleOn R V) (n : ℕ) (B : Basis M
 
   pub coord-vec : (i l : ℕ) → i < n → l < n → B.coord (B.vec i) l ≡ delta R i l
   coord-vec i l a b = ap (λ x. B.coord x l) (sym (comb-delta M n i B.vec a)) ∙ Basis-coord M n B (delta R i) l b
-
--- an algebra without its one
-abbrev pub product_of : {K V : Type 0} {R : RingOn K} (A : AlgebraOn R V) → ProductOn (module_of A)
-product_of A = record {
-  ◌⊗◌ = A.◌⊗◌;
-  mul-add = A.mul-add;
-  add-mul = A.add-mul;
-  scale-left = A.scale-left;
-  scale-right = A.scale-right;
-}
 
 module _ {K E : Type 0} (F : FieldOn K) (Z : ValuationOn F) (q : K) (k : FieldOn E) (D : ResidueOn F Z q k) where
   abbrev In : K → Type 0
@@ -119,10 +110,10 @@ module _ {K E V W : Type 0} (F : FieldOn K) (Z : ValuationOn F) (p q : K) (U : U
   coord_in x s = integral_weights F Z MA n v b.independent x s (b.coord x) (b.expand x)
 
   pub of_coords : (x : V) → ((i : ℕ) → i < n → IsIntegral F Z (b.coord x i)) → L x
-  of_coords x h = over_integers F Z MA n v x (b.coord x) (b.expand x) h
+  of_coords x h = record { weights = b.coord x; passes = h; combines = b.expand x }
 
   vec_in : (i : ℕ) → i < n → L (v i)
-  vec_in i l = InSpan-member (restrict F Z MA) n i v l
+  vec_in i l = lattice-member F Z MA n i v l
 
   unfoldable pub red : V → W
   red x = comb M n (λ i. res (b.coord x i)) w.vec
@@ -174,7 +165,7 @@ module _ {K E V W : Type 0} (F : FieldOn K) (Z : ValuationOn F) (p q : K) (U : U
       subst P (sym (b.coord-scale q x i)) ((D.kernel (b.coord x i) (coord_in x h i l)).0 z)))
 
   pub multiple_in : (x : V) → Multiple A p L x → L x
-  multiple_in x m = subst L (sym m.2) (InSpan-scale (restrict F Z MA) n v (p, U.p_in) m.0 m.1)
+  multiple_in x m = subst L (sym m.2) (lattice-scale F Z MA n v (p, U.p_in) m.0 m.1)
 
   pub kernel_from : (x : V) → Multiple A p L x → red x ≡ M.zero
   kernel_from x m = basis_ext M n w (red x) M.zero (λ i l.
@@ -197,7 +188,7 @@ module _ {K E V W : Type 0} (F : FieldOn K) (Z : ValuationOn F) (p q : K) (U : U
         λ i j g h. Z.mul_in (b.coord x i) (b.coord y j) (coord_in x hx i g) (coord_in y hy j h) in
         let in_v : (i j : ℕ) → i < n → j < n → IsIntegral F Z (b.coord (v i ⊗ v j) l) =
         λ i j g h. coord_in (v i ⊗ v j) (O.mul_in (v i) (v j) (vec_in i g) (vec_in j h)) l c in
-        coord-red (x ⊗ y) l c ∙ ap res (coord-product MA (product_of A) n b x y l)
+        coord-red (x ⊗ y) l c ∙ ap res (coord-product MA (product_on A) n b x y l)
         ∙ res-sum2 F Z q k D n f (λ i j g h. Z.mul_in (F.◌⊗◌ (b.coord x i) (b.coord y j)) (b.coord (v i ⊗ v j) l)
         (in_xy i j g h) (in_v i j g h))
         ∙ sum2_congr k.ring n (λ i j. res (f i j))

@@ -8,6 +8,7 @@ pub mod Division
 pub mod LongDivision
 pub mod Evaluation
 pub mod Remainders
+pub mod RemainderRings
 pub mod Mapping
 pub mod Bezout
 pub mod Irreducible

@@ -1,4 +1,3 @@
-pub mod ProductTraces
 pub mod Linear
 pub mod Matrices
 pub mod Forms

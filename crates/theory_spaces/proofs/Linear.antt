@@ -10,4 +10,6 @@ pub mod Subspaces
 pub mod SpanTests
 pub mod Quotients
 pub mod Kernels
+pub mod LatticeSpans
 pub mod Lattices
+pub mod LatticeTests

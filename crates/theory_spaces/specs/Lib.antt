@@ -11,6 +11,7 @@ pub mod Quotient
 pub mod Valuation
 pub mod Sets
 pub mod Subspaces
+pub mod Lattice
 pub mod Orthogonal
 pub mod Form
 pub mod AlgebraMap

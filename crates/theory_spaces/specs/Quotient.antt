@@ -118,10 +118,12 @@ module _ {K V : Type 0} {R : RingOn K} (M : ModuleOn R V) (S : SubmoduleOn M) wh
   abbrev pub quotient_module : ModuleOn R ModuleClasses
   quotient_module = record {
     additive = quotient M.additive subgroup_of;
-    ◌•◌ = scaled;
-    scale-add = λ a. ind (λ p. Π_prop (λ q. classes_set M.additive subgroup_of _ _))
-        (λ x. ind (λ q. classes_set M.additive subgroup_of _ _) (λ y. ap module_cls (M.scale-add a x y)));
-    add-scale = λ a b. ind (λ q. classes_set M.additive subgroup_of _ _) (λ x. ap module_cls (M.add-scale a b x));
-    mul-scale = λ a b. ind (λ q. classes_set M.additive subgroup_of _ _) (λ x. ap module_cls (M.mul-scale a b x));
-    one-scale = ind (λ q. classes_set M.additive subgroup_of _ _) (λ x. ap module_cls (M.one-scale x));
+    scalars = record {
+      ◌•◌ = scaled;
+      scale-add = λ a. ind (λ p. Π_prop (λ q. classes_set M.additive subgroup_of _ _))
+          (λ x. ind (λ q. classes_set M.additive subgroup_of _ _) (λ y. ap module_cls (M.scale-add a x y)));
+      add-scale = λ a b. ind (λ q. classes_set M.additive subgroup_of _ _) (λ x. ap module_cls (M.add-scale a b x));
+      mul-scale = λ a b. ind (λ q. classes_set M.additive subgroup_of _ _) (λ x. ap module_cls (M.mul-scale a b x));
+      one-scale = ind (λ q. classes_set M.additive subgroup_of _ _) (λ x. ap module_cls (M.one-scale x));
+    };
   }

@@ -2,7 +2,7 @@
 use Rattle.std.specs.Prelude.{◌≡◌, ℕ, ◌<◌}
 use Rattle.theory_rings.specs.Ring.{RingOn}
 use Rattle.theory_rings.specs.Sum.{sum}
-use Rattle.theory_spaces.specs.Module.{ModuleOn}
+use Rattle.theory_spaces.specs.Module.{ModuleOn, AlgebraOn, module_of}
 
 -- vectors are what their n coordinates are, which can be chosen and depend on the vector linearly
 pub record SpaceOn {K V : Type 0} {R : RingOn K} (M : ModuleOn R V) (n : ℕ) : Type 0 where
@@ -22,6 +22,16 @@ pub record ProductOn {K V : Type 0} {R : RingOn K} (M : ModuleOn R V) : Type 0 w
   pub add-mul : (x y z : V) → M.◌⊕◌ x y ⊗ z ≡ M.◌⊕◌ (x ⊗ z) (y ⊗ z)
   pub scale-left : (a : K) (x y : V) → M.◌•◌ a x ⊗ y ≡ M.◌•◌ a (x ⊗ y)
   pub scale-right : (a : K) (x y : V) → x ⊗ M.◌•◌ a y ≡ M.◌•◌ a (x ⊗ y)
+
+-- the product of an algebra
+abbrev pub product_on : {K V : Type 0} {R : RingOn K} (A : AlgebraOn R V) → ProductOn (module_of A)
+product_on A = record {
+  ◌⊗◌ = A.◌⊗◌;
+  mul-add = A.mul-add;
+  add-mul = A.add-mul;
+  scale-left = A.scale-left;
+  scale-right = A.scale-right;
+}
 
 -- the sum of f i j over i and j below n
 abbrev pub sum2 : {K : Type 0} (R : RingOn K) → ℕ → (ℕ → ℕ → K) → K

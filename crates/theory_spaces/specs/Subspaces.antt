@@ -62,9 +62,11 @@ pairs M N = record {
     neg = λ p. (M.neg p.0, N.neg p.1);
     neg-add = λ p. λ i. (M.neg-add p.0 i, N.neg-add p.1 i);
   };
-  ◌•◌ = λ a p. (M.◌•◌ a p.0, N.◌•◌ a p.1);
-  scale-add = λ a p q. λ i. (M.scale-add a p.0 q.0 i, N.scale-add a p.1 q.1 i);
-  add-scale = λ a b p. λ i. (M.add-scale a b p.0 i, N.add-scale a b p.1 i);
-  mul-scale = λ a b p. λ i. (M.mul-scale a b p.0 i, N.mul-scale a b p.1 i);
-  one-scale = λ p. λ i. (M.one-scale p.0 i, N.one-scale p.1 i);
+  scalars = record {
+    ◌•◌ = λ a p. (M.◌•◌ a p.0, N.◌•◌ a p.1);
+    scale-add = λ a p q. λ i. (M.scale-add a p.0 q.0 i, N.scale-add a p.1 q.1 i);
+    add-scale = λ a b p. λ i. (M.add-scale a b p.0 i, N.add-scale a b p.1 i);
+    mul-scale = λ a b p. λ i. (M.mul-scale a b p.0 i, N.mul-scale a b p.1 i);
+    one-scale = λ p. λ i. (M.one-scale p.0 i, N.one-scale p.1 i);
+  };
 }

@@ -1,10 +1,12 @@
--- Valuation rings of a field, given by a test, and lattices: the combinations of vectors with integral weights.
+-- Valuation rings of a field, given by a test, and lattices over them: the combinations of vectors with integral
+-- weights.
 use Rattle.std.specs.Prelude.{◌≡◌, ℕ, ◌<◌, Bool, true, IsTrue, ◌⊎◌}
 use Rattle.std.proofs.Math.Bool.{Bool-set}
 use mathlib.Core.HLevel.{Σ_prop_path}
 use Rattle.theory_rings.specs.Ring.{RingOn, FieldOn}
 use Rattle.theory_spaces.specs.Module.{ModuleOn}
-use Rattle.theory_spaces.specs.Linear.{InSpan, Independent}
+use Rattle.theory_spaces.specs.Linear.{Independent}
+use Rattle.theory_spaces.specs.Lattice.{LatticeOver}
 
 -- the elements of a valuation ring: of each element, it or its inverse is one
 pub record ValuationOn {K : Type 0} (F : FieldOn K) : Type 0 where
@@ -17,6 +19,9 @@ pub record ValuationOn {K : Type 0} (F : FieldOn K) : Type 0 where
   pub total : (a : K) → IsTrue (integral a) ⊎ IsTrue (integral (F.inv a))
 
 module _ {K : Type 0} (F : FieldOn K) (W : ValuationOn F) where
+  abbrev pub IsIntegral : K → Type 0
+  IsIntegral a = IsTrue (W.integral a)
+
   -- the elements of the valuation ring as a type
   abbrev pub Integer : Type 0
   Integer = (a : K) × IsTrue (W.integral a)
@@ -55,11 +60,13 @@ module _ {K : Type 0} (F : FieldOn K) (W : ValuationOn F) where
   abbrev pub restrict : {V : Type 0} → ModuleOn F.ring V → ModuleOn integers V
   restrict M = record {
     additive = M.additive;
-    ◌•◌ = λ a x. M.◌•◌ a.0 x;
-    scale-add = λ a x y. M.scale-add a.0 x y;
-    add-scale = λ a b x. M.add-scale a.0 b.0 x;
-    mul-scale = λ a b x. M.mul-scale a.0 b.0 x;
-    one-scale = M.one-scale;
+    scalars = record {
+      ◌•◌ = λ a x. M.◌•◌ a.0 x;
+      scale-add = λ a x y. M.scale-add a.0 x y;
+      add-scale = λ a b x. M.add-scale a.0 b.0 x;
+      mul-scale = λ a b x. M.mul-scale a.0 b.0 x;
+      one-scale = M.one-scale;
+    };
   }
 
 -- independent vectors whose combinations with integral weights are those of v 0, .., v (n − 1)
@@ -68,5 +75,5 @@ pub record LatticeBasis {K V : Type 0} (F : FieldOn K) (W : ValuationOn F) (M : 
   pub rank : ℕ
   pub vec : ℕ → V
   pub independent : Independent M rank vec
-  pub spans : (i : ℕ) → i < n → InSpan (restrict F W M) rank vec (v i)
-  pub within : (j : ℕ) → j < rank → InSpan (restrict F W M) n v (vec j)
+  pub spans : (i : ℕ) → i < n → LatticeOver M (IsIntegral F W) rank vec (v i)
+  pub within : (j : ℕ) → j < rank → LatticeOver M (IsIntegral F W) n v (vec j)

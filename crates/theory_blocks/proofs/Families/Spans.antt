@@ -15,7 +15,7 @@ use Rattle.theory_spaces.proofs.Linear.IndependentVectors.{comb-delta}
 use Rattle.theory_spaces.proofs.Linear.Decide.{Free}
 use Rattle.theory_spaces.proofs.Linear.Dimension.{exchange}
 use Rattle.theory_spaces.proofs.Algebras.Simple.{solve_free}
-use Rattle.theory_blocks.specs.Maps.{maps}
+use Rattle.theory_spaces.specs.Functions.{maps}
 
 -- the linear maps are a subspace
 pub linear_submodule : {K V : Type 0} (F : FieldOn K) (M : ModuleOn F.ring V) → IsSubmodule (maps V M) (IsLinear M M)

@@ -11,6 +11,7 @@ use Rattle.theory_rings.proofs.Rings.ZeroTests.{eq_of_sub_eq_zero}
 use Rattle.theory_rings.proofs.Sums.Sums.{sum_eq_single}
 use Rattle.theory_rings.proofs.FiniteFields.FiniteFields.{power_size}
 use Rattle.theory_spaces.specs.Module.{AlgebraOn, module_of}
+use Rattle.theory_spaces.specs.Functions.{regular}
 use Rattle.theory_spaces.specs.Linear.{comb}
 use Rattle.theory_spaces.proofs.Linear.Modules.{neg_one-scale, comb_zero}
 use Rattle.theory_blocks.specs.FixedPoints.{IsFixed}
@@ -24,11 +25,7 @@ module _ {K : Type 0} (F : FieldOn K) where
   abbrev pub self : AlgebraOn F.ring K
   self = record {
     ring = F.ring;
-    ◌•◌ = F.◌⊗◌;
-    scale-add = F.mul-add;
-    add-scale = F.add-mul;
-    mul-scale = F.mul_assoc;
-    one-scale = F.one-mul;
+    scalars = let R = regular F.ring in R.scalars;
     scale-left = F.mul_assoc;
     scale-right = λ a x y. sym (F.mul_assoc x a y) ∙ ap (λ t. F.◌⊗◌ t y) (F.mul_comm x a) ∙ F.mul_assoc a x y;
   }

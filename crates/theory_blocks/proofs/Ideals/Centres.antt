@@ -19,7 +19,7 @@ use Rattle.theory_spaces.proofs.Linear.Kernels.{rank_nullity}
 use Rattle.theory_spaces.proofs.Algebras.MinimalIdempotents.{one_through}
 use Rattle.theory_blocks.specs.FixedPoints.{IsSubalgebra}
 use Rattle.theory_blocks.specs.Centre.{Centre, CentreIsField}
-use Rattle.theory_blocks.specs.Maps.{maps}
+use Rattle.theory_spaces.specs.Functions.{maps}
 use Rattle.theory_blocks.proofs.Families.Spans.{linear_submodule}
 
 module _ {K V : Type 0} {R : RingOn K} (A : AlgebraOn R V) where

@@ -9,7 +9,7 @@ use Rattle.theory_rings.proofs.Sums.Sums.{sum_congr, mul-sum, sum-mul}
 use Rattle.theory_spaces.specs.Module.{ModuleOn, AlgebraOn, module_of}
 use Rattle.theory_spaces.specs.Linear.{InSpan, Basis, IsLinear}
 use Rattle.theory_spaces.proofs.Linear.Modules.{right_linear, linear_comp, map-comb}
-use Rattle.theory_blocks.specs.Maps.{maps}
+use Rattle.theory_spaces.specs.Functions.{maps}
 use Rattle.theory_blocks.specs.TwoSidedRank.{BasisOverCentre, two_sided}
 use Rattle.theory_blocks.proofs.Families.Pairs.{span_images}
 use Rattle.theory_blocks.proofs.Families.Spans.{sum-at}

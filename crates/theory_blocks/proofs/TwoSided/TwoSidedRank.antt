@@ -18,7 +18,7 @@ use Rattle.theory_spaces.proofs.Linear.Spaces.{BasisOf-size}
 use Rattle.theory_spaces.proofs.Matrices.PairIndex.{pair-lt}
 use Rattle.theory_spaces.proofs.Algebras.Ideals.{ideal_left, ideal_right}
 use Rattle.theory_blocks.specs.Centre.{Centre, CentreIsField}
-use Rattle.theory_blocks.specs.Maps.{maps}
+use Rattle.theory_spaces.specs.Functions.{maps}
 use Rattle.theory_blocks.specs.TwoSidedRank.{BasisOverCentre, two_sided, TwoSidedRank, SimpleByRank}
 use Rattle.theory_blocks.proofs.Families.Decisions.{other_or_all, vector_eq_zero_or}
 use Rattle.theory_blocks.proofs.Families.Pairs.{independent_images}

@@ -19,7 +19,7 @@ use Rattle.theory_spaces.proofs.Matrices.Matrices.{Mat-ext, mat, mat-entry}
 use Rattle.theory_spaces.proofs.Matrices.MatrixAlgebra.{matrix_algebra, matrix_algebra_is, matrix_basis}
 use Rattle.theory_spaces.proofs.Linear.Spaces.{coords_of, span_basis}
 use Rattle.theory_spaces.proofs.Matrices.PairIndex.{pair-lt}
-use Rattle.theory_blocks.specs.Maps.{maps}
+use Rattle.theory_spaces.specs.Functions.{maps}
 use Rattle.theory_blocks.specs.TwoSidedRank.{two_sided, TwoSidedRank, map_row, RankByRows}
 use Rattle.theory_blocks.proofs.Families.Spans.{linear_submodule, linear_eq_zero}
 use Rattle.theory_blocks.proofs.TwoSided.TwoSidedRank.{rank_unique}

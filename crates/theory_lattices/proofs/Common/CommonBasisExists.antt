@@ -19,7 +19,8 @@ use Rattle.theory_spaces.proofs.Linear.Modules.{comb_congr, comb_congr_right, co
 use Rattle.theory_spaces.proofs.Linear.Dimension.{exchange}
 use Rattle.theory_lattices.specs.Degree.{DegreeOn, HasDegree, IsEuclidean}
 use Rattle.theory_lattices.specs.ReducedRows.{Reduced, InRows, SameRows, Shifts}
-use Rattle.theory_lattices.specs.CommonBasis.{InSpanWith, InFinite, InInfinite, CommonBasis}
+use Rattle.theory_spaces.specs.Lattice.{LatticeOver}
+use Rattle.theory_lattices.specs.CommonBasis.{InFinite, InInfinite, CommonBasis}
 use Rattle.theory_lattices.proofs.Degree.PowersOfDegreeOne.{has_degree-inv}
 use Rattle.theory_lattices.proofs.Rows.ReductionStep.{reduced_shift}
 use Rattle.theory_lattices.proofs.Rows.ReducedBases.{reduced_basis}
@@ -155,7 +156,7 @@ module _ {D K V : Type 0} {R : RingOn D} (F : FieldOn K) (of : D → K) (hom : I
     (P_of : (u : D) → P (of u)) (of_P : (c : K) → P c → (u : D) × (c ≡ of u)) (M : ModuleOn F.ring V) (n : ℕ) where
   -- what is a combination of combinations is one
   InFinite_trans : (f g : ℕ → V) (U : ℕ → ℕ → D) → ((i : ℕ) → i < n → f i ≡ comb M n (λ j. of (U i j)) g)
-      → (x : V) → InSpanWith M n (λ i c. P c) f x → InSpanWith M n (λ i c. P c) g x
+      → (x : V) → LatticeOver M P n f x → LatticeOver M P n g x
   InFinite_trans f g U h x s =
       let p = choose_each n (λ i u. s.weights i ≡ of u) R.zero (λ i l. of_P (s.weights i) (s.passes i l)) in
       let q = λ (j : ℕ). sum R.monoid n (λ i. R.◌⊗◌ (p.0 i) (U i j)) in

@@ -109,14 +109,16 @@ module _ {k K V : Type 0} (κ : FieldOn k) (F : FieldOn K) (ι : k → K) (const
             mul-add = λ a b c. const_path (times a (plus b c)) (plus (times a b) (times a c)) (A.mul-add a.0 b.0 c.0);
             add-mul = λ a b c. const_path (times (plus a b) c) (plus (times a c) (times b c)) (A.add-mul a.0 b.0 c.0);
           };
-          ◌•◌ = scaled;
-          scale-add = λ a x y. const_path (scaled a (plus x y)) (plus (scaled a x) (scaled a y))
-              (A.scale-add (ι a) x.0 y.0);
-          add-scale = λ a b x. const_path (scaled (κ.◌⊕◌ a b) x) (plus (scaled a x) (scaled b x))
-              (ap (λ c. A.◌•◌ c x.0) (J.ι-add a b) ∙ A.add-scale (ι a) (ι b) x.0);
-          mul-scale = λ a b x. const_path (scaled (κ.◌⊗◌ a b) x) (scaled a (scaled b x))
-              (ap (λ c. A.◌•◌ c x.0) (J.ι-mul a b) ∙ A.mul-scale (ι a) (ι b) x.0);
-          one-scale = λ x. const_path (scaled κ.one x) x (ap (λ c. A.◌•◌ c x.0) J.ι-one ∙ A.one-scale x.0);
+          scalars = record {
+            ◌•◌ = scaled;
+            scale-add = λ a x y. const_path (scaled a (plus x y)) (plus (scaled a x) (scaled a y))
+                (A.scale-add (ι a) x.0 y.0);
+            add-scale = λ a b x. const_path (scaled (κ.◌⊕◌ a b) x) (plus (scaled a x) (scaled b x))
+                (ap (λ c. A.◌•◌ c x.0) (J.ι-add a b) ∙ A.add-scale (ι a) (ι b) x.0);
+            mul-scale = λ a b x. const_path (scaled (κ.◌⊗◌ a b) x) (scaled a (scaled b x))
+                (ap (λ c. A.◌•◌ c x.0) (J.ι-mul a b) ∙ A.mul-scale (ι a) (ι b) x.0);
+            one-scale = λ x. const_path (scaled κ.one x) x (ap (λ c. A.◌•◌ c x.0) J.ι-one ∙ A.one-scale x.0);
+          };
           scale-left = λ a x y. const_path (times (scaled a x) y) (scaled a (times x y)) (A.scale-left (ι a) x.0 y.0);
           scale-right = λ a x y. const_path (times x (scaled a y)) (scaled a (times x y)) (A.scale-right (ι a) x.0 y.0);
         }

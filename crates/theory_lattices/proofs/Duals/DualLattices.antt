@@ -10,14 +10,14 @@ use Rattle.theory_spaces.specs.Matrix.{delta}
 use Rattle.theory_spaces.specs.Form.{IsBilinear}
 use Rattle.theory_spaces.proofs.Matrices.Matrices.{delta-same, delta-other}
 use Rattle.theory_spaces.proofs.Linear.Modules.{InSpan_trans}
-use Rattle.theory_lattices.specs.CommonBasis.{InSpanWith}
+use Rattle.theory_spaces.specs.Lattice.{LatticeOver}
 
 -- f and g are dual vectors for a bilinear form
 module _ {K V : Type 0} (F : FieldOn K) (M : ModuleOn F.ring V) (Q : K → Type 0) (n : ℕ) (form : V → V → K)
     (bilinear : IsBilinear M form) (f g : ℕ → V)
     (pairing : (i j : ℕ) → i < n → j < n → form (f i) (g j) ≡ delta F.ring i j) where
   abbrev Span : (ℕ → V) → V → Type 0
-  Span v = InSpanWith M n (λ i c. Q c) v
+  Span v = LatticeOver M Q n v
 
   -- the weights against a dual basis are the values of the form
   pub weights_are : (c : ℕ → K) (i : ℕ) → i < n → form (f i) (comb M n c g) ≡ c i

@@ -12,9 +12,8 @@ use Rattle.theory_rings.proofs.Rings.Solver.{◌⊞◌, ◌⊠◌, minus, words3
 use Rattle.theory_spaces.specs.Module.{AlgebraOn, module_of}
 use Rattle.theory_spaces.specs.Linear.{Basis}
 use Rattle.theory_spaces.specs.Algebra.{Central}
-use Rattle.theory_spaces.specs.Valuation.{ValuationOn, restrict}
+use Rattle.theory_spaces.specs.Valuation.{ValuationOn}
 use Rattle.theory_spaces.proofs.Linear.Families.{push, push-below, push-at, below_suc}
-use Rattle.theory_spaces.proofs.Linear.Modules.{InSpan-neg, InSpan-member}
 use Rattle.theory_orders.specs.Uniformizer.{IsIntegral, IsUnit, UniformizerOn}
 use Rattle.theory_orders.specs.Orders.{IsOrder, IsIdeal, SumOf, Generated, Multiple, Within}
 use Rattle.theory_orders.specs.Lattices.{Lattice, IsOrderAt}
@@ -32,6 +31,7 @@ use Rattle.theory_orders.proofs.Ideals.InvertibleIdeals.{power_chain, mixed_powe
 use Rattle.theory_orders.proofs.Ideals.InvertibleIdeals.{falls_strictly, Conductor, Conductor_ideal, Conductor_over}
 use Rattle.theory_orders.proofs.Ideals.InvertibleIdeals.{Conductor_beyond}
 use Rattle.theory_orders.proofs.Lattices.Approximation.{Near, Near_add, near_up, near_one, near_scalar}
+use Rattle.theory_spaces.proofs.Linear.LatticeSpans.{lattice-neg, lattice-member}
 
 module _ {K V : Type 0} (F : FieldOn K) (Z : ValuationOn F) (p q : K) (U : UniformizerOn F Z p q)
     (A : AlgebraOn F.ring V) (N : ℕ) (B : Basis (module_of A) N) (os : ℕ → V) (D : IsOrderAt F Z A N os) where
@@ -65,7 +65,7 @@ module _ {K V : Type 0} (F : FieldOn K) (Z : ValuationOn F) (p q : K) (U : Unifo
   P_ideal = Multiple-ideal A p L O (λ x l. L_scale p x U.p_in l)
 
   L_neg : (x : V) → L x → L (neg x)
-  L_neg x l = InSpan-neg (restrict F Z (module_of A)) N os x l
+  L_neg x l = lattice-neg F Z (module_of A) N os x l
 
   P_neg : (x : V) → P x → P (neg x)
   P_neg = sub_neg F Z p q U A N os P (ideal_sublattice F Z p q U A N os O P P_ideal)
@@ -253,7 +253,7 @@ module _ {K V : Type 0} (F : FieldOn K) (Z : ValuationOn F) (p q : K) (U : Unifo
                 let IR : IsIdeal A L R =
                 Carried_ideal A p q U.pq qp L O T (Level_left A p q U.pq qp L O M I e s)
                 (Level_right A p q U.pq qp L O M I e s) s in
-                let member : (i : ℕ) → i < N → L (os i) = λ i g. InSpan-member (restrict F Z (module_of A)) N i os g in
+                let member : (i : ℕ) → i < N → L (os i) = λ i g. lattice-member F Z (module_of A) N i os g in
                 let commutes : (i : ℕ) → i < N → Near F Z p q U A N os O s (x ⊗ os i ⊕ neg (os i ⊗ x)) = λ i g.
                 let b = os i in
                 let lb = member i g in

@@ -8,7 +8,7 @@ use Rattle.theory_spaces.specs.Module.{ModuleOn, AlgebraOn, module_of}
 use Rattle.theory_spaces.specs.Linear.{Basis, Coords, IsSubmodule}
 use Rattle.theory_spaces.specs.Algebra.{Central}
 use Rattle.theory_spaces.specs.Valuation.{ValuationOn, integers, restrict}
-use Rattle.theory_spaces.proofs.Linear.Modules.{scale-zero, InSpan-zero, InSpan-add, InSpan-member, span_in}
+use Rattle.theory_spaces.proofs.Linear.Modules.{scale-zero}
 use Rattle.theory_spaces.proofs.Linear.Spaces.{coords_of}
 use Rattle.theory_spaces.proofs.Matrices.PairIndex.{pair-lt, row-lt, column-lt}
 use Rattle.theory_orders.specs.Uniformizer.{UniformizerOn}
@@ -23,8 +23,8 @@ use Rattle.theory_orders.proofs.Lattices.Multiples.{Multiple-ideal, cancel_scale
 use Rattle.theory_orders.proofs.Splitting.Chains.{Chain, Chain_last, Chain_unlast, chain_in_power, power_in_chains}
 use Rattle.theory_orders.proofs.Splitting.Chains.{power_chains, Chain_fewer}
 use Rattle.theory_orders.proofs.LeftOrder.LeftOrders.{Power_map}
-use Rattle.theory_orders.proofs.Lattices.LatticeTests.{decided, pairs_of, pairs_of-at, lattice_test, lattice_test-in}
-use Rattle.theory_orders.proofs.Lattices.LatticeTests.{in-lattice_test, lattice_within}
+use Rattle.theory_spaces.proofs.Linear.LatticeTests.{decided, pairs_of, pairs_of-at, lattice_test, lattice_test-in}
+use Rattle.theory_spaces.proofs.Linear.LatticeTests.{in-lattice_test, lattice_within}
 use Rattle.theory_orders.proofs.Ideals.SimpleQuotients.{simple_by_elements, radical_of_simple, one_or_within}
 use Rattle.theory_orders.proofs.Ideals.SimpleQuotients.{mul_lattice, lattice_mul}
 use Rattle.theory_orders.proofs.Lattices.Scaling.{Lam_scale}
@@ -33,6 +33,7 @@ use Rattle.theory_orders.proofs.Ideals.InvertibleIdeals.{some_invertible}
 use Rattle.theory_orders.proofs.Splitting.Composition.{NotNot, decide_in, multiple_same, MaximalLattice, members}
 use Rattle.theory_orders.proofs.Splitting.Composition.{some_word}
 use Rattle.theory_orders.proofs.Ideals.MaximalPowers.{S, S_over, bounded, power_of_nilpotent, power_of_central}
+use Rattle.theory_spaces.proofs.Linear.LatticeSpans.{lattice-zero, lattice-add, lattice-member, lattice_in}
 
 -- the first n numbers are searched for one that has a property
 find_below : (n : ℕ) (Q : ℕ → Type 0) → ((k : ℕ) → Q k ⊎ (Q k → ⊥)) → ((k : ℕ) × Q k) ⊎ ((k : ℕ) → k < n → Q k → ⊥)
@@ -229,17 +230,17 @@ module _ {K V : Type 0} (F : FieldOn K) (Z : ValuationOn F) (p q : K) (U : Unifo
           r * n,
           G,
           (
-            SumOf_in A Q (Lat (r * n) G) (InSpan-zero RA (r * n) G) (λ x y h k. InSpan-add RA (r * n) G x y h k) (λ x d.
+            SumOf_in A Q (Lat (r * n) G) (lattice-zero F Z M (r * n) G) (lattice-add F Z M (r * n) G) (λ x d.
                 let P : V → Type 0 = Lat (r * n) G in
                 subst P (sym d.4) (mul_lattice F Z A N C N os n g d.0 d.1 (r * n) G (λ j lj.
                 lattice_mul F Z A N C N os r v (g j) d.0 (r * n) G (λ i li.
                 subst P (pairs_of-at A.◌⊗◌ n v g i j lj)
-                (InSpan-member RA (r * n) (i * n + j) G (pair-lt r n i j li lj))) (e.0 d.0 d.2)) d.3)),
-            λ x h. span_in RA (SumOf A Q) Q_sub (r * n) G (λ t lt. SumOf_one A Q (G t) (
+                (lattice-member F Z M (r * n) (i * n + j) G (pair-lt r n i j li lj))) (e.0 d.0 d.2)) d.3)),
+            λ x h. lattice_in F Z M (SumOf A Q) Q_sub (r * n) G (λ t lt. SumOf_one A Q (G t) (
               v (t / n),
               g (t % n),
-              e.1 (v (t / n)) (InSpan-member RA r (t / n) v (row-lt r n t lt)),
-              InSpan-member RA n (t % n) g (column-lt r n t lt),
+              e.1 (v (t / n)) (lattice-member F Z M r (t / n) v (row-lt r n t lt)),
+              lattice-member F Z M n (t % n) g (column-lt r n t lt),
               refl,
             )) x h,
           ),

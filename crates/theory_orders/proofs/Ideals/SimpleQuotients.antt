@@ -8,9 +8,7 @@ use Rattle.theory_spaces.specs.Module.{ModuleOn, AlgebraOn, module_of}
 use Rattle.theory_spaces.specs.Linear.{Coords}
 use Rattle.theory_spaces.specs.Valuation.{ValuationOn, Integer, integers, restrict}
 use Rattle.theory_spaces.proofs.Linear.Families.{join, each_join}
-use Rattle.theory_spaces.proofs.Linear.Modules.{left_linear, right_linear, map-comb, InSpan-add, InSpan-scale}
-use Rattle.theory_spaces.proofs.Linear.Modules.{InSpan-comb, InSpan_trans, InSpan-member, InSpan-join_left}
-use Rattle.theory_spaces.proofs.Linear.Modules.{InSpan-join_right}
+use Rattle.theory_spaces.proofs.Linear.Modules.{left_linear, right_linear, map-comb}
 use Rattle.theory_spaces.proofs.Matrices.PairIndex.{pair-lt, row-lt, column-lt}
 use Rattle.theory_orders.specs.Orders.{IsOrder, IsIdeal, Power, Around, Generated, Multiple, Within, Test, Radical}
 use Rattle.theory_orders.specs.Orders.{SimpleQuotient, SimpleByElements}
@@ -18,8 +16,10 @@ use Rattle.theory_orders.specs.Lattices.{Lattice}
 use Rattle.theory_orders.proofs.LeftOrder.LeftOrders.{Power_one}
 use Rattle.theory_orders.proofs.Ideals.Ideals.{IdealSum, IdealSum_ideal, whole, generated_in}
 use Rattle.theory_orders.proofs.Splitting.Chains.{Chain, Chain_inside, chain_in_power}
-use Rattle.theory_orders.proofs.Lattices.LatticeTests.{decided, pairs_of, pairs_of-at, lattice_test, lattice_test-in}
-use Rattle.theory_orders.proofs.Lattices.LatticeTests.{in-lattice_test}
+use Rattle.theory_spaces.proofs.Linear.LatticeTests.{decided, pairs_of, pairs_of-at, lattice_test, lattice_test-in}
+use Rattle.theory_spaces.proofs.Linear.LatticeTests.{in-lattice_test}
+use Rattle.theory_spaces.proofs.Linear.LatticeSpans.{lattice-add, lattice-scale, lattice-member, lattice-comb}
+use Rattle.theory_spaces.proofs.Linear.LatticeSpans.{lattice_trans, lattice-join_left, lattice-join_right}
 
 -- from elements to tests, and to the radical
 module _ {K V : Type 0} {R : RingOn K} (A : AlgebraOn R V) (L J : V → Type 0) (O : IsOrder A L) where
@@ -99,16 +99,16 @@ module _ {K V : Type 0} (F : FieldOn K) (Z : ValuationOn F) (A : AlgebraOn F.rin
   mul_lattice k v x y n g h s =
       let P : V → Type 0 = Lattice F Z A n g in
       subst P (sym (ap (λ z. x ⊗ z) s.combines
-      ∙ map-comb M M (λ z. x ⊗ z) (left_linear A x) k (λ i. (s.weights i).0) v))
-      (InSpan-comb RA k n s.weights (λ i. x ⊗ v i) g h)
+      ∙ map-comb M M (λ z. x ⊗ z) (left_linear A x) k s.weights v))
+      (lattice-comb F Z (module_of A) k n s.weights (λ i. x ⊗ v i) g s.passes h)
 
   pub lattice_mul : (k : ℕ) (v : ℕ → V) (x y : V) (n : ℕ) (g : ℕ → V)
       → ((i : ℕ) → i < k → Lattice F Z A n g (v i ⊗ x)) → Lattice F Z A k v y → Lattice F Z A n g (y ⊗ x)
   lattice_mul k v x y n g h s =
       let P : V → Type 0 = Lattice F Z A n g in
       subst P (sym (ap (λ z. z ⊗ x) s.combines
-      ∙ map-comb M M (λ z. z ⊗ x) (right_linear A x) k (λ i. (s.weights i).0) v))
-      (InSpan-comb RA k n s.weights (λ i. v i ⊗ x) g h)
+      ∙ map-comb M M (λ z. z ⊗ x) (right_linear A x) k s.weights v))
+      (lattice-comb F Z (module_of A) k n s.weights (λ i. v i ⊗ x) g s.passes h)
 
   module _ (n : ℕ) (g : ℕ → V) (O : IsOrder A Lam) (I : IsIdeal A Lam (Lattice F Z A n g)) where
     abbrev Jac : V → Type 0
@@ -132,24 +132,25 @@ module _ {K V : Type 0} (F : FieldOn K) (Z : ValuationOn F) (A : AlgebraOn F.rin
       Gen = Lattice F Z A size vec
 
       b-in : (i : ℕ) → i < N → Lam (b i)
-      b-in i l = InSpan-member RA N i b l
+      b-in i l = lattice-member F Z (module_of A) N i b l
 
       T_inside : Within T Lam
       T_inside x = ⊎_elim (λ (w : Around A Lam a x).
           subst Lam (sym w.4) (O.mul_in (w.0 ⊗ a) w.1 (O.mul_in w.0 a w.2 la) w.3)) (I.inside x)
 
       pub each : (i : ℕ) → i < size → T (vec i)
-      each = each_join n (N * N) g around T (λ i l. inr (InSpan-member RA n i g l))
+      each = each_join n (N * N) g around T (λ i l. inr (lattice-member F Z (module_of A) n i g l))
           (λ t l. inl (b (t / N), b (t % N), b-in (t / N) (row-lt N N t l), b-in (t % N) (column-lt N N t l), refl))
 
       pub J_Gen : Within Jac Gen
-      J_Gen x = InSpan_trans RA n size g vec x (λ i l. InSpan-join_left RA n (N * N) g around i l)
+      J_Gen x = lattice_trans F Z (module_of A) n size g vec x
+          (lattice-join_left F Z (module_of A) n (N * N) g around)
 
       around_in : (l r : V) → Lam l → Lam r → Gen ((l ⊗ a) ⊗ r)
       around_in l r hl hr = mul_lattice N b (l ⊗ a) r size vec (λ j k.
           subst Gen (sym (A.mul_assoc l a (b j))) (lattice_mul N b (a ⊗ b j) l size vec (λ i h.
           subst Gen (pairs_of-at (λ x y. (x ⊗ a) ⊗ y) N b b i j k ∙ A.mul_assoc (b i) a (b j))
-          (InSpan-join_right RA n (N * N) g around (i * N + j) (pair-lt N N i j h k))) hl)) hr
+          (lattice-join_right F Z (module_of A) n (N * N) g around (i * N + j) (pair-lt N N i j h k))) hl)) hr
 
       pub T_Gen : Within T Gen
       T_Gen x = ⊎_elim (λ (w : Around A Lam a x). subst Gen (sym w.4) (around_in w.0 w.1 w.2 w.3)) (J_Gen x)
@@ -175,9 +176,9 @@ module _ {K V : Type 0} (F : FieldOn K) (Z : ValuationOn F) (A : AlgebraOn F.rin
 
       pub Gen_ideal : IsIdeal A Lam Gen
       Gen_ideal = record {
-        inside = λ x s. InSpan_trans RA size N vec b x (λ i l. T_inside (vec i) (each i l)) s;
+        inside = λ x s. lattice_trans F Z (module_of A) size N vec b x (λ i l. T_inside (vec i) (each i l)) s;
         zero_in = J_Gen A.zero I.zero_in;
-        add_in = λ x y h k. InSpan-add RA size vec x y h k;
+        add_in = λ x y h k. lattice-add F Z (module_of A) size vec x y h k;
         left = λ l x hl s. mul_lattice size vec l x size vec
             (λ i h. T_Gen (l ⊗ vec i) (T_left l (vec i) hl (each i h))) s;
         right = λ r x hr s. lattice_mul size vec r x size vec
@@ -206,7 +207,7 @@ module _ {K V : Type 0} (F : FieldOn K) (Z : ValuationOn F) (A : AlgebraOn F.rin
 
       T_scale : (c : Integer F Z) (x : V) → T x → T (c.0 • x)
       T_scale c x h = subst T (A.scale-left c.0 A.one x ∙ ap (λ z. c.0 • z) (A.one-mul x))
-          (T_left (c.0 • A.one) x (InSpan-scale RA N b c A.one O.one_in) h)
+          (T_left (c.0 • A.one) x (lattice-scale F Z (module_of A) N b c A.one O.one_in) h)
 
       zero_or_generates : SimpleQuotient A Lam Jac → Jac a ⊎ Generated A Lam Jac a A.one
       zero_or_generates S = ⊎_elim
@@ -217,9 +218,9 @@ module _ {K V : Type 0} (F : FieldOn K) (Z : ValuationOn F) (A : AlgebraOn F.rin
           let s = test_in A.one (h A.one O.one_in) in
           inr (record {
             size = size;
-            term = λ i. (s.weights i).0 • vec i;
+            term = λ i. (s.weights i) • vec i;
             each = λ i l.
-                T_scale (s.weights i) (vec i) (each i l);
+                T_scale (s.weights i, s.passes i l) (vec i) (each i l);
             gives = s.combines;
           }))
           (S.nothing_between test test_ideal (λ x h. in_test x (J_Gen x h)))

@@ -14,9 +14,9 @@ use Rattle.theory_rings.proofs.Powers.Powers.{power-add, power-mul, power-one}
 use Rattle.theory_spaces.specs.Module.{ModuleOn, AlgebraOn, module_of}
 use Rattle.theory_spaces.specs.Linear.{InSpan, Independent, Basis, IsSubmodule}
 use Rattle.theory_spaces.specs.Algebra.{Central}
-use Rattle.theory_spaces.specs.Valuation.{ValuationOn, restrict}
+use Rattle.theory_spaces.specs.Valuation.{ValuationOn}
 use Rattle.theory_spaces.proofs.Linear.Families.{below_suc}
-use Rattle.theory_spaces.proofs.Linear.Modules.{scale-zero, scale-neg, neg_one-scale, comb_zero, span_in, left_linear}
+use Rattle.theory_spaces.proofs.Linear.Modules.{scale-zero, scale-neg, neg_one-scale, comb_zero, left_linear}
 use Rattle.theory_spaces.proofs.Linear.Modules.{right_linear, linear_ext}
 use Rattle.theory_spaces.proofs.Linear.Spaces.{basis_of}
 use Rattle.theory_spaces.proofs.Matrices.PairIndex.{pair-lt, row-lt, column-lt}
@@ -24,8 +24,9 @@ use Rattle.theory_orders.specs.Uniformizer.{IsIntegral, UniformizerOn}
 use Rattle.theory_orders.specs.Orders.{IsOrder}
 use Rattle.theory_orders.specs.Lattices.{Lattice}
 use Rattle.theory_orders.proofs.Lattices.Multiples.{uniform, up, up-power}
-use Rattle.theory_orders.proofs.Lattices.LatticeTests.{integral_weights}
+use Rattle.theory_spaces.proofs.Linear.LatticeTests.{integral_weights}
 use Rattle.theory_orders.proofs.Lattices.Scaling.{Lam_scale, lowered}
+use Rattle.theory_spaces.proofs.Linear.LatticeSpans.{lattice_in}
 
 module _ {K V : Type 0} (F : FieldOn K) (Z : ValuationOn F) (p q : K) (U : UniformizerOn F Z p q)
     (A : AlgebraOn F.ring V) (N : ℕ) (os : ℕ → V) (O : IsOrder A (Lattice F Z A N os)) where
@@ -107,7 +108,7 @@ module _ {K V : Type 0} (F : FieldOn K) (Z : ValuationOn F) (p q : K) (U : Unifo
         (Z.mul_in (pw p t) (F.◌⊗◌ (pw p s) (l (os i))) (p_power_in t) g)) N (λ i _. U.reach (l (os i))) in
         let m = u.0 in (
           m,
-          λ y. span_in (restrict F Z M) (λ y. In (F.◌⊗◌ (pw p m) (l y))) (record {
+          λ y. lattice_in F Z M (λ y. In (F.◌⊗◌ (pw p m) (l y))) (record {
             zero-in = subst In (sym (ap (F.◌⊗◌ (pw p m)) l-zero ∙ mul-zero F.ring (pw p m))) Z.zero_in;
             add-in = λ x y a b. subst In (sym (ap (F.◌⊗◌ (pw p m)) (h.map-add x y) ∙ F.mul-add (pw p m) (l x) (l y)))
                 (Z.add_in (F.◌⊗◌ (pw p m) (l x)) (F.◌⊗◌ (pw p m) (l y)) a b);

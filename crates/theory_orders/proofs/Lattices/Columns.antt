@@ -35,11 +35,13 @@ module _ {K : Type 0} (F : FieldOn K) (n : ℕ) where
   abbrev pub columns : ModuleOn F.ring Column
   columns = record {
     additive = columns_add;
-    ◌•◌ = λ a x. (λ i. F.◌⊗◌ a (x.0 i), λ i l. ap (F.◌⊗◌ a) (x.1 i l) ∙ mul-zero F.ring a);
-    scale-add = λ a x y. Column-path _ _ (λ i. F.mul-add a (x.0 i) (y.0 i));
-    add-scale = λ a b x. Column-path _ _ (λ i. F.add-mul a b (x.0 i));
-    mul-scale = λ a b x. Column-path _ _ (λ i. F.mul_assoc a b (x.0 i));
-    one-scale = λ x. Column-path _ _ (λ i. F.one-mul (x.0 i));
+    scalars = record {
+      ◌•◌ = λ a x. (λ i. F.◌⊗◌ a (x.0 i), λ i l. ap (F.◌⊗◌ a) (x.1 i l) ∙ mul-zero F.ring a);
+      scale-add = λ a x y. Column-path _ _ (λ i. F.mul-add a (x.0 i) (y.0 i));
+      add-scale = λ a b x. Column-path _ _ (λ i. F.add-mul a b (x.0 i));
+      mul-scale = λ a b x. Column-path _ _ (λ i. F.mul_assoc a b (x.0 i));
+      one-scale = λ x. Column-path _ _ (λ i. F.one-mul (x.0 i));
+    };
   }
 
   abbrev pub column_space : SpaceOn columns n

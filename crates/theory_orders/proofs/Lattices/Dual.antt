@@ -13,8 +13,7 @@ use Rattle.theory_spaces.specs.Linear.{InSpan, Basis}
 use Rattle.theory_spaces.specs.Matrix.{Matrix, delta, mat_mul}
 use Rattle.theory_spaces.specs.Algebra.{trace}
 use Rattle.theory_spaces.specs.Form.{gram, trace_form}
-use Rattle.theory_spaces.specs.Valuation.{ValuationOn, restrict}
-use Rattle.theory_spaces.proofs.Linear.Modules.{InSpan-member}
+use Rattle.theory_spaces.specs.Valuation.{ValuationOn}
 use Rattle.theory_spaces.proofs.Linear.Spaces.{basis_of, Basis-coord}
 use Rattle.theory_spaces.proofs.Linear.IndependentVectors.{comb-delta}
 use Rattle.theory_spaces.proofs.Matrices.Matrices.{delta-same, mat_mul_assoc, mat_mul_congr, mat_mul-delta}
@@ -28,9 +27,10 @@ use Rattle.theory_orders.specs.Lattices.{Lattice, IsOrderAt}
 use Rattle.theory_orders.specs.Dual.{Dual, IsSelfDual, IsUnimodular}
 use Rattle.theory_orders.proofs.Lattices.SumsOf.{SumOf_in}
 use Rattle.theory_orders.proofs.Lattices.Multiples.{up, up-left, up-right, cancel_scale, Multiple-of, of-Multiple}
-use Rattle.theory_orders.proofs.Lattices.LatticeTests.{over_integers, integral_weights}
+use Rattle.theory_spaces.proofs.Linear.LatticeTests.{integral_weights}
 use Rattle.theory_orders.proofs.Lattices.Scaling.{Lam_scale, Lam_up, lowered}
 use Rattle.theory_orders.proofs.Splitting.Ramified.{spanning}
+use Rattle.theory_spaces.proofs.Linear.LatticeSpans.{lattice-member}
 
 module _ {K : Type 0} (F : FieldOn K) (Z : ValuationOn F) where
   integral_sum : (m : ℕ) (f : ℕ → K) → ((i : ℕ) → i < m → IsIntegral F Z (f i)) → IsIntegral F Z (sum F.monoid m f)
@@ -71,7 +71,7 @@ module _ {K V : Type 0} (F : FieldOn K) (Z : ValuationOn F) (A : AlgebraOn F.rin
   E = basis_of M n os D.independent span
 
   os-in : (i : ℕ) → i < n → L (os i)
-  os-in i l = InSpan-member (restrict F Z M) n i os l
+  os-in i l = lattice-member F Z M n i os l
 
   -- traces of the order are integral
   pub trace_integral : (a : V) → L a → In (t a)
@@ -81,25 +81,30 @@ module _ {K V : Type 0} (F : FieldOn K) (Z : ValuationOn F) (A : AlgebraOn F.rin
       (E.expand (a ⊗ os j)) j k))
 
   pub in_dual : Within L (Dual F Z A n B L)
-  in_dual x l y ly = trace_integral (x ⊗ y) (O.mul_in x y l ly)
+  in_dual x l y ly = trace_integral (y ⊗ x) (O.mul_in y x ly l)
 
   pub dual_of_unimodular : IsUnimodular F Z A n B os → Within (Dual F Z A n B L) L
   dual_of_unimodular G x h =
       let c = E.coord x in
       let C : Matrix K = λ _ i. c i in
       let g : Matrix K = gram M (trace_form A n B) os in
-      let value : (j : ℕ) → j < n → mat_mul F.ring n C g 0 j ≡ t (x ⊗ os j) = λ j l.
+      let value : (j : ℕ) → j < n → mat_mul F.ring n C g 0 j ≡ t (os j ⊗ x) = λ j l.
       sym (ap (λ y. t (y ⊗ os j)) (E.expand x)
-      ∙ form-comb_left F.cring M (trace_form A n B) (trace_form_bilinear F.cring A n B) n c os (os j)) in
+      ∙ form-comb_left F.cring M (trace_form A n B) (trace_form_bilinear F.cring A n B) n c os (os j))
+      ∙ trace_comm F.cring A n B x (os j) in
       let weight : (k : ℕ) → k < n → mat_mul F.ring n (mat_mul F.ring n C g) G.inverse 0 k ≡ c k = λ k l.
       ap (λ (m : Matrix K). m 0 k) (mat_mul_assoc F.ring n n C g G.inverse)
       ∙ mat_mul_congr F.ring n C C (mat_mul F.ring n g G.inverse) (delta F.ring) 0 k (λ i _. refl)
       (λ i j. G.inverts i k j l)
       ∙ mat_mul-delta F.ring n C 0 k l in
-      over_integers F Z M n os x c (E.expand x) (λ k l. subst In (weight k l)
-      (integral_sum F Z n (λ j. F.◌⊗◌ (mat_mul F.ring n C g 0 j) (G.inverse j k)) (λ j i.
-      Z.mul_in (mat_mul F.ring n C g 0 j) (G.inverse j k) (subst In (sym (value j i)) (h (os j) (os-in j i)))
-      (G.integral j k i l))))
+      record {
+        weights = c;
+        passes = λ k l. subst In (weight k l)
+            (integral_sum F Z n (λ j. F.◌⊗◌ (mat_mul F.ring n C g 0 j) (G.inverse j k)) (λ j i.
+            Z.mul_in (mat_mul F.ring n C g 0 j) (G.inverse j k) (subst In (sym (value j i)) (h (os j) (os-in j i)))
+            (G.integral j k i l)));
+        combines = E.expand x;
+      }
 
   pub self_dual_of_unimodular : IsUnimodular F Z A n B os → IsSelfDual F Z A n B L
   self_dual_of_unimodular G = (dual_of_unimodular G, in_dual)
@@ -174,7 +179,7 @@ module _ {K V : Type 0} (F : FieldOn K) (Z : ValuationOn F) (A : AlgebraOn F.rin
       where
         shifted : (s : ℕ) (y : V) → L y → In (t (up A p s x ⊗ y))
         shifted s y ly = subst (λ z. In (t z)) (up-right A p s x y ∙ sym (up-left A p s x y))
-            (h (up A p s y) (Lam_up F Z p q U A n os s y ly))
+            (subst In (trace_comm F.cring A n B (up A p s y) x) (h (up A p s y) (Lam_up F Z p q U A n os s y ly)))
 
     pub self_dual_of_simple : IsSelfDual F Z A n B L
     self_dual_of_simple = (λ x h. let s = lowered F Z p q U A n os span x in descend s.0 x h s.1, in_dual)

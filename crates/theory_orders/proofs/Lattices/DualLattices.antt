@@ -1,7 +1,7 @@
 -- Where the trace form is nondegenerate, the dual of a lattice of full rank is the lattice of the dual basis, its dual
 -- is the lattice again, and a larger lattice has a smaller dual.
 use Rattle.std.specs.Prelude.{◌≡◌, ℕ, zero, suc, ◌<◌, ◌≤◌}
-use Rattle.std.proofs.Common.{sym, ◌∙◌, subst, arith, ⊎_elim}
+use Rattle.std.proofs.Common.{sym, subst, arith, ⊎_elim}
 use Rattle.std.proofs.lemmas.Bool.{cases_lt}
 use Rattle.theory_rings.specs.Ring.{FieldOn}
 use Rattle.theory_spaces.specs.Module.{ModuleOn, AlgebraOn, module_of}
@@ -10,17 +10,17 @@ use Rattle.theory_spaces.specs.Algebra.{Nondegenerate}
 use Rattle.theory_spaces.specs.Form.{IsBilinear, DualBasis, trace_form}
 use Rattle.theory_spaces.specs.Valuation.{ValuationOn, integers, restrict}
 use Rattle.theory_spaces.proofs.Linear.Families.{push, push-below, push-at}
-use Rattle.theory_spaces.proofs.Linear.Modules.{InSpan-member, span_in}
 use Rattle.theory_spaces.proofs.Linear.Spaces.{basis_of}
 use Rattle.theory_spaces.proofs.Forms.Traces.{trace_comm}
 use Rattle.theory_spaces.proofs.Forms.TraceForms.{trace_form_bilinear}
-use Rattle.theory_spaces.proofs.Forms.Forms.{dual_basis, coord-dual, expand-dual, dual-expand, form-zero_left}
+use Rattle.theory_spaces.proofs.Forms.Forms.{dual_basis, coord-dual, expand-dual, dual-expand, form-zero_right}
 use Rattle.theory_orders.specs.Uniformizer.{IsIntegral}
 use Rattle.theory_orders.specs.Orders.{Same, ProperlyWithin}
 use Rattle.theory_orders.specs.Lattices.{Lattice, IsOrderAt, LatticeChain}
 use Rattle.theory_orders.specs.Dual.{Dual}
-use Rattle.theory_orders.proofs.Lattices.LatticeTests.{over_integers, integral_weights}
+use Rattle.theory_spaces.proofs.Linear.LatticeTests.{integral_weights}
 use Rattle.theory_orders.proofs.Splitting.Ramified.{spanning}
+use Rattle.theory_spaces.proofs.Linear.LatticeSpans.{lattice-member, lattice_in}
 
 pub proper_same : {V : Type 0} (I I' J J' : V → Type 0) → Same I I' → Same J J' → ProperlyWithin I J
     → ProperlyWithin I' J'
@@ -57,9 +57,9 @@ module _ {K V : Type 0} (F : FieldOn K) (Z : ValuationOn F) (A : AlgebraOn F.rin
 
   pub Star_sub : (S : V → Type 0) → IsSubmodule RA (Star S)
   Star_sub S = record {
-    zero-in = λ y s. subst In (sym (form-zero_left F.cring M f bilinear y)) Z.zero_in;
-    add-in = λ a b h g y s. subst In (sym (bilinear.add-left a b y)) (Z.add_in (f a y) (f b y) (h y s) (g y s));
-    scale-in = λ c a h y s. subst In (sym (bilinear.scale-left c.0 a y)) (Z.mul_in c.0 (f a y) c.1 (h y s));
+    zero-in = λ y s. subst In (sym (form-zero_right F.cring M f bilinear y)) Z.zero_in;
+    add-in = λ a b h g y s. subst In (sym (bilinear.add-right y a b)) (Z.add_in (f y a) (f y b) (h y s) (g y s));
+    scale-in = λ c a h y s. subst In (sym (bilinear.scale-right c.0 y a)) (Z.mul_in c.0 (f y a) c.1 (h y s));
   }
 
   module _ (v : ℕ → V) (ind : Independent M n v) where
@@ -82,26 +82,33 @@ module _ {K V : Type 0} (F : FieldOn K) (Z : ValuationOn F) (A : AlgebraOn F.rin
     pub dual_vec-in : (j : ℕ) → j < n → Star L (dual_vec j)
     unfolding dual_vec
     dual_vec-in j l y h =
-        subst In (sym (swap (D.basis.vec j) y ∙ coord-dual F M f bilinear n E D y j l))
+        subst In (sym (coord-dual F M f bilinear n E D y j l))
         (integral_weights F Z M n v ind y h (E.coord y) (E.expand y) j l)
 
     -- integral values at the dual basis
     pub in_lattice_of : (x : V) → ((i : ℕ) → i < n → In (f x (dual_vec i))) → L x
     unfolding dual_vec
-    in_lattice_of x h = over_integers F Z M n v x (λ i. f x (D.basis.vec i)) (expand-dual F M f bilinear n E D x) h
+    in_lattice_of x h = record {
+      weights = λ i. f x (D.basis.vec i);
+      passes = h;
+      combines = expand-dual F M f bilinear n E D x;
+    }
 
     pub dual_lattice : Same (Star L) (Lattice F Z A n dual_vec)
     unfolding dual_vec
     dual_lattice = (
-      λ x h. over_integers F Z M n D.basis.vec x (λ i. f (v i) x) (dual-expand F M f bilinear n E D x)
-          (λ i l. subst In (swap x (v i)) (h (v i) (InSpan-member RA n i v l))),
-      λ x s. span_in RA (Star L) (Star_sub L) n D.basis.vec dual_vec-in x s,
+      λ x h. record {
+        weights = λ i. f (v i) x;
+        passes = λ i l. h (v i) (lattice-member F Z M n i v l);
+        combines = dual-expand F M f bilinear n E D x;
+      },
+      λ x s. lattice_in F Z M (Star L) (Star_sub L) n D.basis.vec dual_vec-in x s,
     )
 
     pub double_dual : Same (Star (Star L)) L
     double_dual = (
-      λ x h. in_lattice_of x (λ i l. h (dual_vec i) (dual_vec-in i l)),
-      λ x l y h. subst In (swap y x) (h x l),
+      λ x h. in_lattice_of x (λ i l. subst In (swap (dual_vec i) x) (h (dual_vec i) (dual_vec-in i l))),
+      λ x l y h. subst In (swap x y) (h x l),
     )
 
   pub dual_shrinks : (v w : ℕ → V) → Independent M n v → Independent M n w → ProperlyWithin (Lat v) (Lat w)

@@ -7,11 +7,11 @@ use Rattle.theory_rings.specs.Power.{power}
 use Rattle.theory_spaces.specs.Module.{ModuleOn, AlgebraOn, module_of}
 use Rattle.theory_spaces.specs.Linear.{InSpan, IsSubmodule}
 use Rattle.theory_spaces.specs.Valuation.{ValuationOn, integers, restrict}
-use Rattle.theory_spaces.proofs.Linear.Modules.{InSpan-zero, InSpan-add, InSpan-scale, InSpan-member}
 use Rattle.theory_orders.specs.Uniformizer.{IsIntegral, UniformizerOn}
 use Rattle.theory_orders.specs.Lattices.{Lattice}
 use Rattle.theory_orders.proofs.Lattices.SumsOf.{sum_in}
 use Rattle.theory_orders.proofs.Lattices.Multiples.{uniform, up, up-plus, up-add, up-zero, up-scale, up-power}
+use Rattle.theory_spaces.proofs.Linear.LatticeSpans.{lattice-zero, lattice-add, lattice-scale, lattice-member}
 
 module _ {K V : Type 0} (F : FieldOn K) (Z : ValuationOn F) (p q : K) (U : UniformizerOn F Z p q)
     (A : AlgebraOn F.ring V) (N : ℕ) (b : ℕ → V) where
@@ -25,7 +25,7 @@ module _ {K V : Type 0} (F : FieldOn K) (Z : ValuationOn F) (p q : K) (U : Unifo
   Lam = Lattice F Z A N b
 
   pub Lam_scale : (c : K) (x : V) → IsIntegral F Z c → Lam x → Lam (c • x)
-  Lam_scale c x h l = InSpan-scale RA N b (c, h) x l
+  Lam_scale c x h l = lattice-scale F Z (module_of A) N b (c, h) x l
 
   pub Lam_up : (s : ℕ) (x : V) → Lam x → Lam (up A p s x)
   Lam_up zero x l = l
@@ -39,10 +39,12 @@ module _ {K V : Type 0} (F : FieldOn K) (Z : ValuationOn F) (p q : K) (U : Unifo
   Low_more s t x h = subst Lam (sym (up-plus A p t s x)) (Lam_up t (up A p s x) h)
 
   pub Low_add : (s : ℕ) (x y : V) → Low s x → Low s y → Low s (A.◌⊕◌ x y)
-  Low_add s x y g k = subst Lam (sym (up-add A p s x y)) (InSpan-add RA N b (up A p s x) (up A p s y) g k)
+  Low_add s x y g k = subst Lam (sym (up-add A p s x y))
+      (lattice-add F Z (module_of A) N b (up A p s x) (up A p s y) g k)
 
   pub Low_sum : (s m : ℕ) (f : ℕ → V) → ((i : ℕ) → i < m → Low s (f i)) → Low s (sum A.monoid m f)
-  Low_sum s m f h = sum_in A (Low s) (subst Lam (sym (up-zero A p s)) (InSpan-zero RA N b)) (Low_add s) m f h
+  Low_sum s m f h = sum_in A (Low s) (subst Lam (sym (up-zero A p s)) (lattice-zero F Z (module_of A) N b))
+      (Low_add s) m f h
 
   -- a scalar goes past a power of p
   up_swap : (s : ℕ) (c : K) (x : V) → up A p s (c • x) ≡ c • up A p s x
@@ -51,7 +53,7 @@ module _ {K V : Type 0} (F : FieldOn K) (Z : ValuationOn F) (p q : K) (U : Unifo
 
   pub Low_sub : (s : ℕ) → IsSubmodule RA (Low s)
   Low_sub s = record {
-    zero-in = subst Lam (sym (up-zero A p s)) (InSpan-zero RA N b);
+    zero-in = subst Lam (sym (up-zero A p s)) (lattice-zero F Z (module_of A) N b);
     add-in = Low_add s;
     scale-in = λ c x h. subst Lam (sym (up_swap s c.0 x)) (Lam_scale c.0 (up A p s x) c.1 h);
   }
@@ -64,6 +66,6 @@ module _ {K V : Type 0} (F : FieldOn K) (Z : ValuationOn F) (p q : K) (U : Unifo
       (λ i l. let t = U.reach (d.weights i) in (
         t.0,
         subst Lam (sym (up-scale A p t.0 (d.weights i) (b i)))
-            (Lam_scale (F.◌⊗◌ (power F.ring p t.0) (d.weights i)) (b i) t.1 (InSpan-member RA N i b l)),
+            (Lam_scale (F.◌⊗◌ (power F.ring p t.0) (d.weights i)) (b i) t.1 (lattice-member F Z (module_of A) N i b l)),
       )) in
       (u.0, subst (Low u.0) (sym d.combines) (Low_sum u.0 N (λ i. d.weights i • b i) u.1))

@@ -9,7 +9,7 @@ use Rattle.theory_spaces.specs.Algebra.{trace, Nondegenerate}
 use Rattle.theory_spaces.specs.Form.{trace_form}
 use Rattle.theory_spaces.specs.Valuation.{ValuationOn, integers, restrict, LatticeBasis}
 use Rattle.theory_spaces.proofs.Linear.Modules.{left_linear, right_linear, map-comb, InSpan-comb, InSpan-member}
-use Rattle.theory_spaces.proofs.Linear.Modules.{InSpan_trans, span_in}
+use Rattle.theory_spaces.proofs.Linear.Modules.{InSpan_trans}
 use Rattle.theory_spaces.proofs.Linear.Spaces.{basis_of, coords_of}
 use Rattle.theory_spaces.proofs.Linear.Dimension.{dimension_unique}
 use Rattle.theory_spaces.proofs.Linear.Lattices.{lattice_basis}
@@ -18,12 +18,13 @@ use Rattle.theory_orders.specs.Uniformizer.{IsIntegral}
 use Rattle.theory_orders.specs.Orders.{IsOrder, IsIdeal, LeftOrder, Same}
 use Rattle.theory_orders.specs.Lattices.{Lattice, IsOrderAt}
 use Rattle.theory_orders.specs.Dual.{Dual}
-use Rattle.theory_orders.proofs.Lattices.LatticeTests.{over_field, pairs_of, pairs_of-at}
+use Rattle.theory_spaces.proofs.Linear.LatticeTests.{pairs_of, pairs_of-at}
 use Rattle.theory_orders.proofs.Ideals.SimpleQuotients.{lattice_mul}
 use Rattle.theory_orders.proofs.Splitting.Ramified.{spanning}
 use Rattle.theory_orders.proofs.LeftOrder.LeftOrders.{left_order_is_order}
 use Rattle.theory_orders.proofs.Lattices.DualLattices.{Star_sub, swap, dual_vec, dual_vec-independent, dual_vec-in}
 use Rattle.theory_orders.proofs.Lattices.DualLattices.{in_lattice_of, dual_lattice}
+use Rattle.theory_spaces.proofs.Linear.LatticeSpans.{lattice_span, lattice-member, lattice_trans, lattice_in}
 
 pub order_same : {K V : Type 0} (F : FieldOn K) (A : AlgebraOn F.ring V) (I J : V → Type 0) → Same I J → IsOrder A I
     → IsOrder A J
@@ -72,21 +73,21 @@ module _ {K V : Type 0} (F : FieldOn K) (Z : ValuationOn F) (A : AlgebraOn F.rin
   product_in : (x : V) → J x → (j : ℕ) → j < n → JD (x ⊗ d j)
   product_in x h j l = lattice_mul F Z A n (coords_of M n B) n js n js (d j) x (n * n) W
       (λ i g. subst JD (pairs_of-at A.◌⊗◌ n js d i j l)
-      (InSpan-member RA (n * n) (i * n + j) W (pair-lt n n i j g l))) h
+      (lattice-member F Z M (n * n) (i * n + j) W (pair-lt n n i j g l))) h
 
   left_order_dual : Same (LeftOrder A J) (Dual F Z A n B JD)
   left_order_dual = (
-    λ a h x s. subst In (swap F Z A n B non x a)
-        (span_in RA (Dual F Z A n B (λ y. y ≡ a)) (Star_sub F Z A n B non (λ y. y ≡ a)) (n * n) W
+    λ a h x s. subst In (swap F Z A n B non a x)
+        (lattice_in F Z M (Dual F Z A n B (λ y. y ≡ a)) (Star_sub F Z A n B non (λ y. y ≡ a)) (n * n) W
         (λ t l y e.
         let i = t / n in
         let j = t % n in
-        let aj = h (js i) (InSpan-member RA n i js (row-lt n n t l)) in
-        subst (λ y. In (f (W t) y)) (sym e) (subst In (moved a (js i) (d j) ∙ swap F Z A n B non a (W t))
-        (subst In (swap F Z A n B non (d j) (a ⊗ js i))
-        (dual_vec-in F Z A n B non js ind j (column-lt n n t l) (a ⊗ js i) aj)))) x s a refl),
+        let aj = h (js i) (lattice-member F Z M n i js (row-lt n n t l)) in
+        subst (λ y. In (f y (W t))) (sym e) (subst In (moved a (js i) (d j))
+        (dual_vec-in F Z A n B non js ind j (column-lt n n t l) (a ⊗ js i) aj))) x s a refl),
     λ a h x s. in_lattice_of F Z A n B non js ind (a ⊗ x)
-        (λ j l. subst In (sym (moved a x (d j))) (h (x ⊗ d j) (product_in x s j l))),
+        (λ j l. subst In (swap F Z A n B non (x ⊗ d j) a ∙ sym (moved a x (d j)))
+        (h (x ⊗ d j) (product_in x s j l))),
   )
 
   -- the products span everything over the field
@@ -108,15 +109,15 @@ module _ {K V : Type 0} (F : FieldOn K) (Z : ValuationOn F) (A : AlgebraOn F.rin
   rank-is : LB.rank ≡ n
   rank-is = dimension_unique F M LB.rank n
       (basis_of M LB.rank LB.vec LB.independent (λ x. InSpan_trans M (n * n) LB.rank W LB.vec x
-      (λ i l. over_field F Z M LB.rank LB.vec (W i) (LB.spans i l)) (whole x))) B
+      (λ i l. lattice_span F Z M LB.rank LB.vec (W i) (LB.spans i l)) (whole x))) B
 
   independent_vec : Independent M n LB.vec
   independent_vec = subst (λ r. Independent M r LB.vec) rank-is LB.independent
 
   basis_same : Same JD (Lattice F Z A n LB.vec)
   basis_same = subst (λ r. Same JD (Lattice F Z A r LB.vec)) rank-is (
-    λ x. InSpan_trans RA (n * n) LB.rank W LB.vec x LB.spans,
-    λ x. InSpan_trans RA LB.rank (n * n) LB.vec W x LB.within,
+    λ x. lattice_trans F Z M (n * n) LB.rank W LB.vec x LB.spans,
+    λ x. lattice_trans F Z M LB.rank (n * n) LB.vec W x LB.within,
   )
 
   pub left_vec : ℕ → V

@@ -12,20 +12,21 @@ use Rattle.theory_spaces.specs.Linear.{Basis, Independent}
 use Rattle.theory_spaces.specs.Algebra.{Nondegenerate}
 use Rattle.theory_spaces.specs.Valuation.{ValuationOn, integers, restrict}
 use Rattle.theory_spaces.proofs.Linear.Families.{push, push-below, push-at, below_suc, choose_each}
-use Rattle.theory_spaces.proofs.Linear.Modules.{scale-zero, InSpan-zero, InSpan-add, InSpan-scale, InSpan-member}
-use Rattle.theory_spaces.proofs.Linear.Modules.{InSpan_trans, span_in}
+use Rattle.theory_spaces.proofs.Linear.Modules.{scale-zero}
 use Rattle.theory_spaces.proofs.Linear.Spaces.{coords_of}
 use Rattle.theory_orders.specs.Uniformizer.{UniformizerOn}
 use Rattle.theory_orders.specs.Orders.{Multiple, Within}
 use Rattle.theory_orders.specs.Lattices.{Lattice, LatticeChain}
 use Rattle.theory_orders.specs.Dual.{Dual}
 use Rattle.theory_orders.proofs.Lattices.Multiples.{uniform, up}
-use Rattle.theory_orders.proofs.Lattices.LatticeTests.{all_or_not, lattice_test, lattice_test-in, in-lattice_test}
+use Rattle.theory_spaces.proofs.Linear.LatticeTests.{all_or_not, lattice_test, lattice_test-in, in-lattice_test}
 use Rattle.theory_orders.proofs.Lattices.Scaling.{Lam_scale, Lam_up, Low, Low_sub, Low_more, lowered}
 use Rattle.theory_orders.proofs.Lattices.Independence.{IsSublattice, IndependentMod, sub_cancel, grow_up, at_most}
 use Rattle.theory_orders.proofs.Splitting.Composition.{NotNot}
 use Rattle.theory_orders.proofs.Splitting.Ramified.{spanning}
 use Rattle.theory_orders.proofs.Lattices.DualLattices.{dual_vec, dual_lattice}
+use Rattle.theory_spaces.proofs.Linear.LatticeSpans.{lattice-zero, lattice-add, lattice-scale, lattice-member}
+use Rattle.theory_spaces.proofs.Linear.LatticeSpans.{lattice_trans, lattice_in}
 
 -- finitely many facts that cannot be refuted cannot be refuted together
 all_not_not : (k : ℕ) (Q : ℕ → Type 0) → ((i : ℕ) → i < k → NotNot (Q i)) → NotNot ((i : ℕ) → i < k → Q i)
@@ -89,14 +90,18 @@ module _ {K V : Type 0} (F : FieldOn K) (Z : ValuationOn F) (p q : K) (U : Unifo
 
   P_sub : Sub P
   P_sub = record {
-    zero-in = (A.zero, InSpan-zero RA n js, sym (scale-zero (module_of A) p));
+    zero-in = (A.zero, lattice-zero F Z (module_of A) n js, sym (scale-zero (module_of A) p));
     add-in = λ x y h g. (
       h.0 ⊕ g.0,
-      InSpan-add RA n js h.0 g.0 h.1 g.1,
+      lattice-add F Z (module_of A) n js h.0 g.0 h.1 g.1,
       ap₂ A.◌⊕◌ h.2 g.2
           ∙ sym (A.scale-add p h.0 g.0),
     );
-    scale-in = λ c x h. (c.0 • h.0, InSpan-scale RA n js c h.0 h.1, ap (λ z. c.0 • z) h.2 ∙ sym (past c.0 h.0));
+    scale-in = λ c x h. (
+      c.0 • h.0,
+      lattice-scale F Z (module_of A) n js c h.0 h.1,
+      ap (λ z. c.0 • z) h.2 ∙ sym (past c.0 h.0),
+    );
   }
 
   -- a rising family of sublattices of J, with J at its end
@@ -120,8 +125,13 @@ module _ {K V : Type 0} (F : FieldOn K) (Z : ValuationOn F) (p q : K) (U : Unifo
 
     Plus_of : (i : ℕ) → Within (C i) (Plus i)
     unfolding Plus
-    Plus_of i x h stop = stop
-        (x, A.zero, h, InSpan-zero RA n js, sym (ap (λ z. x ⊕ z) (scale-zero (module_of A) p) ∙ add-zero A.monoid x))
+    Plus_of i x h stop = stop (
+      x,
+      A.zero,
+      h,
+      lattice-zero F Z (module_of A) n js,
+      sym (ap (λ z. x ⊕ z) (scale-zero (module_of A) p) ∙ add-zero A.monoid x),
+    )
 
     Plus_over : (i : ℕ) → Within P (Plus i)
     unfolding Plus
@@ -135,7 +145,7 @@ module _ {K V : Type 0} (F : FieldOn K) (Z : ValuationOn F) (p q : K) (U : Unifo
         v.0 ⊕ w.0,
         v.1 ⊕ w.1,
         (R.sublattice i).add-in v.0 w.0 v.2 w.2,
-        InSpan-add RA n js v.1 w.1 v.3 w.3,
+        lattice-add F Z (module_of A) n js v.1 w.1 v.3 w.3,
         ap₂ A.◌⊕◌ v.4 w.4 ∙ add_add_add_comm A.monoid v.0 (p • v.1) w.0 (p • w.1)
             ∙ ap (λ z. v.0 ⊕ w.0 ⊕ z) (sym (A.scale-add p v.1 w.1)),
       )));
@@ -143,7 +153,7 @@ module _ {K V : Type 0} (F : FieldOn K) (Z : ValuationOn F) (p q : K) (U : Unifo
         c.0 • v.0,
         c.0 • v.1,
         (R.sublattice i).scale-in c v.0 v.2,
-        InSpan-scale RA n js c v.1 v.3,
+        lattice-scale F Z (module_of A) n js c v.1 v.3,
         ap (λ z. c.0 • z) v.4 ∙ A.scale-add c.0 v.0 (p • v.1) ∙ ap (λ z. c.0 • v.0 ⊕ z) (sym (past c.0 v.1)),
       ));
     }
@@ -156,13 +166,16 @@ module _ {K V : Type 0} (F : FieldOn K) (Z : ValuationOn F) (p q : K) (U : Unifo
     unfolding Under
     Under_rising = record {
       sublattice = λ i. record {
-        zero-in = (InSpan-zero RA n js, subst (C i) (sym (scale-zero (module_of A) p)) (R.sublattice i).zero-in);
+        zero-in = (
+          lattice-zero F Z (module_of A) n js,
+          subst (C i) (sym (scale-zero (module_of A) p)) (R.sublattice i).zero-in,
+        );
         add-in = λ x y h g. (
-          InSpan-add RA n js x y h.0 g.0,
+          lattice-add F Z (module_of A) n js x y h.0 g.0,
           subst (C i) (sym (A.scale-add p x y)) ((R.sublattice i).add-in (p • x) (p • y) h.1 g.1),
         );
         scale-in = λ c x h. (
-          InSpan-scale RA n js c x h.0,
+          lattice-scale F Z (module_of A) n js c x h.0,
           subst (C i) (sym (past c.0 x)) ((R.sublattice i).scale-in c (p • x) h.1),
         );
       };
@@ -279,9 +292,9 @@ module _ {K V : Type 0} (F : FieldOn K) (Z : ValuationOn F) (p q : K) (U : Unifo
         let e = dual_lattice F Z A n B non os ind in
         record {
           sublattice = λ i. record {
-            zero-in = InSpan-zero RS (C.size i) (C.vec i);
-            add-in = λ x y h g. InSpan-add RS (C.size i) (C.vec i) x y h g;
-            scale-in = λ c x h. InSpan-scale RS (C.size i) (C.vec i) c x h;
+            zero-in = lattice-zero F Z (module_of A) (C.size i) (C.vec i);
+            add-in = λ x y h g. lattice-add F Z (module_of A) (C.size i) (C.vec i) x y h g;
+            scale-in = λ c x h. lattice-scale F Z (module_of A) (C.size i) (C.vec i) c x h;
           };
           rises = λ i l. (C.rises i l).0;
           inside = λ i l x h. let m : i + (k - i) ≡ k = omega arith in e.0 x (C.ends.0 x (climb (k - i) i m x h));
@@ -295,12 +308,12 @@ module _ {K V : Type 0} (F : FieldOn K) (Z : ValuationOn F) (p q : K) (U : Unifo
         let test = lattice_test F Z (module_of A) n (coords_of (module_of A) n B) (C.size i) (C.vec i) in
         ⊎_elim
         (λ (h : (j : ℕ) → j < C.size (suc i) → IsTrue (test (C.vec (suc i) j))). absurd ((C.rises i l).1 (λ x.
-        InSpan_trans RS (C.size (suc i)) (C.size i) (C.vec (suc i)) (C.vec i) x (λ j g.
+        lattice_trans F Z (module_of A) (C.size (suc i)) (C.size i) (C.vec (suc i)) (C.vec i) x (λ j g.
         lattice_test-in F Z (module_of A) n (coords_of (module_of A) n B) (C.size i) (C.vec i) (C.vec (suc i) j)
         (h j g)))))
         (λ (w : (j : ℕ) × (j < C.size (suc i)) × (IsTrue (test (C.vec (suc i) j)) → ⊥)). (
           C.vec (suc i) w.0,
-          InSpan-member RS (C.size (suc i)) w.0 (C.vec (suc i)) w.1,
+          lattice-member F Z (module_of A) (C.size (suc i)) w.0 (C.vec (suc i)) w.1,
           λ h. w.2 (in-lattice_test F Z (module_of A) n (coords_of (module_of A) n B) (C.size i) (C.vec i)
               (C.vec (suc i) w.0) h),
         ))
@@ -310,7 +323,8 @@ module _ {K V : Type 0} (F : FieldOn K) (Z : ValuationOn F) (p q : K) (U : Unifo
     unfolding member
     at_most_chain s low = ⊎_elim
         (λ (g : n * s < k). absurd (bound F Z p q U A n B d s k member rising
-        (λ x h. C.starts.1 (up A p s x) (span_in RS (Low F Z p q U A n os s) (Low_sub F Z p q U A n os s) n d low x h))
+        (λ x h. C.starts.1 (up A p s x)
+        (lattice_in F Z (module_of A) (Low F Z p q U A n os s) (Low_sub F Z p q U A n os s) n d low x h))
         (λ _. 1) (λ i l. inr (refl, step i l)) (λ le. let e = count_ones k in omega arith)))
         (λ g. g) (cases_lt (n * s) k)
 

@@ -4,18 +4,18 @@ use Rattle.std.proofs.Common.{◌∙◌, ⊎_elim}
 use Rattle.theory_rings.specs.Ring.{FieldOn}
 use Rattle.theory_spaces.specs.Module.{ModuleOn, AlgebraOn, module_of}
 use Rattle.theory_spaces.specs.Linear.{Basis}
-use Rattle.theory_spaces.specs.Valuation.{ValuationOn, restrict}
-use Rattle.theory_spaces.proofs.Linear.Modules.{span_in}
+use Rattle.theory_spaces.specs.Valuation.{ValuationOn}
 use Rattle.theory_spaces.proofs.Linear.Spaces.{coords_of}
 use Rattle.theory_orders.specs.Uniformizer.{UniformizerOn}
 use Rattle.theory_orders.specs.Orders.{IsOrder, Within}
 use Rattle.theory_orders.specs.Lattices.{Lattice}
 use Rattle.theory_orders.specs.Ramified.{IsRamified}
 use Rattle.theory_orders.proofs.Lattices.Multiples.{uniform, up}
-use Rattle.theory_orders.proofs.Lattices.LatticeTests.{lattice_within}
+use Rattle.theory_spaces.proofs.Linear.LatticeTests.{lattice_within}
 use Rattle.theory_orders.proofs.LeftOrder.HereditaryOrders.{maximal}
 use Rattle.theory_orders.proofs.Splitting.Ramified.{spanning, hereditary}
 use Rattle.theory_orders.proofs.Lattices.Scaling.{Low, Low_sub, Low_more, lowered}
+use Rattle.theory_spaces.proofs.Linear.LatticeSpans.{lattice_in}
 
 module _ {K V : Type 0} (F : FieldOn K) (Z : ValuationOn F) (p q : K) (U : UniformizerOn F Z p q)
     (A : AlgebraOn F.ring V) (n : ℕ) (B : Basis (module_of A) n) (os js : ℕ → V) (R : IsRamified F Z p A n os js) where
@@ -36,7 +36,7 @@ module _ {K V : Type 0} (F : FieldOn K) (Z : ValuationOn F) (p q : K) (U : Unifo
       let u = uniform (λ s i. Lo s (v i)) (λ s t i. Low_more F Z p q U A n os s t (v i)) m
       (λ i l. lowered F Z p q U A n os (spanning F A n B os R.order.independent) (v i)) in
       let bounded : (x : V) → Lattice F Z A m v x → L (up A p u.0 x) = λ x.
-      span_in (restrict F Z M) (Lo u.0) (Low_sub F Z p q U A n os u.0) m v u.1 x in
+      lattice_in F Z M (Lo u.0) (Low_sub F Z p q U A n os u.0) m v u.1 x in
       ⊎_elim (λ h. h)
       (λ (out : Within (Lattice F Z A m v) L → ⊥). absurd
       (maximal A p q U.pq (F.mul_comm q p ∙ U.pq) L (Lattice F Z A n js)

@@ -20,7 +20,7 @@ use Rattle.theory_orders.specs.Lattices.{Lattice, IsOrderAt, NothingGrows}
 use Rattle.theory_orders.specs.Dual.{IsSelfDual}
 use Rattle.theory_orders.specs.Ramified.{IsRamified}
 use Rattle.theory_orders.proofs.Ideals.Ideals.{ideal_same, simple_same, elements_same}
-use Rattle.theory_orders.proofs.Lattices.LatticeTests.{lattice_within}
+use Rattle.theory_spaces.proofs.Linear.LatticeTests.{lattice_within}
 use Rattle.theory_orders.proofs.Ideals.SimpleQuotients.{simple_by_elements}
 use Rattle.theory_orders.proofs.Splitting.Composition.{P_ideal, multiple_same}
 use Rattle.theory_orders.proofs.Lattices.Dual.{integral_times, self_dual_of_simple}

@@ -12,8 +12,7 @@ use Rattle.theory_spaces.specs.Module.{ModuleOn, AlgebraOn, module_of}
 use Rattle.theory_spaces.specs.Linear.{Basis}
 use Rattle.theory_spaces.specs.Valuation.{ValuationOn, integers, restrict}
 use Rattle.theory_spaces.proofs.Linear.Families.{push, push-below, push-at, below_suc, join, each_join}
-use Rattle.theory_spaces.proofs.Linear.Modules.{InSpan-zero, InSpan-add, InSpan-scale, InSpan-member, InSpan-join_left}
-use Rattle.theory_spaces.proofs.Linear.Modules.{InSpan-join_right, InSpan_trans, scale-sum, span_in}
+use Rattle.theory_spaces.proofs.Linear.Modules.{scale-sum}
 use Rattle.theory_spaces.proofs.Linear.Spaces.{coords_of}
 use Rattle.theory_orders.specs.Uniformizer.{UniformizerOn}
 use Rattle.theory_orders.specs.Orders.{IsOrder, IsIdeal, SumOf, Around, Generated, Multiple, WordProduct, Within, Same}
@@ -21,11 +20,13 @@ use Rattle.theory_orders.specs.Orders.{Test, IsMaximalIdeal}
 use Rattle.theory_orders.specs.Lattices.{Lattice}
 use Rattle.theory_orders.proofs.Lattices.SumsOf.{SumOf_map, SumOf_one, SumOf_add, SumOf_ideal}
 use Rattle.theory_orders.proofs.Lattices.Multiples.{Multiple-ideal, Multiple-of, of-Multiple}
-use Rattle.theory_orders.proofs.Lattices.LatticeTests.{decided, in_lattice}
+use Rattle.theory_spaces.proofs.Linear.LatticeTests.{decided, in_lattice}
 use Rattle.theory_orders.proofs.Ideals.Ideals.{ideal_same, whole, generated_in}
 use Rattle.theory_orders.proofs.Lattices.Scaling.{Lam_scale}
 use Rattle.theory_orders.proofs.Lattices.Independence.{IsSublattice, IndependentMod, right_sublattice, ideal_sublattice}
 use Rattle.theory_orders.proofs.Lattices.Independence.{sub_neg, grow_up, grow_down, at_most}
+use Rattle.theory_spaces.proofs.Linear.LatticeSpans.{lattice-zero, lattice-add, lattice-scale, lattice-member}
+use Rattle.theory_spaces.proofs.Linear.LatticeSpans.{lattice_trans, lattice-join_left, lattice-join_right, lattice_in}
 
 -- not refutable
 abbrev pub NotNot : Type 0 → Type 0
@@ -286,14 +287,14 @@ module _ {K V : Type 0} (F : FieldOn K) (Z : ValuationOn F) (p q : K) (U : Unifo
       Ann_generates out stop = out (
         la,
         λ b0 h0. RC.stable (b0 ⊗ a) (λ n0.
-            all_fixed b0 h0 n0 N (λ i. s ⊗ os i) (λ i l. RD.right s (os i) hs (InSpan-member RA N i os l)) (λ r.
+            all_fixed b0 h0 n0 N (λ i. s ⊗ os i) (λ i l. RD.right s (os i) hs (lattice-member F Z M N i os l)) (λ r.
             let t = r.0 in
             let e = A.one ⊕ neg t in
             let le : L e = O.add_in A.one (neg t) O.one_in (neg_of L L_right t (T_ideal.inside t r.1)) in
             let times : (x : V) → x ⊗ e ≡ x ⊕ neg (x ⊗ t) = λ x. A.mul-add x A.one (neg t)
             ∙ ap₂ A.◌⊕◌ (A.mul-one x) (mul-neg A.ring x t) in
             let kills : (l : V) → L l → C ((s ⊗ l) ⊗ e) = λ l.
-            span_in RA (λ l. C ((s ⊗ l) ⊗ e)) (record {
+            lattice_in F Z M (λ l. C ((s ⊗ l) ⊗ e)) (record {
               zero-in = subst C (sym (ap (λ z. z ⊗ e) (mul-zero A.ring s) ∙ zero-mul A.ring e)) RC.zero_in;
               add-in = λ x y h g. subst C (sym (ap (λ z. z ⊗ e) (A.mul-add s x y) ∙ A.add-mul (s ⊗ x) (s ⊗ y) e))
                   (RC.add_in ((s ⊗ x) ⊗ e) ((s ⊗ y) ⊗ e) h g);
@@ -323,16 +324,17 @@ module _ {K V : Type 0} (F : FieldOn K) (Z : ValuationOn F) (p q : K) (U : Unifo
   pub multiple_lattice : Within P (Lattice F Z A N (λ i. p • os i))
   multiple_lattice x m = record {
     weights = m.1.weights;
-    combines = m.2 ∙ ap (λ z. p • z) m.1.combines ∙ scale-sum M N p (λ i. (m.1.weights i).0 • os i)
-        ∙ sum_congr A.monoid N (λ i. p • ((m.1.weights i).0 • os i)) (λ i. (m.1.weights i).0 • (p • os i)) (λ i l.
-        sym (A.mul-scale p (m.1.weights i).0 (os i)) ∙ ap (λ a. a • os i) (F.mul_comm p (m.1.weights i).0)
-        ∙ A.mul-scale (m.1.weights i).0 p (os i));
+    passes = m.1.passes;
+    combines = m.2 ∙ ap (λ z. p • z) m.1.combines ∙ scale-sum M N p (λ i. (m.1.weights i) • os i)
+        ∙ sum_congr A.monoid N (λ i. p • (m.1.weights i • os i)) (λ i. (m.1.weights i) • (p • os i)) (λ i l.
+        sym (A.mul-scale p (m.1.weights i) (os i)) ∙ ap (λ a. a • os i) (F.mul_comm p (m.1.weights i))
+        ∙ A.mul-scale (m.1.weights i) p (os i));
   }
 
   pub multiple_same : Same P (Lattice F Z A N (λ i. p • os i))
   multiple_same = (
     multiple_lattice,
-    λ x h. span_in RA P P_sub N (λ i. p • os i) (λ i l. (os i, InSpan-member RA N i os l, refl)) x h,
+    λ x h. lattice_in F Z M P P_sub N (λ i. p • os i) (λ i l. (os i, lattice-member F Z M N i os l, refl)) x h,
   )
 
   module _ (Q : V → Type 0) (I : IsIdeal A L Q) (over : Within P Q) where
@@ -346,23 +348,23 @@ module _ {K V : Type 0} (F : FieldOn K) (Z : ValuationOn F) (p q : K) (U : Unifo
     spanned (suc f) k lt x ind inside stop =
         let G : V → Type 0 = Lattice F Z A (N + k) (gens k x) in
         let G_sub : Sub G = record {
-          zero-in = InSpan-zero RA (N + k) (gens k x);
-          add-in = λ a b h g. InSpan-add RA (N + k) (gens k x) a b h g;
-          scale-in = λ c a h. InSpan-scale RA (N + k) (gens k x) c a h;
+          zero-in = lattice-zero F Z M (N + k) (gens k x);
+          add-in = λ a b h g. lattice-add F Z M (N + k) (gens k x) a b h g;
+          scale-in = λ c a h. lattice-scale F Z M (N + k) (gens k x) c a h;
         } in
         let P_G : Within P G = λ y m.
-        InSpan_trans RA N (N + k) (λ i. p • os i) (gens k x) y
-        (λ i l. InSpan-join_left RA N k (λ i. p • os i) x i l) (multiple_lattice y m) in
+        lattice_trans F Z M N (N + k) (λ i. p • os i) (gens k x) y
+        (λ i l. lattice-join_left F Z M N k (λ i. p • os i) x i l) (multiple_lattice y m) in
         stop (N + k) (gens k x) (
           (λ y hy. ⊎_elim (λ g. g) (λ (out : G y → ⊥). absurd (
               spanned f (suc k) (omega arith) (push k y x)
               (grow_up F Z p q U A N os P_sub k x ind G G_sub P_G
-              (λ i l. InSpan-join_right RA N k (λ i. p • os i) x i l) y (I.inside y hy) out)
+              (λ i l. lattice-join_right F Z M N k (λ i. p • os i) x i l) y (I.inside y hy) out)
               (below_suc k (λ i. Q (push k y x i)) (λ i l. subst Q (sym (push-below k y x i l)) (inside i l))
               (subst Q (sym (push-at k y x)) hy)) stop)) (decide_in (N + k) (gens k x) y)),
-          λ y g. span_in RA Q Q_sub (N + k) (gens k x)
+          λ y g. lattice_in F Z M Q Q_sub (N + k) (gens k x)
               (each_join N k (λ i. p • os i) x Q
-              (λ i l. over (p • os i) (os i, InSpan-member RA N i os l, refl)) inside) y g,
+              (λ i l. over (p • os i) (os i, lattice-member F Z M N i os l, refl)) inside) y g,
         )
 
     pub is_lattice : ((n : ℕ) (g : ℕ → V) → Same Q (Lattice F Z A n g) → ⊥) → ⊥

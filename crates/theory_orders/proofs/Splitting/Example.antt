@@ -89,11 +89,13 @@ module _ {K : Type 0} (F : FieldOn K) (Z : ValuationOn F) (p q : K) (U : Uniform
           (by_sorted F.cring (env x y z p) (mul (add X Y) W).0 (add (mul X W) (mul Y W)).0 refl)
           (by_sorted F.cring (env x y z p) (mul (add X Y) W).1 (add (mul X W) (mul Y W)).1 refl);
     };
-    ◌•◌ = λ c x. (c ⊗ x.0, c ⊗ x.1);
-    scale-add = λ c x y. ap₂ pair (F.mul-add c x.0 y.0) (F.mul-add c x.1 y.1);
-    add-scale = λ c d x. ap₂ pair (F.add-mul c d x.0) (F.add-mul c d x.1);
-    mul-scale = λ c d x. ap₂ pair (F.mul_assoc c d x.0) (F.mul_assoc c d x.1);
-    one-scale = λ x. ap₂ pair (F.one-mul x.0) (F.one-mul x.1);
+    scalars = record {
+      ◌•◌ = λ c x. (c ⊗ x.0, c ⊗ x.1);
+      scale-add = λ c x y. ap₂ pair (F.mul-add c x.0 y.0) (F.mul-add c x.1 y.1);
+      add-scale = λ c d x. ap₂ pair (F.add-mul c d x.0) (F.add-mul c d x.1);
+      mul-scale = λ c d x. ap₂ pair (F.mul_assoc c d x.0) (F.mul_assoc c d x.1);
+      one-scale = λ x. ap₂ pair (F.one-mul x.0) (F.one-mul x.1);
+    };
     scale-left = λ c x y.
         ap₂ pair (by_sorted F.cring (env x y x c) (mul (by C X) Y).0 (by C (mul X Y)).0 refl)
         (by_sorted F.cring (env x y x c) (mul (by C X) Y).1 (by C (mul X Y)).1 refl);
@@ -145,25 +147,32 @@ module _ {K : Type 0} (F : FieldOn K) (Z : ValuationOn F) (p q : K) (U : Uniform
   pq a = sym (F.mul_assoc p q a) ∙ ap (λ x. x ⊗ a) U.pq ∙ F.one-mul a
 
   L-in : (x : V) → In x.0 → In x.1 → L x
-  L-in x a b = record { weights = elim [ zero ↦ (x.0, a) | suc i ↦ (x.1, b) ]; combines = sym (os-comb x.0 x.1) }
+  L-in x a b = record {
+    weights = elim [ zero ↦ x.0 | suc i ↦ x.1 ];
+    passes = elim [ zero ↦ λ _. a | suc i ↦ λ _. b ];
+    combines = sym (os-comb x.0 x.1);
+  }
 
   in-L : (x : V) → L x → In x.0 × In x.1
   in-L x s =
-      let e = s.combines ∙ os-comb (s.weights 0).0 (s.weights 1).0 in
-      (subst In (sym (ap (λ (z : V). z.0) e)) (s.weights 0).1, subst In (sym (ap (λ (z : V). z.1) e)) (s.weights 1).1)
+      let e = s.combines ∙ os-comb (s.weights 0) (s.weights 1) in (
+        subst In (sym (ap (λ (z : V). z.0) e)) (s.passes 0 (omega arith)),
+        subst In (sym (ap (λ (z : V). z.1) e)) (s.passes 1 (omega arith)),
+      )
 
   J-in : (x : V) → In (q ⊗ x.0) → In x.1 → J x
   J-in x a b = record {
-    weights = elim [ zero ↦ (q ⊗ x.0, a) | suc i ↦ (x.1, b) ];
+    weights = elim [ zero ↦ q ⊗ x.0 | suc i ↦ x.1 ];
+    passes = elim [ zero ↦ λ _. a | suc i ↦ λ _. b ];
     combines =
         sym (js-comb (q ⊗ x.0) x.1 ∙ ap (λ c. pair c x.1) (pq x.0));
   }
 
   in-J : (x : V) → J x → In (q ⊗ x.0) × In x.1
   in-J x s =
-      let e = s.combines ∙ js-comb (s.weights 0).0 (s.weights 1).0 in (
-        subst In (sym (ap (λ (z : V). q ⊗ z.0) e ∙ qp (s.weights 0).0)) (s.weights 0).1,
-        subst In (sym (ap (λ (z : V). z.1) e)) (s.weights 1).1,
+      let e = s.combines ∙ js-comb (s.weights 0) (s.weights 1) in (
+        subst In (sym (ap (λ (z : V). q ⊗ z.0) e ∙ qp (s.weights 0))) (s.passes 0 (omega arith)),
+        subst In (sym (ap (λ (z : V). z.1) e)) (s.passes 1 (omega arith)),
       )
 
   J-L : (x : V) → J x → L x

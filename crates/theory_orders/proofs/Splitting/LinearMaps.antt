@@ -1,8 +1,7 @@
 -- An order with a simple quotient by its radical, whose left order it is and which is more than p times it, is in no
 -- algebra of all linear maps of a space.
-use Rattle.std.specs.Prelude.{◌≡◌, ℕ, zero, suc, ◌<◌, ◌≤◌, IsTrue}
+use Rattle.std.specs.Prelude.{◌≡◌, ℕ, zero, suc, ◌<◌, IsTrue}
 use Rattle.std.proofs.Common.{refl, sym, ◌∙◌, ap, subst, arith, ⊎_elim}
-use Rattle.std.proofs.lemmas.Bool.{cases_lt}
 use Rattle.theory_rings.specs.Ring.{FieldOn}
 use Rattle.theory_rings.specs.Sum.{sum}
 use Rattle.theory_rings.proofs.Rings.RingLaws.{zero-mul, additive-neg}
@@ -11,9 +10,8 @@ use Rattle.theory_rings.proofs.Sums.Sums.{sum_congr, map-sum}
 use Rattle.theory_spaces.specs.Module.{ModuleOn, AlgebraOn, module_of}
 use Rattle.theory_spaces.specs.Linear.{comb, InSpan, Independent, Coords}
 use Rattle.theory_spaces.specs.Valuation.{ValuationOn, integers, restrict, LatticeBasis}
-use Rattle.theory_spaces.proofs.Linear.Modules.{zero-scale, InSpan-add, InSpan-neg, InSpan-scale, InSpan_trans}
-use Rattle.theory_spaces.proofs.Linear.Modules.{InSpan-member}
-use Rattle.theory_spaces.proofs.Linear.Spaces.{coord_in, coord_in-above, coord_in-of, coord_in-expand, basis_of}
+use Rattle.theory_spaces.proofs.Linear.Modules.{zero-scale, InSpan_trans}
+use Rattle.theory_spaces.proofs.Linear.Spaces.{coord_in, coord_in-of, coord_in-expand, basis_of}
 use Rattle.theory_spaces.proofs.Linear.Lattices.{lattice_basis}
 use Rattle.theory_orders.specs.Uniformizer.{UniformizerOn}
 use Rattle.theory_orders.specs.Orders.{IsOrder, IsIdeal, Multiple, Within}
@@ -22,6 +20,10 @@ use Rattle.theory_orders.specs.Lattices.{Lattice}
 use Rattle.theory_orders.proofs.Lattices.Multiples.{uniform, up, up-right}
 use Rattle.theory_orders.proofs.Lattices.Scaling.{Low_more, Low_sum, lowered}
 use Rattle.theory_orders.proofs.LeftOrder.HereditaryOrders.{Hereditary, maximal}
+use Rattle.theory_spaces.specs.Valuation.{IsIntegral}
+use Rattle.theory_spaces.specs.Lattice.{LatticeOver}
+use Rattle.theory_spaces.proofs.Linear.LatticeSpans.{lattice_span, lattice-add, lattice-scale, lattice-neg}
+use Rattle.theory_spaces.proofs.Linear.LatticeSpans.{lattice-member, lattice_trans}
 
 -- the elements of A are the linear maps of a space
 pub record ActionOn {K V W : Type 0} (F : FieldOn K) (A : AlgebraOn F.ring V) (M : ModuleOn F.ring W) : Type 0 where
@@ -104,39 +106,40 @@ module _ {K V W : Type 0} (F : FieldOn K) (Z : ValuationOn F) (p q : K) (U : Uni
   unfolding r w
   ind = basis.independent
 
-  gens-span : (i : ℕ) → i < N → InSpan RM r w (gens i)
+  gens-span : (i : ℕ) → i < N → LatticeOver M (IsIntegral F Z) r w (gens i)
   unfolding r w
   gens-span i l = basis.spans i l
 
-  w-span : (j : ℕ) → j < r → InSpan RM N gens (w j)
+  w-span : (j : ℕ) → j < r → LatticeOver M (IsIntegral F Z) N gens (w j)
   unfolding r w
   w-span j l = basis.within j l
-
-  weaken : (m : ℕ) (v : ℕ → W) (x : W) → InSpan RM m v x → InSpan M m v x
-  weaken m v x s = record { weights = λ i. (s.weights i).0; combines = s.combines }
 
   span : (x : W) → InSpan M r w x
   span x =
       let a = reached x in
       let s = whole a.0 in
-      InSpan_trans M N r gens w x (λ i l. weaken r w (gens i) (gens-span i l))
+      InSpan_trans M N r gens w x (λ i l. lattice_span F Z M r w (gens i) (gens-span i l))
       (record { weights = s.weights; combines = sym a.1 ∙ ap (λ y. act y e) s.combines ∙ act-comb N s.weights b e })
 
   -- the lattice of the order in the space
   abbrev InL : W → Type 0
-  InL x = InSpan RM r w x
+  InL x = LatticeOver M (IsIntegral F Z) r w x
 
   L-of : (y : V) → Lam y → InL (act y e)
-  L-of y s = InSpan_trans RM N r gens w (act y e) gens-span
-      (record { weights = s.weights; combines = ap (λ z. act z e) s.combines ∙ act-comb N (λ i. (s.weights i).0) b e })
+  L-of y s = lattice_trans F Z M N r gens w (act y e) gens-span
+      (record {
+        weights = s.weights;
+        passes = s.passes;
+        combines = ap (λ z. act z e) s.combines ∙ act-comb N s.weights b e;
+      })
 
   L-from : (x : W) → InL x → (y : V) × Lam y × (x ≡ act y e)
   L-from x s =
-      let t = InSpan_trans RM r N w gens x w-span s in (
-        comb RA N t.weights b,
-        record { weights = t.weights; combines = refl },
+      let t = lattice_trans F Z M r N w gens x w-span s in (
+        comb (module_of A) N t.weights b,
+        record { weights = t.weights; passes = t.passes; combines = refl },
         t.combines
-            ∙ sym (act-comb N (λ i. (t.weights i).0) b e),
+            ∙ sym (act-comb N t.weights b e),
       )
 
   c : W → ℕ → K
@@ -160,26 +163,19 @@ module _ {K V W : Type 0} (F : FieldOn K) (Z : ValuationOn F) (p q : K) (U : Uni
   L-coord : (x : W) → InL x → (i : ℕ) → i < r → IsTrue (Z.integral (c x i))
   unfolding c
   L-coord x s i l = subst (λ a. IsTrue (Z.integral a))
-      (sym (coord_in-of M r w ind span x (λ i. (s.weights i).0) s.combines i l)) (s.weights i).1
+      (sym (coord_in-of M r w ind span x s.weights s.combines i l)) (s.passes i l)
 
   coord-L : (x : W) → ((i : ℕ) → i < r → IsTrue (Z.integral (c x i))) → InL x
   unfolding c
-  coord-L x h = record {
-    weights = λ i. (
-      c x i,
-      ⊎_elim (h i) (λ (l : r ≤ i).
-          subst (λ a. IsTrue (Z.integral a)) (sym (coord_in-above M r w ind span x i l)) Z.zero_in) (cases_lt i r),
-    );
-    combines = coord_in-expand M r w ind span x;
-  }
+  coord-L x h = record { weights = c x; passes = h; combines = coord_in-expand M r w ind span x }
 
   L-comb : (m : ℕ) (d : ℕ → K) (f : ℕ → W) → ((i : ℕ) → i < m → IsTrue (Z.integral (d i)))
       → ((i : ℕ) → i < m → InL (f i)) → InL (comb M m d f)
-  L-comb m d f h g = sum_M m (λ i. M.◌•◌ (d i) (f i)) (λ i l. InSpan-scale RM r w (d i, h i l) (f i) (g i l))
+  L-comb m d f h g = sum_M m (λ i. M.◌•◌ (d i) (f i)) (λ i l. lattice-scale F Z M r w (d i, h i l) (f i) (g i l))
     where
       sum_M : (m : ℕ) (f : ℕ → W) → ((i : ℕ) → i < m → InL (f i)) → InL (sum M.monoid m f)
       sum_M zero f h = coord-L M.zero (λ i l. subst (λ a. IsTrue (Z.integral a)) (sym (c-zero i)) Z.zero_in)
-      sum_M (suc m) f h = InSpan-add RM r w (sum M.monoid m f) (f m) (sum_M m f (λ i l. h i (omega arith)))
+      sum_M (suc m) f h = lattice-add F Z M r w (sum M.monoid m f) (f m) (sum_M m f (λ i l. h i (omega arith)))
           (h m (omega arith))
 
   -- the elements that keep the lattice
@@ -187,7 +183,7 @@ module _ {K V W : Type 0} (F : FieldOn K) (Z : ValuationOn F) (p q : K) (U : Uni
   Gam a = (x : W) → InL x → InL (act a x)
 
   w-in : (j : ℕ) → j < r → InL (w j)
-  w-in j l = InSpan-member RM r j w l
+  w-in j l = lattice-member F Z M r j w l
 
   -- an element keeps the lattice where it keeps its basis
   keeps : (a : V) → ((j : ℕ) → j < r → InL (act a (w j))) → Gam a
@@ -231,10 +227,11 @@ module _ {K V W : Type 0} (F : FieldOn K) (Z : ValuationOn F) (p q : K) (U : Uni
     Gam-order = record {
       one_in = λ x s. subst InL (sym (T.act-one x)) s;
       zero_in = Lam-Gam A.zero O.zero_in;
-      add_in = λ a d h g x s. subst InL (sym (T.act-add a d x)) (InSpan-add RM r w (act a x) (act d x) (h x s) (g x s));
+      add_in = λ a d h g x s. subst InL (sym (T.act-add a d x))
+          (lattice-add F Z M r w (act a x) (act d x) (h x s) (g x s));
       neg_in = λ a h x s. subst InL
           (sym (additive-neg A.additive M.additive (λ y. act y x) (λ y z. T.act-add y z x) a))
-          (InSpan-neg RM r w (act a x) (h x s));
+          (lattice-neg F Z M r w (act a x) (h x s));
       mul_in = λ a d h g x s. subst InL (sym (T.act-mul a d x)) (h (act d x) (g x s));
     }
 
@@ -259,7 +256,8 @@ module _ {K V W : Type 0} (F : FieldOn K) (Z : ValuationOn F) (p q : K) (U : Uni
         (O.mul_in y.0 (up A p bound.0 (rank_one e j)) y.1 (bound.1 j l)))))
 
     rank_one-Gam : (v : W) (j : ℕ) → j < r → InL v → Gam (rank_one v j)
-    rank_one-Gam v j l h x s = subst InL (sym (rank_one-act v j x)) (InSpan-scale RM r w (c x j, L-coord x s j l) v h)
+    rank_one-Gam v j l h x s = subst InL (sym (rank_one-act v j x))
+        (lattice-scale F Z M r w (c x j, L-coord x s j l) v h)
 
     -- where the order is all that keeps the lattice, J is p times it
     module _ (maximal : Within Gam Lam) (not_multiples : Within J (Multiple A p Lam) → ⊥) where
@@ -276,7 +274,7 @@ module _ {K V W : Type 0} (F : FieldOn K) (Z : ValuationOn F) (p q : K) (U : Uni
             I.left (rank_one (w k) i) (x ⊗ (F.inv entry • rank_one (w j) k))
             (maximal (rank_one (w k) i) (rank_one-Gam (w k) i li (w-in k l)))
             (I.right (F.inv entry • rank_one (w j) k) x
-            (InSpan-scale RA N b (F.inv entry, h) (rank_one (w j) k)
+            (lattice-scale F Z (module_of A) N b (F.inv entry, h) (rank_one (w j) k)
             (maximal (rank_one (w j) k) (rank_one-Gam (w j) k l (w-in j lj)))) hx) in
             let value : (k : ℕ) (y : W) → act (f k) y ≡ M.◌•◌ (c y k) (w k) = λ k y.
             let v = act x (w j) in

@@ -12,7 +12,7 @@ use Rattle.theory_spaces.specs.Matrix.{Matrix, delta, Mat}
 use Rattle.theory_spaces.proofs.Linear.Modules.{left_linear, scale-zero, comb_zero}
 use Rattle.theory_spaces.proofs.Linear.Spaces.{Basis-coord}
 use Rattle.theory_spaces.proofs.Matrices.Matrices.{Mat-ext, mat, mat-entry, matrices, delta_comm}
-use Rattle.theory_spaces.proofs.Forms.Traces.{coord-map}
+use Rattle.theory_spaces.proofs.Forms.MapTraces.{coord-map}
 use Rattle.theory_spaces.proofs.Linear.IndependentVectors.{comb-delta}
 
 module _ {K V : Type 0} (C : CommRingOn K) (set : IsSet K) (A : AlgebraOn C.ring V) (m : ℕ)

@@ -21,10 +21,10 @@ use Rattle.theory_rings.proofs.Polynomials.Remainders.{remainders, remainders-on
 use Rattle.theory_radical.specs.Congruence.{MultipleOf}
 use Rattle.theory_radical.specs.LiftRing.{IsLiftRing}
 use Rattle.theory_radical.proofs.Lifts.LiftRings.{up, down-up, down-zero}
-use Rattle.theory_radical.proofs.Lifts.RemainderRings.{for_remainders, Remainder-ext, remainder-past}
-use Rattle.theory_radical.proofs.Lifts.RemainderRings.{remainder-coefficient-zero, remainder-coefficient-times}
-use Rattle.theory_radical.proofs.Lifts.RemainderRings.{small_remainder, small_remainder-coefficient}
-use Rattle.theory_radical.proofs.Lifts.RemainderRings.{small_remainder-all}
+use Rattle.theory_rings.proofs.Polynomials.RemainderRings.{for_remainders, Remainder-ext, remainder-past}
+use Rattle.theory_rings.proofs.Polynomials.RemainderRings.{remainder-coefficient-zero, remainder-coefficient-times}
+use Rattle.theory_rings.proofs.Polynomials.RemainderRings.{small_remainder, small_remainder-coefficient}
+use Rattle.theory_rings.proofs.Polynomials.RemainderRings.{small_remainder-all}
 
 -- representatives that keep 0 and 1
 pub record IsSection {K W : Type 0} (S : CommRingOn K) (R : CommRingOn W) (down : W → K) (rep : K → W) : Type 0 where

@@ -25,9 +25,9 @@ use Rattle.theory_rings.proofs.FiniteFields.FiniteFields.{root_by_power}
 use Rattle.theory_radical.specs.LiftRing.{HasRoots}
 use Rattle.theory_radical.specs.Tower.{TowerElement, TowerMod, IsIrreducibleTower}
 use Rattle.theory_rings.proofs.Polynomials.Remainders.{is_zero_remainder}
-use Rattle.theory_radical.proofs.Lifts.RemainderRings.{Remainder-ext, remainder-past, remainders_eq}
-use Rattle.theory_radical.proofs.Lifts.RemainderRings.{remainders_zero_test, small_remainder}
-use Rattle.theory_radical.proofs.Lifts.RemainderRings.{small_remainder-coefficient}
+use Rattle.theory_rings.proofs.Polynomials.RemainderRings.{Remainder-ext, remainder-past, remainders_eq}
+use Rattle.theory_rings.proofs.Polynomials.RemainderRings.{remainders_zero_test, small_remainder}
+use Rattle.theory_rings.proofs.Polynomials.RemainderRings.{small_remainder-coefficient}
 use Rattle.theory_radical.proofs.Lifts.RemainderLifts.{one-ne-zero_of_monic, degree-pos_of_nontrivial}
 
 -- a number below p as a field element, where p is prime

@@ -17,7 +17,7 @@ use Rattle.theory_radical.specs.Tower.{TowerElement, TowerMod, Reduces, HasSameN
 use Rattle.theory_radical.specs.Tower.{double_coefficient}
 use Rattle.theory_radical.proofs.Lifts.IntegerLifts.{reduce, raise_residue, reduce-raise, value-raise, integers_lift}
 use Rattle.theory_radical.proofs.Lifts.IntegerLifts.{times-modulus}
-use Rattle.theory_radical.proofs.Lifts.RemainderRings.{Remainder-ext, Remainder-set, remainders_zero_test}
+use Rattle.theory_rings.proofs.Polynomials.RemainderRings.{Remainder-ext, Remainder-set, remainders_zero_test}
 use Rattle.theory_radical.proofs.Lifts.RemainderLifts.{IsSection, one-ne-zero_of_monic, lift_poly}
 use Rattle.theory_radical.proofs.Lifts.RemainderLifts.{lift_poly-coefficient, lift_poly-reduces, lift_poly_monic}
 use Rattle.theory_radical.proofs.Lifts.RemainderLifts.{remainder_down, remainder_down-coefficient, remainders_lift}

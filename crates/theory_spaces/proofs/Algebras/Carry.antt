@@ -70,11 +70,13 @@ module _ {K A B : Type 0} {R : RingOn K} (S : AlgebraOn R A) (e : A ≃ B) (k : 
           mul-add = coe 0 i (j. (a b c : T j) → times j a (plus j b c) ≡ plus j (times j a b) (times j a c)) S.mul-add;
           add-mul = coe 0 i (j. (a b c : T j) → times j (plus j a b) c ≡ plus j (times j a c) (times j b c)) S.add-mul;
         };
-        ◌•◌ = by i;
-        scale-add = coe 0 i (j. (a : K) (x y : T j) → by j a (plus j x y) ≡ plus j (by j a x) (by j a y)) S.scale-add;
-        add-scale = coe 0 i (j. (a b : K) (x : T j) → by j (R.◌⊕◌ a b) x ≡ plus j (by j a x) (by j b x)) S.add-scale;
-        mul-scale = coe 0 i (j. (a b : K) (x : T j) → by j (R.◌⊗◌ a b) x ≡ by j a (by j b x)) S.mul-scale;
-        one-scale = coe 0 i (j. (x : T j) → by j R.one x ≡ x) S.one-scale;
+        scalars = record {
+          ◌•◌ = by i;
+          scale-add = coe 0 i (j. (a : K) (x y : T j) → by j a (plus j x y) ≡ plus j (by j a x) (by j a y)) S.scale-add;
+          add-scale = coe 0 i (j. (a b : K) (x : T j) → by j (R.◌⊕◌ a b) x ≡ plus j (by j a x) (by j b x)) S.add-scale;
+          mul-scale = coe 0 i (j. (a b : K) (x : T j) → by j (R.◌⊗◌ a b) x ≡ by j a (by j b x)) S.mul-scale;
+          one-scale = coe 0 i (j. (x : T j) → by j R.one x ≡ x) S.one-scale;
+        };
         scale-left = coe 0 i (j. (a : K) (x y : T j) → times j (by j a x) y ≡ by j a (times j x y)) S.scale-left;
         scale-right = coe 0 i (j. (a : K) (x y : T j) → times j x (by j a y) ≡ by j a (times j x y)) S.scale-right;
       }

@@ -9,11 +9,13 @@ use Rattle.theory_rings.proofs.Sums.Bump.{unbump, bump-unbump, unbump-lt, bump, 
 use Rattle.theory_rings.proofs.Sums.Sums.{sum_eq_zero}
 use Rattle.theory_rings.proofs.Rings.ZeroTests.{eq_zero_or}
 use Rattle.theory_spaces.specs.Module.{ModuleOn}
-use Rattle.theory_spaces.specs.Linear.{comb, InSpan, Coords}
-use Rattle.theory_spaces.specs.Valuation.{ValuationOn, Integer, integers, restrict, LatticeBasis}
+use Rattle.theory_spaces.specs.Linear.{comb, Coords}
+use Rattle.theory_spaces.specs.Lattice.{LatticeOver}
+use Rattle.theory_spaces.specs.Valuation.{ValuationOn, IsIntegral, Integer, LatticeBasis}
 use Rattle.theory_spaces.proofs.Linear.Families.{push, push-below, push-at, below_suc}
-use Rattle.theory_spaces.proofs.Linear.Modules.{zero-scale, comb-push, InSpan-add, InSpan-scale, InSpan-push}
-use Rattle.theory_spaces.proofs.Linear.Modules.{InSpan-push_at, InSpan_trans, InSpan-member}
+use Rattle.theory_spaces.proofs.Linear.Modules.{zero-scale, comb-push}
+use Rattle.theory_spaces.proofs.Linear.LatticeSpans.{lattice-add, lattice-scale, lattice-push, lattice-push_at}
+use Rattle.theory_spaces.proofs.Linear.LatticeSpans.{lattice_trans, lattice-member}
 use Rattle.theory_spaces.proofs.Linear.Spaces.{coord-comb}
 
 module _ {K : Type 0} (F : FieldOn K) (W : ValuationOn F) where
@@ -103,18 +105,18 @@ module _ {K V : Type 0} (F : FieldOn K) (W : ValuationOn F) (M : ModuleOn F.ring
   infixl 70 ◌•◌
   open M use {additive, monoid, ◌⊕◌, ◌•◌}
 
-  abbrev pub L : ModuleOn (integers F W) V
-  L = restrict F W M
+  abbrev L : ℕ → (ℕ → V) → V → Type 0
+  L = LatticeOver M (IsIntegral F W)
 
   -- no coordinate from k on
   abbrev pub Short : ℕ → V → Type 0
   Short k x = (j : ℕ) → k ≤ j → j < m → C.coord x j ≡ F.zero
 
-  short-span : (k n : ℕ) (v : ℕ → V) → ((i : ℕ) → i < n → Short k (v i)) → (x : V) → InSpan L n v x → Short k x
+  short-span : (k n : ℕ) (v : ℕ → V) → ((i : ℕ) → i < n → Short k (v i)) → (x : V) → L n v x → Short k x
   short-span k n v h x s j a b =
-      ap (λ y. C.coord y j) s.combines ∙ coord-comb M m C n (λ i. (s.weights i).0) v j
-      ∙ sum_eq_zero F.monoid n (λ i. F.◌⊗◌ (s.weights i).0 (C.coord (v i) j))
-      (λ i l. ap (λ x. F.◌⊗◌ (s.weights i).0 x) (h i l j a b) ∙ mul-zero F.ring (s.weights i).0)
+      ap (λ y. C.coord y j) s.combines ∙ coord-comb M m C n s.weights v j
+      ∙ sum_eq_zero F.monoid n (λ i. F.◌⊗◌ (s.weights i) (C.coord (v i) j))
+      (λ i l. ap (λ x. F.◌⊗◌ (s.weights i) x) (h i l j a b) ∙ mul-zero F.ring (s.weights i))
 
   module _ (k n : ℕ) (v : ℕ → V) (short : (i : ℕ) → i < suc n → Short (suc k) (v i)) (low : k < m)
       (p : Divides F W (suc n) (λ i. C.coord (v i) k)) where
@@ -162,8 +164,8 @@ module _ {K V : Type 0} (F : FieldOn K) (W : ValuationOn F) (M : ModuleOn F.ring
     extended B =
         let r = B.rank in
         let u = push r (v q) B.vec in
-        let at_end : InSpan L (suc r) u (v q) = InSpan-push_at L r (v q) B.vec in
-        let others : (j : ℕ) → j < n → InSpan L (suc r) u (v (bump q j)) = λ j l.
+        let at_end : L (suc r) u (v q) = lattice-push_at F W M r (v q) B.vec in
+        let others : (j : ℕ) → j < n → L (suc r) u (v (bump q j)) = λ j l.
         let x = v (bump q j) in
         let y = (factor j).0 • v q in
         let e : reduced j ⊕ (F.neg (factor j).0) • v q ≡ x =
@@ -171,14 +173,14 @@ module _ {K V : Type 0} (F : FieldOn K) (W : ValuationOn F) (M : ModuleOn F.ring
         ∙ ap (λ z. x ⊕ z) (sym (M.add-scale (factor j).0 (F.neg (factor j).0) (v q))
         ∙ ap (λ a. a • v q) (add-neg F.additive (factor j).0) ∙ zero-scale M (v q))
         ∙ add-zero monoid x in
-        let P : V → Type 0 = λ z. InSpan L (suc r) u z in
-        subst P e (InSpan-add L (suc r) u (reduced j) ((F.neg (factor j).0) • v q)
-        (InSpan-push L r (v q) B.vec (reduced j) (B.spans j l))
-        (InSpan-scale L (suc r) u (F.neg (factor j).0, W.neg_in (factor j).0 (factor j).1) (v q) at_end)) in
-        let from_v : (i : ℕ) → i < n → InSpan L (suc n) v (reduced i) = λ i l.
-        InSpan-add L (suc n) v (v (bump q i)) ((factor i).0 • v q)
-        (InSpan-member L (suc n) (bump q i) v (bump-lt q i n l))
-        (InSpan-scale L (suc n) v (factor i) (v q) (InSpan-member L (suc n) q v p.within)) in
+        let P : V → Type 0 = λ z. L (suc r) u z in
+        subst P e (lattice-add F W M (suc r) u (reduced j) ((F.neg (factor j).0) • v q)
+        (lattice-push F W M r (v q) B.vec (reduced j) (B.spans j l))
+        (lattice-scale F W M (suc r) u (F.neg (factor j).0, W.neg_in (factor j).0 (factor j).1) (v q) at_end)) in
+        let from_v : (i : ℕ) → i < n → L (suc n) v (reduced i) = λ i l.
+        lattice-add F W M (suc n) v (v (bump q i)) ((factor i).0 • v q)
+        (lattice-member F W M (suc n) (bump q i) v (bump-lt q i n l))
+        (lattice-scale F W M (suc n) v (factor i) (v q) (lattice-member F W M (suc n) q v p.within)) in
         record {
           rank = suc r;
           vec = u;
@@ -203,18 +205,18 @@ module _ {K V : Type 0} (F : FieldOn K) (W : ValuationOn F) (M : ModuleOn F.ring
                 below_suc r (λ i. c i ≡ F.zero) (B.independent.only_zero c e4) e3 i l;
           };
           spans = λ i l. ⊎_elim
-              (λ (e : q ≡ i). let P : ℕ → Type 0 = λ j. InSpan L (suc r) u (v j) in subst P e at_end)
+              (λ (e : q ≡ i). let P : ℕ → Type 0 = λ j. L (suc r) u (v j) in subst P e at_end)
               (λ (d : q ≡ i → ⊥). let P : ℕ
-              → Type 0 = λ j. InSpan L (suc r) u (v j) in
+              → Type 0 = λ j. L (suc r) u (v j) in
               subst P (bump-unbump q i (λ x. d (sym x)))
               (others (unbump q i) (unbump-lt n q i p.within l (λ x. d (sym x)))))
               (cases_eq q i);
           within = λ j l. ⊎_elim
-              (λ (g : j < r). let P : V → Type 0 = λ z. InSpan L (suc n) v z in
+              (λ (g : j < r). let P : V → Type 0 = λ z. L (suc n) v z in
               subst P (sym (push-below r (v q) B.vec j g))
-              (InSpan_trans L n (suc n) reduced v (B.vec j) from_v (B.within j g)))
-              (λ (g : r ≤ j). let w : r ≡ j = omega arith in let P : V → Type 0 = λ z. InSpan L (suc n) v z in
-              subst P (sym (ap u (sym w) ∙ push-at r (v q) B.vec)) (InSpan-member L (suc n) q v p.within))
+              (lattice_trans F W M n (suc n) reduced v (B.vec j) from_v (B.within j g)))
+              (λ (g : r ≤ j). let w : r ≡ j = omega arith in let P : V → Type 0 = λ z. L (suc n) v z in
+              subst P (sym (ap u (sym w) ∙ push-at r (v q) B.vec)) (lattice-member F W M (suc n) q v p.within))
               (cases_lt j r);
         }
 
@@ -223,7 +225,7 @@ module _ {K V : Type 0} (F : FieldOn K) (W : ValuationOn F) (M : ModuleOn F.ring
     rank = zero;
     vec = v;
     independent = record { only_zero = λ c e i l. absurd (omega arith) };
-    spans = λ i l. record { weights = λ j. (F.zero, W.zero_in); combines = z i l };
+    spans = λ i l. record { weights = λ j. F.zero; passes = λ j _. W.zero_in; combines = z i l };
     within = λ j l. absurd (omega arith);
   }
 

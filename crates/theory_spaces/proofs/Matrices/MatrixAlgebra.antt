@@ -34,14 +34,16 @@ module _ {K : Type 0} (C : CommRingOn K) (set : IsSet K) (n : ℕ) where
       let R = matrices ring set n in
       record {
         ring = R;
-        ◌•◌ = scaled;
-        scale-add = λ a x y. Mat-path ring set n (scaled a (R.◌⊕◌ x y)) (R.◌⊕◌ (scaled a x) (scaled a y))
-            (λ i j. C.mul-add a (x.0 i j) (y.0 i j));
-        add-scale = λ a b x. Mat-path ring set n (scaled (a ⊕ b) x) (R.◌⊕◌ (scaled a x) (scaled b x))
-            (λ i j. C.add-mul a b (x.0 i j));
-        mul-scale = λ a b x. Mat-path ring set n (scaled (a ⊗ b) x) (scaled a (scaled b x))
-            (λ i j. C.mul_assoc a b (x.0 i j));
-        one-scale = λ x. Mat-path ring set n (scaled C.one x) x (λ i j. C.one-mul (x.0 i j));
+        scalars = record {
+          ◌•◌ = scaled;
+          scale-add = λ a x y. Mat-path ring set n (scaled a (R.◌⊕◌ x y)) (R.◌⊕◌ (scaled a x) (scaled a y))
+              (λ i j. C.mul-add a (x.0 i j) (y.0 i j));
+          add-scale = λ a b x. Mat-path ring set n (scaled (a ⊕ b) x) (R.◌⊕◌ (scaled a x) (scaled b x))
+              (λ i j. C.add-mul a b (x.0 i j));
+          mul-scale = λ a b x. Mat-path ring set n (scaled (a ⊗ b) x) (scaled a (scaled b x))
+              (λ i j. C.mul_assoc a b (x.0 i j));
+          one-scale = λ x. Mat-path ring set n (scaled C.one x) x (λ i j. C.one-mul (x.0 i j));
+        };
         scale-left = λ a x y. Mat-path ring set n (R.◌⊗◌ (scaled a x) y) (scaled a (R.◌⊗◌ x y)) (λ i j.
             sum_congr monoid n (λ k. a ⊗ x.0 i k ⊗ y.0 k j) (λ k. a ⊗ (x.0 i k ⊗ y.0 k j))
             (λ k _. C.mul_assoc a (x.0 i k) (y.0 k j))

@@ -224,11 +224,7 @@ module _ {K V : Type 0} {R : RingOn K} (M : ModuleOn R V) (P : ProductOn M) wher
       mul-add = P.mul-add;
       add-mul = P.add-mul;
     };
-    ◌•◌ = M.◌•◌;
-    scale-add = M.scale-add;
-    add-scale = M.add-scale;
-    mul-scale = M.mul-scale;
-    one-scale = M.one-scale;
+    scalars = M.scalars;
     scale-left = P.scale-left;
     scale-right = P.scale-right;
   }

@@ -116,17 +116,19 @@ module _ {E : Type 0} (o : Ops E) (L : FieldLaws o) where
     unfolding tuples_add
     tuples = record {
       additive = tuples_add;
-      ◌•◌ = times;
-      scale-add = λ c a b. Tuple-ext (times c (plus a b)) (plus (times c a) (times c b)) (λ k l.
-          times-at c (plus a b) k l ∙ ap (λ x. K.◌⊗◌ c x) (plus-at a b k l) ∙ K.mul-add c (entry a k) (entry b k)
-          ∙ ap₂ K.◌⊕◌ (sym (times-at c a k l)) (sym (times-at c b k l)) ∙ sym (plus-at (times c a) (times c b) k l));
-      add-scale = λ c d a. Tuple-ext (times (K.◌⊕◌ c d) a) (plus (times c a) (times d a)) (λ k l.
-          times-at (K.◌⊕◌ c d) a k l ∙ K.add-mul c d (entry a k)
-          ∙ ap₂ K.◌⊕◌ (sym (times-at c a k l)) (sym (times-at d a k l)) ∙ sym (plus-at (times c a) (times d a) k l));
-      mul-scale = λ c d a. Tuple-ext (times (K.◌⊗◌ c d) a) (times c (times d a)) (λ k l.
-          times-at (K.◌⊗◌ c d) a k l ∙ K.mul_assoc c d (entry a k) ∙ ap (λ x. K.◌⊗◌ c x) (sym (times-at d a k l))
-          ∙ sym (times-at c (times d a) k l));
-      one-scale = λ a. Tuple-ext (times K.one a) a (λ k l. times-at K.one a k l ∙ K.one-mul (entry a k));
+      scalars = record {
+        ◌•◌ = times;
+        scale-add = λ c a b. Tuple-ext (times c (plus a b)) (plus (times c a) (times c b)) (λ k l.
+            times-at c (plus a b) k l ∙ ap (λ x. K.◌⊗◌ c x) (plus-at a b k l) ∙ K.mul-add c (entry a k) (entry b k)
+            ∙ ap₂ K.◌⊕◌ (sym (times-at c a k l)) (sym (times-at c b k l)) ∙ sym (plus-at (times c a) (times c b) k l));
+        add-scale = λ c d a. Tuple-ext (times (K.◌⊕◌ c d) a) (plus (times c a) (times d a)) (λ k l.
+            times-at (K.◌⊕◌ c d) a k l ∙ K.add-mul c d (entry a k)
+            ∙ ap₂ K.◌⊕◌ (sym (times-at c a k l)) (sym (times-at d a k l)) ∙ sym (plus-at (times c a) (times d a) k l));
+        mul-scale = λ c d a. Tuple-ext (times (K.◌⊗◌ c d) a) (times c (times d a)) (λ k l.
+            times-at (K.◌⊗◌ c d) a k l ∙ K.mul_assoc c d (entry a k) ∙ ap (λ x. K.◌⊗◌ c x) (sym (times-at d a k l))
+            ∙ sym (times-at c (times d a) k l));
+        one-scale = λ a. Tuple-ext (times K.one a) a (λ k l. times-at K.one a k l ∙ K.one-mul (entry a k));
+      };
     }
 
     -- tuples are their entries

@@ -11,7 +11,7 @@ use Rattle.theory_spaces.specs.Linear.{comb, Basis, IsLinear}
 use Rattle.theory_spaces.specs.Space.{ProductOn}
 use Rattle.theory_spaces.specs.Algebra.{map_trace, iterate}
 use Rattle.theory_spaces.proofs.Linear.Modules.{zero-scale}
-use Rattle.theory_spaces.proofs.Forms.Traces.{map_trace_comm, map_trace-nilpotent}
+use Rattle.theory_spaces.proofs.Forms.MapTraces.{map_trace_comm, map_trace-nilpotent}
 
 module _ {K V : Type 0} (C : CommRingOn K) (M : ModuleOn C.ring V) (P : ProductOn M) (m : ℕ) (B : Basis M m) where
   infixl 65 ◌⊕◌

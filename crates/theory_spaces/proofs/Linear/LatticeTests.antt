@@ -1,16 +1,16 @@
 -- Membership in what finitely many vectors span over a valuation ring is decided.
-use Rattle.std.specs.Prelude.{◌≡◌, ℕ, zero, suc, ◌+◌, ◌*◌, ◌/◌, ◌%◌, ◌<◌, ◌≤◌, Bool, true, false, IsTrue, ◌⊎◌}
+use Rattle.std.specs.Prelude.{◌≡◌, ℕ, zero, suc, ◌+◌, ◌*◌, ◌/◌, ◌%◌, ◌<◌, Bool, true, false, IsTrue, ◌⊎◌}
 use Rattle.std.proofs.Common.{refl, sym, ◌∙◌, ap, ap₂, subst, arith, inl, inr, ⊎_elim}
-use Rattle.std.proofs.lemmas.Bool.{cases_lt}
 use Rattle.std.proofs.lemmas.Nat.{div-mul-add, mod-mul-add}
 use Rattle.theory_rings.specs.Ring.{FieldOn}
 use Rattle.theory_rings.proofs.Rings.RingLaws.{add-neg, neg_neg, neg_zero}
 use Rattle.theory_spaces.specs.Module.{ModuleOn}
 use Rattle.theory_spaces.specs.Linear.{comb, InSpan, Independent, Coords}
-use Rattle.theory_spaces.specs.Valuation.{ValuationOn, Integer, integers, restrict}
+use Rattle.theory_spaces.specs.Lattice.{LatticeOver}
+use Rattle.theory_spaces.specs.Valuation.{ValuationOn, IsIntegral}
 use Rattle.theory_spaces.proofs.Linear.Families.{push, push-below, push-at, below_suc}
-use Rattle.theory_spaces.proofs.Linear.Modules.{zero-scale, comb_congr, comb-push, comb_injective, InSpan_trans}
-use Rattle.theory_spaces.proofs.Linear.Modules.{InSpan-member}
+use Rattle.theory_spaces.proofs.Linear.Modules.{zero-scale, comb_congr, comb-push, comb_injective}
+use Rattle.theory_spaces.proofs.Linear.LatticeSpans.{lattice_span, lattice_trans, lattice-member}
 use Rattle.theory_spaces.proofs.Linear.Spaces.{extend_or_span}
 use Rattle.theory_spaces.proofs.Linear.SpanTests.{answer, answer-sound, answer-complete}
 pub use Rattle.theory_spaces.proofs.Linear.SpanTests.{decided}
@@ -42,38 +42,15 @@ module _ {K V : Type 0} (F : FieldOn K) (Z : ValuationOn F) (M : ModuleOn F.ring
   infixl 70 ◌•◌
   open M use {◌⊕◌, ◌•◌}
 
-  abbrev L : ModuleOn (integers F Z) V
-  L = restrict F Z M
-
-  pub over_field : (n : ℕ) (v : ℕ → V) (x : V) → InSpan L n v x → InSpan M n v x
-  over_field n v x s = record { weights = λ i. (s.weights i).0; combines = s.combines }
-
-  weight : (r : ℕ) (c : ℕ → K) → ((i : ℕ) → i < r → IsTrue (Z.integral (c i))) → (i : ℕ) → (i < r) ⊎ (r ≤ i)
-      → Integer F Z
-  weight r c h i (inl l) = (c i, h i l)
-  weight r c h i (inr l) = (F.zero, Z.zero_in)
-
-  weight-is : (r : ℕ) (c : ℕ → K) (h : (i : ℕ) → i < r → IsTrue (Z.integral (c i))) (i : ℕ) (d : (i < r) ⊎ (r ≤ i))
-      → i < r → (weight r c h i d).0 ≡ c i
-  unfolding weight
-  weight-is r c h i (inl l) g = refl
-  weight-is r c h i (inr l) g = absurd (omega arith)
-
-  -- integral weights below r
-  pub over_integers : (r : ℕ) (v : ℕ → V) (x : V) (c : ℕ → K) → x ≡ comb M r c v
-      → ((i : ℕ) → i < r → IsTrue (Z.integral (c i))) → InSpan L r v x
-  over_integers r v x c e h = record {
-    weights = λ i. weight r c h i (cases_lt i r);
-    combines = e ∙ comb_congr M r c (λ i. (weight r c h i (cases_lt i r)).0) v
-        (λ i l. sym (weight-is r c h i (cases_lt i r) l));
-  }
+  abbrev L : ℕ → (ℕ → V) → V → Type 0
+  L = LatticeOver M (IsIntegral F Z)
 
   -- by independent vectors the weights are integral in each way to combine
-  pub integral_weights : (r : ℕ) (v : ℕ → V) → Independent M r v → (x : V) → InSpan L r v x → (c : ℕ → K)
+  pub integral_weights : (r : ℕ) (v : ℕ → V) → Independent M r v → (x : V) → L r v x → (c : ℕ → K)
       → x ≡ comb M r c v → (i : ℕ) → i < r → IsTrue (Z.integral (c i))
   integral_weights r v h x s c e i l =
-      subst (λ a. IsTrue (Z.integral a)) (comb_injective M r v h (λ i. (s.weights i).0) c (sym s.combines ∙ e) i l)
-      (s.weights i).1
+      subst (λ a. IsTrue (Z.integral a)) (comb_injective M r v h s.weights c (sym s.combines ∙ e) i l)
+      (s.passes i l)
 
   not_both : (r : ℕ) (v : ℕ → V) (x : V) → Independent M (suc r) (push r x v) → InSpan M r v x → ⊥
   not_both r v x h s =
@@ -88,39 +65,40 @@ module _ {K V : Type 0} (F : FieldOn K) (Z : ValuationOn F) (M : ModuleOn F.ring
       ∙ ap F.neg (sym (push-at r (F.neg F.one) s.weights) ∙ h.only_zero d e r (omega arith)) ∙ neg_zero F.additive)
 
   module _ (m : ℕ) (C : Coords M m) where
-    pub in_lattice : (n : ℕ) (v : ℕ → V) (x : V) → InSpan L n v x ⊎ (InSpan L n v x → ⊥)
+    pub in_lattice : (n : ℕ) (v : ℕ → V) (x : V) → L n v x ⊎ (L n v x → ⊥)
     in_lattice n v x =
         let B = lattice_basis F Z M m C n v in
         let r = B.rank in
-        let to_basis : InSpan L n v x → InSpan L r B.vec x = InSpan_trans L n r v B.vec x B.spans in
+        let to_basis : L n v x → L r B.vec x = lattice_trans F Z M n r v B.vec x B.spans in
         ⊎_elim
         (λ (s : InSpan M r B.vec x). ⊎_elim
         (λ (h : (i : ℕ) → i < r → IsTrue (Z.integral (s.weights i))). inl
-        (InSpan_trans L r n B.vec v x B.within (over_integers r B.vec x s.weights s.combines h)))
+        (lattice_trans F Z M r n B.vec v x B.within
+        (record { weights = s.weights; passes = h; combines = s.combines })))
         (λ (h : (i : ℕ) × (i < r) × (IsTrue (Z.integral (s.weights i)) → ⊥)). inr (λ t.
         h.2 (integral_weights r B.vec B.independent x (to_basis t) s.weights s.combines h.0 h.1)))
         (all_or_not r (λ i. Z.integral (s.weights i))))
         (λ (h : Independent M (suc r) (push r x B.vec)). inr
-        (λ t. not_both r B.vec x h (over_field r B.vec x (to_basis t))))
+        (λ t. not_both r B.vec x h (lattice_span F Z M r B.vec x (to_basis t))))
         (extend_or_span F M m C r B.vec B.independent x)
 
     pub lattice_test : (n : ℕ) (v : ℕ → V) → V → Bool
     lattice_test n v x = answer (in_lattice n v x)
 
-    pub lattice_test-in : (n : ℕ) (v : ℕ → V) (x : V) → IsTrue (lattice_test n v x) → InSpan L n v x
+    pub lattice_test-in : (n : ℕ) (v : ℕ → V) (x : V) → IsTrue (lattice_test n v x) → L n v x
     unfolding lattice_test
     lattice_test-in n v x = answer-sound (in_lattice n v x)
 
-    pub in-lattice_test : (n : ℕ) (v : ℕ → V) (x : V) → InSpan L n v x → IsTrue (lattice_test n v x)
+    pub in-lattice_test : (n : ℕ) (v : ℕ → V) (x : V) → L n v x → IsTrue (lattice_test n v x)
     unfolding lattice_test
     in-lattice_test n v x = answer-complete (in_lattice n v x)
 
     -- whether a lattice lies in another
-    pub lattice_within : (n : ℕ) (v : ℕ → V) (k : ℕ) (w : ℕ → V) → ((x : V) → InSpan L n v x → InSpan L k w x)
-        ⊎ (((x : V) → InSpan L n v x → InSpan L k w x) → ⊥)
+    pub lattice_within : (n : ℕ) (v : ℕ → V) (k : ℕ) (w : ℕ → V) → ((x : V) → L n v x → L k w x)
+        ⊎ (((x : V) → L n v x → L k w x) → ⊥)
     lattice_within n v k w = ⊎_elim
         (λ (h : (i : ℕ) → i < n → IsTrue (lattice_test k w (v i))). inl
-        (λ x. InSpan_trans L n k v w x (λ i l. lattice_test-in k w (v i) (h i l))))
+        (λ x. lattice_trans F Z M n k v w x (λ i l. lattice_test-in k w (v i) (h i l))))
         (λ (h : (i : ℕ) × (i < n) × (IsTrue (lattice_test k w (v i)) → ⊥)). inr
-        (λ g. h.2 (in-lattice_test k w (v h.0) (g (v h.0) (InSpan-member L n h.0 v h.1)))))
+        (λ g. h.2 (in-lattice_test k w (v h.0) (g (v h.0) (lattice-member F Z M n h.0 v h.1)))))
         (all_or_not n (λ i. lattice_test k w (v i)))
