@@ -11,7 +11,7 @@ use Rattle.theory_spaces.specs.Linear.{InSpan, Basis}
 use Rattle.theory_spaces.specs.Space.{ProductOn}
 use Rattle.theory_spaces.specs.Tuples.{Tuple, tuple_zero, tuple_add, basis, product}
 use Rattle.theory_spaces.proofs.Linear.Modules.{InSpan-zero, InSpan-add}
-use Rattle.theory_spaces.proofs.ProductTraces.{by_left_linear, by_right_linear}
+use Rattle.theory_spaces.proofs.Forms.ProductTraces.{by_left_linear, by_right_linear}
 use Rattle.theory_spaces.proofs.Tuples.Tables.{space_basis}
 use Rattle.theory_spaces.proofs.Tuples.Tuples.{tuples, tuple_space, tuples-zero, tuples-add, unit-basis}
 use Rattle.theory_spaces.proofs.Tuples.TupleProducts.{tuple_product, tuple_product-list, IsTuple-basis}
