@@ -2,7 +2,7 @@
 use Rattle.std.specs.Prelude.{◌≡◌, ◌≢◌, ℕ, ◌+◌, ◌<◌, ◌≤◌, List, [], ◌∷◌, ◌++◌, length, get_or, cond, nat_eq}
 use Rattle.std.proofs.Common.{refl, sym, ◌∙◌, ap, ap₂, subst, arith, ⊎_elim}
 use Rattle.std.proofs.lemmas.Bool.{cases_eq, cases_lt}
-use Rattle.std.proofs.lemmas.List.{get_or_past, get_or_append_left, get_or_push, length_push}
+use Rattle.std.proofs.lemmas.List.{get_or_past, get_or_append_left, get_or_push, get_or_default, length_push}
 use Rattle.theory_rings.specs.Ops.{Ops, IsElem, FieldLaws}
 use Rattle.theory_rings.specs.Elements.{elements}
 use Rattle.theory_rings.specs.Sum.{sum_of, table, at}
@@ -11,6 +11,7 @@ use Rattle.theory_rings.proofs.Rings.RingLaws as ring
 use Rattle.theory_rings.proofs.Rings.Solver.{◌⊠◌, minus, unit, ring2}
 use Rattle.theory_rings.proofs.Sums.Lists.{length-table, get_or-table}
 use Rattle.theory_spaces.specs.Tuples.{IsTuple}
+use Rattle.theory_spaces.proofs.Tuples.Tuples.{IsTuple-table}
 use Rattle.theory_tables.specs.Matrix.{entry, IsMatrix}
 use Rattle.theory_tables.specs.Echelon.{IsReducedEchelon}
 use Rattle.theory_tables.specs.Subspace.{InSpan, SameSpan, IsKilled, SpansKernel}
@@ -86,7 +87,7 @@ module _ {E : Type 0} (o : Ops E) (L : FieldLaws o) where
       (each : length pivots ≡ length rows) (form : IsReducedEchelon o (length rows) rows pivots w)
       (places : List ℕ) (place : (j : ℕ) → j < w → IsPlace pivots j (get_or places j 0)) where
     -- one such vector for each column
-    abbrev pub vectors : List (List E)
+    abbrev vectors : List (List E)
     vectors = table w (λ j. table w (kernel_item o rows places j))
 
     -- item j of the row whose pivot is in column l
@@ -186,7 +187,7 @@ module _ {E : Type 0} (o : Ops E) (L : FieldLaws o) where
         ∙ ap₂ o.add (sum_of-delta_mul o L w j r r_in j_in) (sum_of-delta_mul o L w q (λ _. less) (λ _. less_in) q_in)
         ∙ add-neg o L (r j) (r_in j)
 
-    pub killed : (v : List E) → InSpan o w vectors v → IsKilled o (length rows) w rows v
+    killed : (v : List E) → InSpan o w vectors v → IsKilled o (length rows) w rows v
     killed v s i i_in =
         let r = entry o rows i in
         let r_in = rows_elem i in
@@ -223,7 +224,7 @@ module _ {E : Type 0} (o : Ops E) (L : FieldLaws o) where
         p.past
 
     -- a vector that is sent to 0 is the combination by its own items
-    pub in_kernel : (v : List E) → IsTuple o w v → IsKilled o (length rows) w rows v → InSpan o w vectors v
+    in_kernel : (v : List E) → IsTuple o w v → IsKilled o (length rows) w rows v → InSpan o w vectors v
     in_kernel v tuple k =
         let v_in = at-elem o L v tuple.of_elements in
         let K = elements o L in
@@ -281,7 +282,7 @@ module _ {E : Type 0} (o : Ops E) (L : FieldLaws o) where
         p.past
 
     -- so the vectors for the other columns span the same
-    pub same_vectors : (some : List (List E)) → IsMatrix o w some → AreKernelRows o w rows places w some
+    same_vectors : (some : List (List E)) → IsMatrix o w some → AreKernelRows o w rows places w some
         → SameSpan o w some vectors
     same_vectors some some_shape are =
         let P : List (List E) → List E → Type 0 = λ m row. InSpan o w m row in
@@ -303,13 +304,27 @@ module _ {E : Type 0} (o : Ops E) (L : FieldLaws o) where
         subst (P some) (h.2 ∙ sym row_is) (InSpan-member o L w some some_shape h.0 h.1))
         (cases_lt (get_or places j 0) (length rows)))
 
-    -- of a matrix with the same rows' span, and any rows that span the same as the vectors
-    pub spans_kernel : (a s : List (List E)) → IsMatrix o w a → SameSpan o w a rows → SameSpan o w s vectors
-        → SpansKernel o (length a) w a s
-    spans_kernel a s a_shape same spans v tuple = (
-      (λ x. IsKilled_trans o L w a rows v shape tuple.of_elements (rows_in o L w a rows a_shape same)
-          (killed v ((spans v tuple).0 x))),
-      (λ k. (spans v tuple).1
-          (in_kernel v tuple (IsKilled_trans o L w rows a v a_shape tuple.of_elements
-          (rows_in o L w rows a shape (SameSpan_sym o L w a rows same)) k))),
-    )
+    -- the vectors are a matrix, and span what the rows send to 0
+    pub AreKernelRows-shape : (some : List (List E)) → AreKernelRows o w rows places w some → IsMatrix o w some
+    AreKernelRows-shape some are = λ i d i_in.
+        let h = are.sound i i_in in
+        subst (IsTuple o w) (sym (get_or_default some i d [] i_in ∙ h.2))
+        (IsTuple-table o w (kernel_item o rows places h.0) (λ l _. item-elem h.0 l))
+
+    pub AreKernelRows-kernel : (some : List (List E)) → AreKernelRows o w rows places w some
+        → SpansKernel o (length rows) w rows some
+    AreKernelRows-kernel some are v tuple =
+        let same = same_vectors some (AreKernelRows-shape some are) are v tuple in
+        ((λ x. killed v (same.0 x)), (λ k. same.1 (in_kernel v tuple k)))
+
+  -- what a matrix sends to 0 is what the basis of its rows' span sends to 0
+  pub SpansKernel-same : (w : ℕ) (a rows made s : List (List E)) → IsMatrix o w a → IsMatrix o w rows
+      → SameSpan o w a rows → SpansKernel o (length rows) w rows made → SameSpan o w s made
+      → SpansKernel o (length a) w a s
+  SpansKernel-same w a rows made s a_shape shape same kernel spans v tuple = (
+    (λ x. IsKilled_trans o L w a rows v shape tuple.of_elements (rows_in o L w a rows a_shape same)
+        ((kernel v tuple).0 ((spans v tuple).0 x))),
+    (λ k. (spans v tuple).1
+        ((kernel v tuple).1 (IsKilled_trans o L w rows a v a_shape tuple.of_elements
+        (rows_in o L w rows a shape (SameSpan_sym o L w a rows same)) k))),
+  )

@@ -1,3 +1,4 @@
+pub mod Beside
 pub mod Changes
 pub mod Combinations
 pub mod Forms

@@ -1,21 +1,24 @@
 -- What two spans have in common, by Zassenhaus: the rows of a twice beside each other and those of b beside 0, reduced.
-use Rattle.std.specs.Prelude.{◌≡◌, ◌≢◌, ℕ, ◌+◌, ◌-◌, ◌<◌, ◌≤◌, List, [], ◌++◌, length, get_or, cond, nat_lt}
+use Rattle.std.specs.Prelude.{◌≡◌, ◌≢◌, ℕ, ◌+◌, ◌-◌, ◌<◌, ◌≤◌, Bool, true, false, List, [], ◌++◌, length, get_or, cond, nat_lt}
 use Rattle.std.proofs.Common.{refl, sym, ◌∙◌, ap, ap₂, subst, arith, length-append, ⊎_elim}
 use Rattle.std.proofs.lemmas.Bool.{cases_eq, cases_lt, lt-ltb, le-ltb}
+use Rattle.std.proofs.lemmas.List.{nil_from_length}
+use Rattle.std.proofs.lemmas.List.Elements.{All-nil, All-append}
 use Rattle.theory_rings.specs.Ops.{Ops, IsElem, FieldLaws}
 use Rattle.theory_rings.specs.Elements.{Elem-path, elements}
 use Rattle.theory_rings.specs.Sum.{sum_of, table, at}
 use Rattle.theory_rings.proofs.Rings.Elements.{at-elem, sum_of-elem, sum_of_congr}
 use Rattle.theory_rings.proofs.Rings.RingLaws as ring
 use Rattle.theory_rings.proofs.Rings.Solver.{◌⊠◌, minus, unit, ring2}
-use Rattle.theory_rings.proofs.Sums.Lists.{length-table, get_or-table}
+use Rattle.theory_rings.proofs.Sums.Lists.{length-table, get_or-table, All-table}
 use Rattle.theory_spaces.specs.Tuples.{IsTuple}
 use Rattle.theory_spaces.proofs.Linear.Families.{join, join-below, join-above}
 use Rattle.theory_spaces.proofs.Tuples.Tuples.{at-table, IsTuple-table}
 use Rattle.theory_tables.specs.Matrix.{entry, IsMatrix}
 use Rattle.theory_tables.specs.Echelon.{IsReducedEchelon}
 use Rattle.theory_tables.specs.Subspace.{InSpan, SameSpan, IsReducedBasis, SpansMeet}
-use Rattle.spl_matrix.specs.Spanning.{doubled_item, doubled, right_part}
+use Rattle.spl_matrix.specs.Spanning.{doubled, right_part, IsRightPart}
+use Rattle.spl_matrix.proofs.Beside.{IsTuple-append, at-append_low, at-append_high, zeros-tuple}
 use Rattle.theory_tables.proofs.Rows.Terms.{add-zero, add-neg, mul-zero, zero-mul, cond_yes, cond_no, cond_either}
 use Rattle.theory_tables.proofs.Rows.Sums.{sum_of_zeros, mul-sum_of, entry-elem, table_matrix, entry_table}
 use Rattle.theory_tables.proofs.Rows.Spans.{combined, combined_congr, InSpan-by, InSpan-member, InSpan_trans}
@@ -42,6 +45,10 @@ module _ {E : Type 0} (o : Ops E) (L : FieldLaws o) where
       ∙ (let s_in = sum_of-elem o L (length rows) f (λ i _. f_in i) in
       ap (λ x. x.0) (ring2 K.cring (λ s z. (minus unit ⊠ s, minus s)) refl (sum_of o (length rows) f, s_in) K.zero))
 
+  pub at-cond : (t : Bool) (xs ys : List E) (j : ℕ) → at o (cond t xs ys) j ≡ cond t (at o xs j) (at o ys j)
+  at-cond true xs ys j = refl
+  at-cond false xs ys j = refl
+
   -- where x + y = 0, x = −y
   opposite : (x y : E) → IsElem o x → IsElem o y → o.add x y ≡ o.zero → x ≡ o.neg y
   opposite x y x_in y_in e =
@@ -50,46 +57,60 @@ module _ {E : Type 0} (o : Ops E) (L : FieldLaws o) where
       (Elem-path o (K.◌⊕◌ (y, y_in) (x, x_in)) K.zero (L.add_comm y x y_in x_in ∙ e)))
 
 module _ {E : Type 0} (o : Ops E) (L : FieldLaws o) (w : ℕ) (a b : List (List E)) (sa : IsMatrix o w a)
-    (sb : IsMatrix o w b) (stacked_shape : IsMatrix o w (a ++ b))
-    (twice_shape : IsMatrix o (w + w) (doubled o w (length a) (a ++ b))) where
+    (sb : IsMatrix o w b) where
   abbrev both : List (List E)
   both = a ++ b
 
-  abbrev twice : List (List E)
-  twice = doubled o w (length a) (a ++ b)
+  both_shape : IsMatrix o w both
+  both_shape = All-append (IsTuple o w) a b sa sb
+
+  abbrev zeros : List E
+  zeros = table w (λ _. o.zero)
+
+  abbrev pub twice : List (List E)
+  twice = doubled zeros (length a) (a ++ b)
+
+  abbrev half : ℕ → List E
+  half m = cond (nat_lt m (length a)) (get_or both m []) zeros
 
   twice_length : length twice ≡ length a + length b
-  twice_length = length-table (length both)
-      (λ i. table (w + w) (doubled_item o w (nat_lt i (length a)) (get_or both i []))) ∙ length-append a b
+  twice_length = length-table (length both) (λ i. get_or both i [] ++ half i) ∙ length-append a b
 
-  twice_at : (m j : ℕ) → m < length a + length b → j < w + w
-      → entry o twice m j ≡ doubled_item o w (nat_lt m (length a)) (get_or both m []) j
-  twice_at m j m_in j_in =
+  pub twice_shape : IsMatrix o (w + w) twice
+  twice_shape =
+      All-table (IsTuple o (w + w)) (length both) (λ i. get_or both i [] ++ half i) (λ i i_in.
+      let row = both_shape i [] i_in in
+      IsTuple-append o w w (get_or both i []) (half i) row
+      (cond_either (IsTuple o w) (nat_lt i (length a)) (get_or both i []) zeros row (zeros-tuple o L w)))
+
+  twice_row : (m : ℕ) → m < length a + length b → get_or twice m [] ≡ get_or both m [] ++ half m
+  twice_row m m_in =
       let long = length-append a b in
       let m_in' : m < length both = omega arith in
-      entry_table o L (length both) (w + w)
-      (λ i. doubled_item o w (nat_lt i (length a)) (get_or both i [])) m j m_in' j_in
+      get_or-table (length both) (λ i. get_or both i [] ++ half i) m [] m_in'
+
+  row_length : (m : ℕ) → m < length a + length b → length (get_or both m []) ≡ w
+  row_length m m_in =
+      let long = length-append a b in
+      let m_in' : m < length both = omega arith in
+      (both_shape m [] m_in').right_length
 
   twice_low : (m j : ℕ) → m < length a + length b → j < w → entry o twice m j ≡ entry o both m j
   twice_low m j m_in j_in =
-      let j_in' : j < w + w = omega arith in
-      twice_at m j m_in j_in'
-      ∙ ap (λ t. cond t (entry o both m j) (cond (nat_lt m (length a)) (entry o both m (j - w)) o.zero))
-      (lt-ltb j w j_in)
+      ap (λ (row : List E). at o row j) (twice_row m m_in)
+      ∙ at-append_low o w (get_or both m []) (half m) j (row_length m m_in) j_in
 
   twice_high : (m j : ℕ) → m < length a + length b → j < w
       → entry o twice m (w + j) ≡ cond (nat_lt m (length a)) (entry o both m j) o.zero
   twice_high m j m_in j_in =
-      let j_in' : w + j < w + w = omega arith in
-      let j_high : w ≤ w + j = omega arith in
-      let back : w + j - w ≡ j = omega arith in
-      twice_at m (w + j) m_in j_in'
-      ∙ ap (λ t. cond t (entry o both m (w + j)) (cond (nat_lt m (length a)) (entry o both m (w + j - w)) o.zero))
-      (le-ltb (w + j) w j_high)
-      ∙ ap (λ k. cond (nat_lt m (length a)) (entry o both m k) o.zero) back
+      let t = nat_lt m (length a) in
+      ap (λ (row : List E). at o row (w + j)) (twice_row m m_in)
+      ∙ at-append_high o w (get_or both m []) (half m) j (row_length m m_in)
+      ∙ at-cond o L t (get_or both m []) zeros j
+      ∙ ap (cond t (entry o both m j)) (at-table o w (λ _. o.zero) j j_in)
 
   both_in : (i j : ℕ) → IsElem o (entry o both i j)
-  both_in = entry-elem o L w both stacked_shape
+  both_in = entry-elem o L w both both_shape
 
   twice_in : (i j : ℕ) → IsElem o (entry o twice i j)
   twice_in = entry-elem o L (w + w) twice twice_shape
@@ -351,32 +372,48 @@ module _ {E : Type 0} (o : Ops E) (L : FieldLaws o) (w : ℕ) (a b : List (List 
           (λ (h : InSpan o w a v × InSpan o w b v). in_common v tuple h.0 h.1),
         )
 
--- the same, as the calls give it
-pub meet_of : {E : Type 0} (o : Ops E) (L : FieldLaws o) (w : ℕ) (a b stacked twice rows found : List (List E))
-    (pivots : List ℕ) (p n k : ℕ) → IsMatrix o w a → IsMatrix o w b
-    → IsMatrix o w stacked → stacked ≡ a ++ b → p ≡ length a → IsMatrix o (w + w) twice
-    → twice ≡ doubled o w p stacked → n ≡ w + w
-    → IsMatrix o n rows → length pivots ≡ length rows → IsReducedEchelon o (length rows) rows pivots n
-    → SameSpan o n twice rows
-    → k ≤ length pivots → ((s : ℕ) → s < k → get_or pivots s 0 < w) → (k < length pivots → w ≤ get_or pivots k 0)
-    → found ≡ right_part o w k rows → IsReducedBasis o w found × SpansMeet o w found a b
-meet_of {E} o L w a b stacked twice rows found pivots p n k sa sb stacked_shape stacked_is p_is twice_shape twice_is
-    n_is shape each form same k_in below above found_is =
-    let S : List (List E) → Type 0 = λ m. IsMatrix o w m in
-    let stacked_shape' = subst S stacked_is stacked_shape in
-    let d = doubled o w (length a) (a ++ b) in
-    let twice_is' : twice ≡ d = twice_is ∙ ap₂ (λ (q : ℕ) (m : List (List E)). doubled o w q m) p_is stacked_is in
-    let T : List (List E) → Type 0 = λ m. IsMatrix o (w + w) m in
-    let twice_shape' = subst T twice_is' twice_shape in
-    let N : ℕ → Type 0 = λ n. IsMatrix o n rows in
-    let shape' = subst N n_is shape in
-    let R : ℕ → Type 0 = λ n. IsReducedEchelon o (length rows) rows pivots n in
-    let form' = subst R n_is form in
-    let Q : ℕ → Type 0 = λ n. SameSpan o n twice rows in
-    let U : List (List E) → Type 0 = λ m. SameSpan o (w + w) m rows in
-    let same' = subst U twice_is' (subst Q n_is same) in
-    let P : List (List E) → Type 0 = λ m. IsReducedBasis o w m × SpansMeet o w m a b in
-    subst P (sym found_is) (
-      common_basis o L w a b sa sb stacked_shape' twice_shape' rows pivots shape' each form' same' k k_in below above,
-      common_meet o L w a b sa sb stacked_shape' twice_shape' rows pivots shape' each form' same' k k_in below above,
-    )
+-- no rows are a basis
+IsReducedBasis-nil : {E : Type 0} (o : Ops E) (w : ℕ) → IsReducedBasis o w []
+IsReducedBasis-nil o w = record {
+  shape = All-nil (IsTuple o w);
+  pivots = [];
+  each = refl;
+  reduced = record {
+    count = omega arith;
+    below = λ s s_in. absurd (omega arith);
+    order = λ s t s_lt t_in. absurd (omega arith);
+    unit = λ s i s_in i_in. absurd (omega arith);
+    left = λ s j s_in j_low. absurd (omega arith);
+    rest = λ i j i_high i_in j_low. absurd (omega arith);
+  };
+}
+
+module _ {E : Type 0} (o : Ops E) (L : FieldLaws o) (w : ℕ) (a b : List (List E)) (sa : IsMatrix o w a)
+    (sb : IsMatrix o w b) where
+  -- the right part of the basis of the rows beside each other
+  pub meet_of : (rows part : List (List E)) → IsMatrix o (w + w) rows → SameSpan o (w + w) (twice o L w a b sa sb) rows
+      → IsRightPart o w rows part → IsReducedBasis o w part × SpansMeet o w part a b
+  meet_of rows part shape same p =
+      let P : List (List E) → Type 0 = λ m. IsReducedBasis o w m × SpansMeet o w m a b in
+      subst P (sym p.part_is) (
+        common_basis o L w a b sa sb rows p.pivots shape p.each p.reduced same p.k p.within p.below p.above,
+        common_meet o L w a b sa sb rows p.pivots shape p.each p.reduced same p.k p.within p.below p.above,
+      )
+
+  -- no rows
+  pub meet_none : (part : List (List E)) → part ≡ [] → length (twice o L w a b sa sb) ≡ 0
+      → IsReducedBasis o w part × SpansMeet o w part a b
+  meet_none part none e =
+      let both_none : length (a ++ b) ≡ 0 = sym (length-table (length (a ++ b)) _) ∙ e in
+      let long = length-append a b in
+      let a_none : length a ≡ 0 = omega arith in
+      let b_none : length b ≡ 0 = omega arith in
+      let a_is : a ≡ [] = nil_from_length a a_none in
+      let b_is : b ≡ [] = nil_from_length b b_none in
+      let B : List (List E) → Type 0 = λ m. IsReducedBasis o w m in
+      let P : List (List E) → Type 0 = λ m. SpansMeet o w m a b in
+      let Q : List (List E) → Type 0 = λ m. SpansMeet o w [] m b in
+      let R : List (List E) → Type 0 = λ m. SpansMeet o w [] [] m in (
+        subst B (sym none) (IsReducedBasis-nil o w),
+        subst P (sym none) (subst Q (sym a_is) (subst R (sym b_is) (λ v tuple. ((λ h. (h, h)), (λ h. h.0))))),
+      )

@@ -1,6 +1,7 @@
 -- Membership in a subspace by its pivots, and the sum of two subspaces.
 use Rattle.std.specs.Prelude.{◌≡◌, ◌↔◌, ℕ, ◌<◌, Bool, IsTrue, List, ◌++◌, length, get_or}
 use Rattle.std.proofs.Common.{sym, ◌∙◌, ap, subst, arith}
+use Rattle.std.proofs.lemmas.List.Elements.{All-append}
 use Rattle.theory_rings.specs.Ops.{Ops, FieldLaws}
 use Rattle.theory_rings.specs.Sum.{table, at}
 use Rattle.theory_spaces.specs.Tuples.{IsTuple}
@@ -54,11 +55,8 @@ module _ {E : Type 0} (o : Ops E) (L : FieldLaws o) where
             ∙ ap (λ m. combined o L m (at o c') j) (sym rows_is))),
       )
 
-  pub sum_of_spans : (w : ℕ) (a b stacked rows : List (List E)) → IsMatrix o w a → IsMatrix o w b
-      → IsMatrix o w stacked → stacked ≡ a ++ b → SameSpan o w rows stacked → SpansSum o w rows a b
-  sum_of_spans w a b stacked rows sa sb shape is same v t =
-      let S : List (List E) → Type 0 = λ m. IsMatrix o w m in
-      let P : List (List E) → Type 0 = λ m. SameSpan o w rows m in
-      let same' = subst P is same in
-      let sums = spans_sum o L w a b sa sb (subst S is shape) in
-      ((λ x. (sums v t).0 ((same' v t).0 x)), (λ x. (same' v t).1 ((sums v t).1 x)))
+  pub sum_of_spans : (w : ℕ) (a b rows : List (List E)) → IsMatrix o w a → IsMatrix o w b
+      → SameSpan o w rows (a ++ b) → SpansSum o w rows a b
+  sum_of_spans w a b rows sa sb same v t =
+      let sums = spans_sum o L w a b sa sb (All-append (IsTuple o w) a b sa sb) in
+      ((λ x. (sums v t).0 ((same v t).0 x)), (λ x. (same v t).1 ((sums v t).1 x)))

@@ -1,7 +1,6 @@
 -- The steps of the elimination, and what it leaves.
-use Rattle.std.proofs.Common.{◌≡◌, ◌≢◌, inl, inr, ℕ, ◌+◌, ◌<◌, ◌≤◌, List, [], ◌∷◌, ◌++◌, length, get_or, cond, nat_eq}
-use Rattle.std.proofs.Common.{nat_lt, refl, sym, ap, ap₂, subst, ◌∙◌, arith}
-use Rattle.std.proofs.lemmas.Bool.{cases_eq, lt-ltb, le-ltb}
+use Rattle.std.proofs.Common.{◌≡◌, inl, inr, ℕ, ◌+◌, ◌<◌, List, [], ◌∷◌, ◌++◌, length, get_or, take, cond, nat_eq}
+use Rattle.std.proofs.Common.{refl, sym, ap, ap₂, subst, ◌∙◌, arith}
 use Rattle.theory_rings.specs.Ops.{Ops, FieldLaws}
 use Rattle.theory_rings.specs.Sum.{sum_of, table, at}
 use Rattle.theory_rings.proofs.Rings.Elements.{at-elem, sum_of_congr}
@@ -10,15 +9,17 @@ use Rattle.theory_spaces.specs.Tuples.{IsTuple}
 use Rattle.theory_spaces.proofs.Tuples.Tuples.{IsTuple-table}
 use Rattle.theory_tables.specs.Matrix.{entry, product, IsMatrix}
 use Rattle.spl_matrix.specs.Elimination.{lead_of, reduced_by, pivoted_row, pivoted, IsStep, Combines, IsEliminated}
-use Rattle.spl_matrix.specs.Elimination.{augmented_item, augmented, columns}
+use Rattle.spl_matrix.specs.Elimination.{identity_row, augmented, columns}
+use Rattle.spl_matrix.proofs.Beside.{at-append_low, at-append_high, columns-shape}
 use Rattle.theory_tables.specs.Echelon.{IsReducedEchelon, IsEchelon, IsInvertible}
-use Rattle.theory_tables.specs.Subspace.{SameSpan}
+use Rattle.theory_tables.specs.Subspace.{SameSpan, IsReducedBasis}
 use Rattle.spl_matrix.proofs.Combinations.{sum_of-mul_delta, Combines-refl, Combines-trans, pivoted_forth, pivoted_back}
 use Rattle.spl_matrix.proofs.Forms.{form_after, form_skipped}
 use Rattle.theory_tables.proofs.Rows.Inverses.{IsInverse-left}
 use Rattle.spl_matrix.proofs.Pivots.{lead_of-tuple}
-use Rattle.theory_tables.proofs.Rows.Spans.{InSpan-by, SameSpan-by}
-use Rattle.theory_tables.proofs.Rows.Terms.{cond_yes, cond_no, cond_either}
+use Rattle.theory_tables.proofs.Rows.Spans.{InSpan-by, SameSpan-by, SameSpan_trans}
+use Rattle.theory_tables.proofs.Rows.PivotRows.{kept_shape, kept_length, kept_form, kept_same}
+use Rattle.theory_tables.proofs.Rows.Terms.{cond_either}
 use Rattle.theory_tables.proofs.Rows.Sums.{entry-elem, table_matrix, entry_table}
 
 module _ {E : Type 0} (o : Ops E) (L : FieldLaws o) where
@@ -93,7 +94,7 @@ module _ {E : Type 0} (o : Ops E) (L : FieldLaws o) where
   ]
 
   -- the rows before and after have the same combinations
-  pub same_span : (n w : ℕ) (a b : List (List E)) (pivots : List ℕ) → IsMatrix o n a
+  same_span : (n w : ℕ) (a b : List (List E)) (pivots : List ℕ) → IsMatrix o n a
       → IsEliminated o (length a) n w a b pivots → SameSpan o n a b
   same_span n w a b pivots shape e =
       let P : ℕ → Type 0 = λ h. Combines o h n b a in
@@ -106,21 +107,40 @@ module _ {E : Type 0} (o : Ops E) (L : FieldLaws o) where
       InSpan-by o L n a (get_or b i []) (e.forth.weight i) (e.forth.weight-elem i)
       (λ j j_in. sym (e.forth.combines i j i_in' j_in)))
 
-  cond_low : (j w : ℕ) (x y : E) → j < w → cond (nat_lt j w) x y ≡ x
-  cond_low j w x y h = rw (lt-ltb j w h) refl
+  -- the transform stands after the first w columns
+  unit_after : (h w : ℕ) (a : List (List E)) (m k : ℕ) → length a ≡ h → IsMatrix o w a → m < h → k < h
+      → entry o (augmented o h a) m (w + k) ≡ cond (nat_eq k m) o.one o.zero
+  unit_after h w a m k long shape m_in k_in =
+      let m_in' : m < length a = omega arith in
+      let row = get_or a m [] in
+      ap (λ xs. at o xs (w + k)) (get_or-table h (λ i. get_or a i [] ++ identity_row o h i) m [] m_in)
+      ∙ at-append_high o w row (identity_row o h m) k (shape m [] m_in').right_length
+      ∙ get_or-table h (λ l. cond (nat_eq l m) o.one o.zero) k o.zero k_in
 
-  cond_high : (j w : ℕ) (x y : E) → w ≤ j → cond (nat_lt j w) x y ≡ y
-  cond_high j w x y h = rw (le-ltb j w h) refl
+  same_before : (h w : ℕ) (a : List (List E)) (m j : ℕ) → length a ≡ h → IsMatrix o w a → m < h → j < w
+      → entry o (augmented o h a) m j ≡ entry o a m j
+  same_before h w a m j long shape m_in j_in =
+      let m_in' : m < length a = omega arith in
+      let row = get_or a m [] in
+      ap (λ xs. at o xs j) (get_or-table h (λ i. get_or a i [] ++ identity_row o h i) m [] m_in)
+      ∙ at-append_low o w row (identity_row o h m) j (shape m [] m_in').right_length j_in
 
-  after_width : (w k i : ℕ) (row : List E) → augmented_item o w row i (w + k) ≡ cond (nat_eq k i) o.one o.zero
-  after_width w k i row =
-      cond_high (w + k) w (at o row (w + k)) (cond (nat_eq (w + k) (w + i)) o.one o.zero) (omega arith)
-      ∙ elim (cases_eq k i) [
-        | inl e ↦ let f : w + k ≡ w + i = omega arith in cond_yes (w + k) (w + i) o.one o.zero f
-            ∙ sym (cond_yes k i o.one o.zero e)
-        | inr d ↦ let f : w + k ≢ w + i = omega arith in cond_no (w + k) (w + i) o.one o.zero f
-            ∙ sym (cond_no k i o.one o.zero d)
-      ]
+  -- the rows with a pivot are a basis of the span
+  pub basis_after : (w : ℕ) (rows new : List (List E)) (pivots : List ℕ) → IsMatrix o w rows
+      → IsEliminated o (length rows) w w rows new pivots
+      → IsReducedBasis o w (take (length pivots) new) × SameSpan o w rows (take (length pivots) new)
+  basis_after w rows new pivots shape e =
+      let P : ℕ → Type 0 = λ h. IsReducedEchelon o h new pivots w in
+      let form : IsReducedEchelon o (length new) new pivots w = subst P (sym e.height) e.reduced in (
+        record {
+          shape = kept_shape o L w new pivots e.shape form;
+          pivots = pivots;
+          each = sym (kept_length o L w new pivots e.shape form);
+          reduced = kept_form o L w new pivots e.shape form;
+        },
+        SameSpan_trans o L w rows new (take (length pivots) new) (same_span w w rows new pivots shape e)
+            (kept_same o L w new pivots e.shape form),
+      )
 
   entry_columns : (h k n : ℕ) (rows : List (List E)) (i j : ℕ) → i < h → j < n
       → entry o (columns o h k n rows) i j ≡ entry o rows i (k + j)
@@ -150,9 +170,9 @@ module _ {E : Type 0} (o : Ops E) (L : FieldLaws o) where
     rest = λ i j i_high i_in j_low. entry_left h w rows i j i_in j_low ∙ form.rest i j i_high i_in j_low;
   }
 
-  invertible : (h w : ℕ) (a rows transform : List (List E)) → IsMatrix o h transform
-      → Combines o h (w + h) rows (augmented o h w a) → transform ≡ columns o h w h rows → IsInvertible o h transform
-  invertible h w a rows transform transform_shape undo e =
+  invertible : (h w : ℕ) (a rows transform : List (List E)) → length a ≡ h → IsMatrix o w a → IsMatrix o h transform
+      → Combines o h (w + h) rows (augmented o h a) → transform ≡ columns o h w h rows → IsInvertible o h transform
+  invertible h w a rows transform long shape transform_shape undo e =
       let u : List (List E) = table h (λ i. table h (undo.weight i)) in
       let u_shape : IsMatrix o h u = table_matrix o L h h undo.weight undo.weight-elem in
       let left : (i j : ℕ) → i < h → j < h
@@ -163,8 +183,7 @@ module _ {E : Type 0} (o : Ops E) (L : FieldLaws o) where
       ap₂ o.mul (entry_table o L h h undo.weight i k i_in k_in)
       (ap (λ m. entry o m k j) e ∙ entry_columns h w h rows k j k_in j_in))
       ∙ undo.combines i (w + j) i_in j_all
-      ∙ entry_table o L h (w + h) (λ i. augmented_item o w (get_or a i []) i) i (w + j) i_in j_all
-      ∙ after_width w j i (get_or a i []) in
+      ∙ unit_after h w a i j long shape i_in j_in in
       record {
         inverse = u;
         is_inverse =
@@ -172,56 +191,44 @@ module _ {E : Type 0} (o : Ops E) (L : FieldLaws o) where
             (length-table h (λ i. table h (undo.weight i))) transform_shape left;
       }
 
-  -- the transform stands after the first w columns
-  unit_after : (h w : ℕ) (a : List (List E)) (m k : ℕ) → m < h → k < h
-      → entry o (augmented o h w a) m (w + k) ≡ cond (nat_eq k m) o.one o.zero
-  unit_after h w a m k m_in k_in =
-      let k_all : w + k < w + h = omega arith in
-      entry_table o L h (w + h) (λ i. augmented_item o w (get_or a i []) i) m (w + k) m_in k_all
-      ∙ after_width w k m (get_or a m [])
-
-  same_before : (h w : ℕ) (a : List (List E)) (m j : ℕ) → m < h → j < w
-      → entry o (augmented o h w a) m j ≡ entry o a m j
-  same_before h w a m j m_in j_in =
-      let j_all : j < w + h = omega arith in
-      entry_table o L h (w + h) (λ i. augmented_item o w (get_or a i []) i) m j m_in j_all
-      ∙ cond_low j w (entry o a m j) (cond (nat_eq j (w + m)) o.one o.zero) j_in
-
-  transform_at : (h w : ℕ) (a rows : List (List E)) (e : Combines o h (w + h) (augmented o h w a) rows) (i k : ℕ)
+  transform_at : (h w : ℕ) (a rows : List (List E)) → length a ≡ h → IsMatrix o w a
+      → (e : Combines o h (w + h) (augmented o h a) rows) (i k : ℕ)
       → i < h → k < h → entry o rows i (w + k) ≡ e.weight i k
-  transform_at h w a rows e i k i_in k_in =
+  transform_at h w a rows long shape e i k i_in k_in =
       let k_all : w + k < w + h = omega arith in
       sym (e.combines i (w + k) i_in k_all)
-      ∙ sum_of_congr o h _ _ (λ m m_in. ap (o.mul (e.weight i m)) (unit_after h w a m k m_in k_in))
+      ∙ sum_of_congr o h _ _ (λ m m_in. ap (o.mul (e.weight i m)) (unit_after h w a m k long shape m_in k_in))
       ∙ sum_of-mul_delta o L h k (e.weight i) (e.weight-elem i) k_in
 
-  transforms : (h w : ℕ) (a rows : List (List E)) → Combines o h (w + h) (augmented o h w a) rows → (i j : ℕ) → i < h
-      → j < w
+  transforms : (h w : ℕ) (a rows : List (List E)) → length a ≡ h → IsMatrix o w a
+      → Combines o h (w + h) (augmented o h a) rows → (i j : ℕ) → i < h → j < w
       → sum_of o h (λ k. o.mul (entry o rows i (w + k)) (entry o a k j)) ≡ entry o rows i j
-  transforms h w a rows e i j i_in j_in =
+  transforms h w a rows long shape e i j i_in j_in =
       let j_all : j < w + h = omega arith in
       sum_of_congr o h _ _ (λ k k_in.
-      ap₂ o.mul (transform_at h w a rows e i k i_in k_in) (sym (same_before h w a k j k_in j_in)))
+      ap₂ o.mul (transform_at h w a rows long shape e i k i_in k_in) (sym (same_before h w a k j long shape k_in j_in)))
       ∙ e.combines i j i_in j_all
 
   pub finish : (h w : ℕ) (a rows left : List (List E)) (pivots : List ℕ) (transform : List (List E))
-      → IsEliminated o h (w + h) w (augmented o h w a) rows pivots
-      → IsMatrix o w left → IsMatrix o h transform → left ≡ columns o h 0 w rows → transform ≡ columns o h w h rows
+      → length a ≡ h → IsMatrix o w a → IsEliminated o h (w + h) w (augmented o h a) rows pivots
+      → left ≡ columns o h 0 w rows → transform ≡ columns o h w h rows
       → IsEchelon o h w a left pivots transform
-  finish h w a rows left pivots transform e left_shape transform_shape left_is transform_is = record {
-    rows_shape = left_shape;
-    rows_height = ap length left_is ∙ length-table h _;
-    transform_shape = transform_shape;
-    transform_height = ap length transform_is ∙ length-table h _;
-    reduced = let Q = λ (m : List (List E)). IsReducedEchelon o h m pivots w in
-        subst Q (sym left_is) (form_left h w rows pivots e.reduced);
-    makes =
-        ap (λ t. product o h h w t a) transform_is
-        ∙ table_congr h _ _ (λ i i_in. table_congr w _ _ (λ j j_in.
-        let f : j ≡ 0 + j = omega arith in
-        sum_of_congr o h _ _ (λ k k_in. ap (λ x. o.mul x (entry o a k j)) (entry_columns h w h rows i k i_in k_in))
-        ∙ transforms h w a rows e.forth i j i_in j_in
-        ∙ ap (entry o rows i) f))
-        ∙ sym left_is;
-    invertible = invertible h w a rows transform transform_shape e.back transform_is;
-  }
+  finish h w a rows left pivots transform long shape e left_is transform_is =
+      let S = λ (n : ℕ) (m : List (List E)). IsMatrix o n m in
+      let transform_shape = subst (S h) (sym transform_is) (columns-shape o L h w h (w + h) rows e.shape) in record {
+        rows_shape = subst (S w) (sym left_is) (columns-shape o L h 0 w (w + h) rows e.shape);
+        rows_height = ap length left_is ∙ length-table h _;
+        transform_shape = transform_shape;
+        transform_height = ap length transform_is ∙ length-table h _;
+        reduced = let Q = λ (m : List (List E)). IsReducedEchelon o h m pivots w in
+            subst Q (sym left_is) (form_left h w rows pivots e.reduced);
+        makes =
+            ap (λ t. product o h h w t a) transform_is
+            ∙ table_congr h _ _ (λ i i_in. table_congr w _ _ (λ j j_in.
+            let f : j ≡ 0 + j = omega arith in
+            sum_of_congr o h _ _ (λ k k_in. ap (λ x. o.mul x (entry o a k j)) (entry_columns h w h rows i k i_in k_in))
+            ∙ transforms h w a rows long shape e.forth i j i_in j_in
+            ∙ ap (entry o rows i) f))
+            ∙ sym left_is;
+        invertible = invertible h w a rows transform long shape transform_shape e.back transform_is;
+      }

@@ -1,6 +1,5 @@
 -- A step of the elimination, on the rows of a matrix.
 use Rattle.std.specs.Prelude.{◌≡◌, ◌≢◌, ◌⊎◌, ◌+◌, ◌<◌, ◌≤◌, ℕ, List, [], ◌∷◌, ◌++◌, length, get_or, cond, nat_eq}
-use Rattle.std.specs.Prelude.{nat_lt}
 use Rattle.theory_rings.specs.Ops.{Ops, IsElem}
 use Rattle.theory_rings.specs.Sum.{sum_of, table, at}
 use Rattle.theory_tables.specs.Matrix.{entry, IsMatrix}
@@ -53,13 +52,13 @@ module _ {E : Type 0} (o : Ops E) where
   IsStep h n col rows rows' pivots pivots' = Skips h col rows rows' pivots pivots'
       ⊎ Pivots h n col rows rows' pivots pivots'
 
-  -- item j of row i with row i of the identity after it
-  abbrev pub augmented_item : ℕ → List E → ℕ → ℕ → E
-  augmented_item w row i j = cond (nat_lt j w) (at o row j) (cond (nat_eq j (w + i)) o.one o.zero)
+  -- the row of n items with one at place i, and else zero
+  abbrev pub identity_row : ℕ → ℕ → List E
+  identity_row n i = table n (λ l. cond (nat_eq l i) o.one o.zero)
 
-  -- the matrix with the identity after it
-  abbrev pub augmented : ℕ → ℕ → List (List E) → List (List E)
-  augmented h w a = table h (λ i. table (w + h) (augmented_item w (get_or a i []) i))
+  -- the h rows with the identity after them
+  abbrev pub augmented : ℕ → List (List E) → List (List E)
+  augmented h a = table h (λ i. get_or a i [] ++ identity_row h i)
 
   -- the n columns from k on
   abbrev pub columns : ℕ → ℕ → ℕ → List (List E) → List (List E)

@@ -1,15 +1,20 @@
 -- The vectors and matrices that the calls on subspaces make on their way.
-use Rattle.std.specs.Prelude.{◌≡◌, ◌≢◌, ◌⊎◌, ◌+◌, ◌-◌, ◌<◌, ◌≤◌, ℕ, Bool, List, [], length, get_or, cond, nat_eq}
+use Rattle.std.specs.Prelude.{◌≡◌, ◌≢◌, ◌⊎◌, ◌+◌, ◌-◌, ◌<◌, ◌≤◌, ℕ, List, [], ◌++◌, length, get_or, cond, nat_eq}
 use Rattle.std.specs.Prelude.{nat_lt}
 use Rattle.theory_rings.specs.Ops.{Ops}
 use Rattle.theory_rings.specs.Sum.{table, at}
 use Rattle.theory_tables.specs.Matrix.{entry}
+use Rattle.theory_tables.specs.Echelon.{IsReducedEchelon}
 
 -- x is the place of j in the list, or the length of the list where j isn't in it
 pub record IsPlace (xs : List ℕ) (j x : ℕ) : Type 0 where
   pub before : (s : ℕ) → s < x → get_or xs s 0 ≢ j
   pub here : x < length xs → get_or xs x 0 ≡ j
   pub past : (x < length xs) ⊎ (x ≡ length xs)
+
+-- the matrix whose first p rows stand twice beside each other, and the others beside these zeros
+abbrev pub doubled : {E : Type 0} → List E → ℕ → List (List E) → List (List E)
+doubled zeros p rows = table (length rows) (λ i. get_or rows i [] ++ cond (nat_lt i p) (get_or rows i []) zeros)
 
 module _ {E : Type 0} (o : Ops E) where
   -- p is the first place of the row with an item that is not 0, or the end of the row
@@ -30,14 +35,17 @@ module _ {E : Type 0} (o : Ops E) where
     pub complete : (j : ℕ) → j < n → length rows ≤ get_or places j 0 → (i : ℕ) × (i < length vectors)
         × (get_or vectors i [] ≡ table w (kernel_item rows places j))
 
-  -- item j of the row with the row after it, or 0
-  abbrev pub doubled_item : ℕ → Bool → List E → ℕ → E
-  doubled_item w twice row j = cond (nat_lt j w) (at o row j) (cond twice (at o row (j - w)) o.zero)
-
-  -- the matrix whose first p rows stand twice beside each other, and the others beside 0
-  abbrev pub doubled : ℕ → ℕ → List (List E) → List (List E)
-  doubled w p rows = table (length rows) (λ i. table (w + w) (doubled_item w (nat_lt i p) (get_or rows i [])))
-
   -- the rows from k on, from column w on
   abbrev pub right_part : ℕ → ℕ → List (List E) → List (List E)
   right_part w k rows = table (length rows - k) (λ i. table w (λ j. entry o rows (k + i) (w + j)))
+
+  -- the rows of a reduced form of w + w columns whose pivots are not left of column w, from column w on
+  pub record IsRightPart (w : ℕ) (rows part : List (List E)) : Type 0 where
+    pub pivots : List ℕ
+    pub k : ℕ
+    pub each : length pivots ≡ length rows
+    pub reduced : IsReducedEchelon o (length rows) rows pivots (w + w)
+    pub within : k ≤ length pivots
+    pub below : (s : ℕ) → s < k → get_or pivots s 0 < w
+    pub above : k < length pivots → w ≤ get_or pivots k 0
+    pub part_is : part ≡ right_part w k rows

@@ -1,5 +1,5 @@
 // Bases in reduced row echelon form: the rows with a pivot, their pivots, and the combinations of the rows.
-ghost use Rattle.std.specs.Prelude.{◌≡◌, ◌≢◌, ◌<◌, ◌≤◌, ◌↔◌, ℕ, List, [], length, get_or, IfOk, IsTrue, All};
+ghost use Rattle.std.specs.Prelude.{◌≡◌, ◌<◌, ◌↔◌, ℕ, length, get_or, IfOk, IsTrue, All};
 ghost use Rattle.theory_rings.specs.Ops.{IsElem};
 ghost use Rattle.theory_rings.specs.Sum.{sum_of, table, at};
 ghost use Rattle.theory_spaces.specs.Tuples.{IsTuple};
@@ -8,8 +8,8 @@ ghost use Rattle.theory_tables.specs.Echelon.{IsReducedEchelon};
 ghost use Rattle.theory_tables.specs.Subspace.{SameSpan, IsReducedBasis};
 ghost use Rattle.spl_matrix.specs.Spanning.{IsLeadingPlace};
 
-use crate::matrix::Indices;
-use crate::reduced::{Reduced, reduced_rows};
+use crate::elimination::eliminate;
+use crate::matrix::{Indices, Matrix};
 use crate::rows::add_product;
 use spl_field::field::{Field, NoMemory};
 use spl_field::list::{List, Vector};
@@ -20,17 +20,16 @@ pub(crate) fn basis_of<F: Field>(
     alloc: Global,
     f: &F,
     w: usize,
-    rows: &[Vector<F>],
-) -> Result<Reduced<F>, NoMemory>
-    requires shape { IsMatrix (F.ops f.now) w rows.now }
-    ensures shape { IfOk result (λ r. IsMatrix (F.ops f.now) w r.rows) }
-    ensures each { IfOk result (λ r. length r.pivots ≡ length r.rows) }
-    ensures reduced { IfOk result (λ r. IsReducedEchelon (F.ops f.now) (length r.rows) r.rows r.pivots w) }
-    ensures same { IfOk result (λ r. SameSpan (F.ops f.now) w rows.now r.rows) }
+    rows: Vec<Vector<F>>,
+) -> Result<Matrix<F>, NoMemory>
+    requires { IsMatrix (F.ops f.now) w rows.items }
+    ensures basis { IfOk result (IsReducedBasis (F.ops f.now) w) }
+    ensures same { IfOk result (SameSpan (F.ops f.now) w rows.items) }
 {
-    let Reduced { mut rows, pivots } = reduced_rows(alloc, f, w, rows)?;
-    rows.truncate(pivots.len());
-    Ok(Reduced { rows, pivots })
+    let mut changed = rows;
+    let pivots = eliminate(alloc, f, w, w, &mut changed)?;
+    changed.truncate(pivots.len());
+    Ok(Matrix::from_rows(changed))
 }
 
 /// The first place of the row with an item that is not 0, or the end of the row.

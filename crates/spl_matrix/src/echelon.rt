@@ -1,18 +1,16 @@
 // The reduced row echelon form.
-ghost use Rattle.std.specs.Prelude.{◌≡◌, ◌≢◌, ◌+◌, ◌^◌, ◌<◌, ◌≤◌, ◌↔◌, ℕ, List, [], ◌∷◌, ◌++◌, length, IfOk, IfSome};
-ghost use Rattle.std.specs.Prelude.{OnOk, OnErr, MatchOption, get_or, All};
+ghost use Rattle.std.specs.Prelude.{◌≡◌, ◌+◌, ◌≤◌, length, IfOk, All};
 ghost use Rattle.theory_rings.specs.Ops.{IsElem};
-ghost use Rattle.theory_rings.specs.Sum.{sum_of, table, at};
-ghost use Rattle.theory_spaces.specs.Tuples.{IsTuple};
-ghost use Rattle.theory_tables.specs.Matrix.{entry, IsMatrix, width_of};
+ghost use Rattle.theory_rings.specs.Sum.{table, at};
+ghost use Rattle.theory_tables.specs.Matrix.{IsMatrix, width_of};
 ghost use Rattle.theory_tables.specs.Echelon.{IsEchelon};
 ghost use Rattle.spl_matrix.specs.Elimination.{columns};
 
-use crate::elimination::{augmented_of, eliminate};
+use crate::elimination::{augmented_of, augmented_width, eliminate};
 use crate::matrix::{Indices, Matrix};
 use spl_field::field::{Field, NoMemory};
 use spl_field::list::{List, Vector};
-use std::alloc::{AllocError, Global};
+use std::alloc::Global;
 
 /// A reduced row echelon form.
 #[derive(Drop)]
@@ -22,6 +20,7 @@ pub struct Echelon<F: Field> {
     pub transform: Matrix<F>,
 }
 
+/// These `count` items of the row from place `from` on.
 fn part_of<F: Field>(
     alloc: Global,
     f: &F,
@@ -31,8 +30,7 @@ fn part_of<F: Field>(
 ) -> Result<Vector<F>, NoMemory>
     requires row { All (IsElem (F.ops f.now)) row.now }
     requires within { from + count ≤ length row.now }
-    ensures elem { IfOk result (IsTuple (F.ops f.now) count) }
-    ensures value { IfOk result (λ r. r ≡ table count (λ j. at (F.ops f.now) row.now (from + j))) }
+    ensures { IfOk result (λ r. r ≡ table count (λ j. at (F.ops f.now) row.now (from + j))) }
 {
     let mut items = List::new(alloc);
     for j in 0..count {
@@ -41,7 +39,8 @@ fn part_of<F: Field>(
     Ok(items)
 }
 
-fn columns_of<F: Field>(
+/// These `count` columns from column `from` on.
+pub(crate) fn columns_of<F: Field>(
     alloc: Global,
     f: &F,
     n: usize,
@@ -51,15 +50,14 @@ fn columns_of<F: Field>(
 ) -> Result<Matrix<F>, NoMemory>
     requires shape { IsMatrix (F.ops f.now) n rows.now }
     requires within { from + count ≤ n }
-    ensures elem { IfOk result (IsMatrix (F.ops f.now) count) }
-    ensures value { IfOk result (λ r. r ≡ columns (F.ops f.now) (length rows.now) from count rows.now) }
+    ensures { IfOk result (λ r. r ≡ columns (F.ops f.now) (length rows.now) from count rows.now) }
 {
-    let mut out = Matrix::new(alloc);
+    let mut out = Vec::with_capacity(alloc, rows.len())?;
     for i in 0..rows.len() {
         let row = part_of(alloc, f, rows[i].as_slice(), from, count)?;
         out.push(row)?;
     }
-    Ok(out)
+    Ok(Matrix::from_rows(out))
 }
 
 /// The reduced row echelon form of the matrix a with w columns.
@@ -70,14 +68,13 @@ pub(crate) fn echelon_of<F: Field>(
     a: &[Vector<F>],
 ) -> Result<Echelon<F>, NoMemory>
     requires shape { IsMatrix (F.ops f.now) w a.now }
-    requires fits { w + length a.now < 2 ^ 64 }
     ensures { IfOk result (λ e. IsEchelon (F.ops f.now) (length a.now) w a.now e.rows e.pivots e.transform) }
 {
-    let h = a.len();
     let mut rows = augmented_of(alloc, f, w, a)?;
-    let pivots = eliminate(alloc, f, w + h, w, &mut rows)?;
-    let left = columns_of(alloc, f, w + h, rows.as_slice(), 0, w)?;
-    let transform = columns_of(alloc, f, w + h, rows.as_slice(), w, h)?;
+    let n = augmented_width(w, rows.as_slice());
+    let pivots = eliminate(alloc, f, n, w, &mut rows)?;
+    let left = columns_of(alloc, f, n, rows.as_slice(), 0, w)?;
+    let transform = columns_of(alloc, f, n, rows.as_slice(), w, a.len())?;
     Ok(Echelon {
         rows: left,
         pivots,
@@ -92,10 +89,6 @@ impl<F: Field> Matrix<F> {
         ensures { IfOk result (λ e.
             IsEchelon (F.ops f.now) (length self.now) (width_of self.now) self.now e.rows e.pivots e.transform) }
     {
-        let w = self.width();
-        match w.checked_add(self.len()) {
-            Some(_) => echelon_of(alloc, f, w, self.as_slice()),
-            None => Err(NoMemory::from(AllocError)),
-        }
+        echelon_of(alloc, f, self.width(), self.as_slice())
     }
 }

@@ -1,15 +1,14 @@
 // The elimination, in place: the pivot of one column after the other is moved to its row and cleared from the other
 // rows.
-ghost use Rattle.std.specs.Prelude.{◌≡◌, ◌≢◌, ◌+◌, ◌^◌, ◌<◌, ◌≤◌, ℕ, List, [], length, IfOk, OnOk, MatchOption};
-ghost use Rattle.std.specs.Prelude.{get_or, All};
+ghost use Rattle.std.specs.Prelude.{◌≡◌, ◌≢◌, ◌+◌, ◌<◌, ◌≤◌, ℕ, [], length, IfOk, OnOk, MatchOption, get_or, All, ◌++◌};
 ghost use Rattle.theory_rings.specs.Ops.{IsElem};
-ghost use Rattle.theory_rings.specs.Sum.{table, at};
+ghost use Rattle.theory_rings.specs.Sum.{table};
 ghost use Rattle.theory_spaces.specs.Tuples.{IsTuple};
 ghost use Rattle.theory_tables.specs.Matrix.{entry, IsMatrix};
-ghost use Rattle.spl_matrix.specs.Elimination.{cleared_row, pivoted, IsStep, IsEliminated, augmented_item, augmented};
+ghost use Rattle.spl_matrix.specs.Elimination.{cleared_row, pivoted, IsStep, IsEliminated, identity_row, augmented};
 
 use crate::matrix::Indices;
-use crate::rows::{divide, reduce};
+use crate::rows::{divide, identity_row, joined, reduce};
 use spl_field::field::{Field, NoMemory};
 use spl_field::list::{List, Vector};
 use std::alloc::Global;
@@ -133,49 +132,6 @@ pub(crate) fn eliminate<F: Field>(
     Ok(pivots)
 }
 
-fn augmented_item_of<F: Field>(
-    alloc: Global,
-    f: &F,
-    w: usize,
-    row: &[F::Elem],
-    i: usize,
-    j: usize,
-) -> Result<F::Elem, NoMemory>
-    requires row { IsTuple (F.ops f.now) w row.now }
-    requires fits { w + i < 2 ^ 64 }
-    ensures elem { IfOk result (IsElem (F.ops f.now)) }
-    ensures value { IfOk result (λ r. r ≡ augmented_item (F.ops f.now) w row.now i j) }
-{
-    if j < w {
-        f.copy(alloc, &row[j])
-    } else if j == w + i {
-        f.one(alloc)
-    } else {
-        f.zero(alloc)
-    }
-}
-
-fn augmented_row<F: Field>(
-    alloc: Global,
-    f: &F,
-    w: usize,
-    h: usize,
-    row: &[F::Elem],
-    i: usize,
-) -> Result<Vector<F>, NoMemory>
-    requires row { IsTuple (F.ops f.now) w row.now }
-    requires place { i < h }
-    requires fits { w + h < 2 ^ 64 }
-    ensures elem { IfOk result (IsTuple (F.ops f.now) (w + h)) }
-    ensures value { IfOk result (λ r. r ≡ table (w + h) (augmented_item (F.ops f.now) w row.now i)) }
-{
-    let mut items = List::new(alloc);
-    for j in 0..w + h {
-        items.push(augmented_item_of(alloc, f, w, row, i, j)?)?;
-    }
-    Ok(items)
-}
-
 /// The matrix with the identity after it.
 pub(crate) fn augmented_of<F: Field>(
     alloc: Global,
@@ -183,15 +139,38 @@ pub(crate) fn augmented_of<F: Field>(
     w: usize,
     a: &[Vector<F>],
 ) -> Result<Vec<Vector<F>>, NoMemory>
-    requires shape { IsMatrix (F.ops f.now) w a.now }
-    requires fits { w + length a.now < 2 ^ 64 }
-    ensures elem { IfOk result (λ r. IsMatrix (F.ops f.now) (w + length a.now) r.items) }
-    ensures value { IfOk result (λ r. r.items ≡ augmented (F.ops f.now) (length a.now) w a.now) }
+    requires { IsMatrix (F.ops f.now) w a.now }
+    ensures { IfOk result (λ r. r.items ≡ augmented (F.ops f.now) (length a.now) a.now) }
 {
     let mut rows = Vec::with_capacity(alloc, a.len())?;
     for i in 0..a.len() {
-        let row = augmented_row(alloc, f, w, a.len(), a[i].as_slice(), i)?;
-        rows.push(row)?;
+        rows.push(augmented_row(alloc, f, a.len(), &a[i], i)?)?;
     }
     Ok(rows)
+}
+
+/// The row with row i of the h by h identity after it.
+fn augmented_row<F: Field>(
+    alloc: Global,
+    f: &F,
+    h: usize,
+    row: &Vector<F>,
+    i: usize,
+) -> Result<Vector<F>, NoMemory>
+    requires { All (IsElem (F.ops f.now)) row.now }
+    ensures { IfOk result (λ r. r ≡ row.now ++ identity_row (F.ops f.now) h i) }
+{
+    let unit = identity_row(alloc, f, h, i)?;
+    joined(alloc, f, row, unit.as_slice())
+}
+
+/// The number of columns of a matrix with w columns and the identity after it, which is read off its rows.
+pub(crate) fn augmented_width<T: Drop>(w: usize, rows: &[List<T>]) -> usize
+    requires { All (λ row. length row ≡ w + length rows.now) rows.now }
+    ensures { result ≡ w + length rows.now }
+{
+    match rows.first() {
+        Some(row) => row.len(),
+        None => w,
+    }
 }

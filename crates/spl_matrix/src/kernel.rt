@@ -1,21 +1,21 @@
 // The vectors that a matrix sends to 0.
-ghost use Rattle.std.specs.Prelude.{◌≡◌, ◌+◌, ◌<◌, ◌≤◌, ℕ, List, [], length, get_or, cond, nat_eq, IfOk, All};
+ghost use Rattle.std.specs.Prelude.{◌≡◌, ◌+◌, ◌<◌, ◌≤◌, ℕ, length, get_or, IfOk, OnOk, All};
 ghost use Rattle.theory_rings.specs.Ops.{IsElem};
 ghost use Rattle.theory_rings.specs.Sum.{table};
-ghost use Rattle.theory_spaces.specs.Tuples.{IsTuple};
 ghost use Rattle.theory_tables.specs.Matrix.{IsMatrix, width_of};
-ghost use Rattle.theory_tables.specs.Subspace.{IsSubspace, SpansKernel};
+ghost use Rattle.theory_tables.specs.Subspace.{IsReducedBasis, IsSubspace, SpansKernel};
 ghost use Rattle.spl_matrix.specs.Spanning.{IsPlace, kernel_item, AreKernelRows};
 
-use crate::basis::basis_of;
-use crate::matrix::{Indices, Matrix};
+use crate::basis::{basis_of, pivots_of};
+use crate::matrix::{Indices, Matrix, copied};
+use crate::rows::unit_item;
 use crate::subspace::{Subspace, span_of};
 use spl_field::field::{Field, NoMemory};
 use spl_field::list::{List, Vector};
 use std::alloc::Global;
 
 /// The place of j in the list, or the length of the list where j isn't in it.
-fn place_of(indices: &[usize], j: usize) -> usize
+pub(crate) fn place_of(indices: &[usize], j: usize) -> usize
     ensures { IsPlace indices.now j result }
 {
     for s in 0..indices.len() {
@@ -36,14 +36,6 @@ fn places_of(alloc: Global, indices: &[usize], w: usize) -> Result<Indices, NoMe
         places.push(place_of(indices, j))?;
     }
     Ok(places)
-}
-
-/// Item l of the vector with 1 at place j, and else 0.
-fn unit_item<F: Field>(alloc: Global, f: &F, l: usize, j: usize) -> Result<F::Elem, NoMemory>
-    ensures elem { IfOk result (IsElem (F.ops f.now)) }
-    ensures value { IfOk result (λ r. r ≡ cond (nat_eq l j) (F.ops f.now).one (F.ops f.now).zero) }
-{
-    if l == j { f.one(alloc) } else { f.zero(alloc) }
 }
 
 fn kernel_item_of<F: Field>(
@@ -82,8 +74,7 @@ fn kernel_row_of<F: Field>(
     requires shape { IsMatrix (F.ops f.now) w rows.now }
     requires places { length places.now ≡ w }
     requires column { j < w }
-    ensures elem { IfOk result (IsTuple (F.ops f.now) w) }
-    ensures value { IfOk result (λ r. r ≡ table w (kernel_item (F.ops f.now) rows.now places.now j)) }
+    ensures { IfOk result (λ r. r ≡ table w (kernel_item (F.ops f.now) rows.now places.now j)) }
 {
     let mut items = List::new(alloc);
     for l in 0..w {
@@ -92,31 +83,26 @@ fn kernel_row_of<F: Field>(
     Ok(items)
 }
 
-/// The rows, and after them the vector for column j if it has no pivot.
-fn with_kernel_row<F: Field>(
+/// Appends the vector for column j, if the column has no pivot.
+fn add_kernel_row<F: Field>(
     alloc: Global,
     f: &F,
     w: usize,
     rows: &[Vector<F>],
     places: &[usize],
     j: usize,
-    vectors: Matrix<F>,
-) -> Result<Matrix<F>, NoMemory>
+    vectors: &mut Vec<Vector<F>>,
+) -> Result<(), NoMemory>
     requires shape { IsMatrix (F.ops f.now) w rows.now }
     requires places { length places.now ≡ w }
     requires column { j < w }
-    requires vectors_shape { IsMatrix (F.ops f.now) w vectors }
-    requires vectors { AreKernelRows (F.ops f.now) w rows.now places.now j vectors }
-    ensures shape { IfOk result (IsMatrix (F.ops f.now) w) }
-    ensures vectors { IfOk result (AreKernelRows (F.ops f.now) w rows.now places.now (j + 1)) }
+    requires vectors { AreKernelRows (F.ops f.now) w rows.now places.now j vectors.old.items }
+    ensures { OnOk result (AreKernelRows (F.ops f.now) w rows.now places.now (j + 1) vectors.new.items) }
 {
-    if places[j] < rows.len() {
-        return Ok(vectors);
+    if places[j] >= rows.len() {
+        vectors.push(kernel_row_of(alloc, f, w, rows, places, j)?)?;
     }
-    let mut more = vectors;
-    let row = kernel_row_of(alloc, f, w, rows, places, j)?;
-    more.push(row)?;
-    Ok(more)
+    Ok(())
 }
 
 /// One vector for each column without a pivot.
@@ -126,17 +112,32 @@ fn kernel_rows_of<F: Field>(
     w: usize,
     rows: &[Vector<F>],
     places: &[usize],
-) -> Result<Matrix<F>, NoMemory>
+) -> Result<Vec<Vector<F>>, NoMemory>
     requires shape { IsMatrix (F.ops f.now) w rows.now }
     requires places { length places.now ≡ w }
-    ensures shape { IfOk result (IsMatrix (F.ops f.now) w) }
-    ensures vectors { IfOk result (AreKernelRows (F.ops f.now) w rows.now places.now w) }
+    ensures { IfOk result (λ r. AreKernelRows (F.ops f.now) w rows.now places.now w r.items) }
 {
-    let mut vectors = Matrix::new(alloc);
+    let mut vectors = Vec::new(alloc);
     for j in 0..w {
-        vectors = with_kernel_row(alloc, f, w, rows, places, j, vectors)?;
+        add_kernel_row(alloc, f, w, rows, places, j, &mut vectors)?;
     }
     Ok(vectors)
+}
+
+/// One vector for each column without a pivot, of a basis in reduced row echelon form.
+fn kernel_vectors<F: Field>(
+    alloc: Global,
+    f: &F,
+    w: usize,
+    rows: &[Vector<F>],
+) -> Result<Vec<Vector<F>>, NoMemory>
+    requires { IsReducedBasis (F.ops f.now) w rows.now }
+    ensures shape { IfOk result (λ r. IsMatrix (F.ops f.now) w r.items) }
+    ensures kernel { IfOk result (λ r. SpansKernel (F.ops f.now) (length rows.now) w rows.now r.items) }
+{
+    let pivots = pivots_of(alloc, f, w, rows)?;
+    let places = places_of(alloc, pivots.as_slice(), w)?;
+    kernel_rows_of(alloc, f, w, rows, places.as_slice())
 }
 
 /// The vectors that a matrix with w columns sends to 0.
@@ -151,10 +152,9 @@ fn kernel_of<F: Field>(
     ensures width { IfOk result (λ s. s.width ≡ w) }
     ensures members { IfOk result (λ s. SpansKernel (F.ops f.now) (length rows.now) w rows.now s.rows) }
 {
-    let e = basis_of(alloc, f, w, rows)?;
-    let places = places_of(alloc, e.pivots.as_slice(), w)?;
-    let vectors = kernel_rows_of(alloc, f, w, e.rows.as_slice(), places.as_slice())?;
-    span_of(alloc, f, w, vectors.as_slice())
+    let basis = basis_of(alloc, f, w, copied(alloc, f, rows)?)?;
+    let vectors = kernel_vectors(alloc, f, w, basis.as_slice())?;
+    span_of(alloc, f, w, vectors)
 }
 
 impl<F: Field> Matrix<F> {

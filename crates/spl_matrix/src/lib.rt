@@ -12,7 +12,6 @@ pub mod laws;
 pub mod lists;
 pub mod matrix;
 mod meet;
-mod reduced;
 pub mod rows;
 pub mod solve;
 pub mod subspace;

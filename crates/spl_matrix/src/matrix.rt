@@ -1,6 +1,6 @@
 // Matrices, as lists of rows of one length, and lists of indices.
 ghost use Rattle.std.specs.Prelude.{◌≡◌, ◌<◌, ◌≤◌, ◌↔◌, List, [], ◌∷◌, ◌++◌, length, IfOk, IfSome, OnOk, OnErr};
-ghost use Rattle.std.specs.Prelude.{slice_index_or, All, take};
+ghost use Rattle.std.specs.Prelude.{slice_index_or, All};
 ghost use Rattle.theory_rings.specs.Ops.{IsElem};
 ghost use Rattle.theory_tables.specs.Matrix.{width_of, trace_of, IsMatrix, IsRectangular};
 
@@ -96,11 +96,8 @@ impl<F: Field> Matrix<F> {
         requires { All (All (IsElem (F.ops f.now))) self.now }
         ensures { IfOk result (λ v. v ≡ self.now) }
     {
-        let mut rows = Vec::with_capacity(alloc, self.rows.len())?;
-        for row in &self.rows {
-            rows.push(row.copy(alloc, f)?)?;
-        }
-        Ok(Matrix { rows })
+        let rows = copied(alloc, f, self.rows.as_slice())?;
+        Ok(Matrix::from_rows(rows))
     }
 
     /// The matrix of these rows, which have one length.
@@ -109,13 +106,6 @@ impl<F: Field> Matrix<F> {
         ensures { result ≡ rows.items }
     {
         Matrix { rows }
-    }
-
-    /// Drops the rows from place n on.
-    pub(crate) fn truncate(&mut self, n: usize)
-        ensures { self.new ≡ take n self.old }
-    {
-        self.rows.truncate(n);
     }
 
     /// The sum of the diagonal of a square matrix.
@@ -128,6 +118,22 @@ impl<F: Field> Matrix<F> {
         let _ = self.width();
         diagonal_sum(alloc, f, self.as_slice())
     }
+}
+
+/// Equal rows.
+pub(crate) fn copied<F: Field>(
+    alloc: Global,
+    f: &F,
+    rows: &[Vector<F>],
+) -> Result<Vec<Vector<F>>, NoMemory>
+    requires { All (All (IsElem (F.ops f.now))) rows.now }
+    ensures { IfOk result (λ r. r.items ≡ rows.now) }
+{
+    let mut out = Vec::with_capacity(alloc, rows.len())?;
+    for i in 0..rows.len() {
+        out.push(rows[i].copy(alloc, f)?)?;
+    }
+    Ok(out)
 }
 
 /// The sum of the diagonal of these rows, each as long as there are rows.

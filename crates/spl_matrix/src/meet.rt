@@ -1,100 +1,91 @@
 // The rows of two matrices together, and what their spans have in common.
-ghost use Rattle.std.specs.Prelude.{◌≡◌, ◌+◌, ◌-◌, ◌^◌, ◌<◌, ◌≤◌, ℕ, List, [], ◌++◌, length, get_or, nat_lt, IfOk, All};
+ghost use Rattle.std.specs.Prelude.{◌≡◌, ◌+◌, ◌<◌, ◌≤◌, ℕ, ◌++◌, length, get_or, cond, IfOk, All};
 ghost use Rattle.theory_rings.specs.Ops.{IsElem};
-ghost use Rattle.theory_rings.specs.Sum.{table, at};
-ghost use Rattle.theory_spaces.specs.Tuples.{IsTuple};
-ghost use Rattle.theory_tables.specs.Matrix.{entry, IsMatrix};
+ghost use Rattle.theory_rings.specs.Sum.{table};
+ghost use Rattle.theory_tables.specs.Matrix.{IsMatrix};
 ghost use Rattle.theory_tables.specs.Subspace.{IsReducedBasis, SpansMeet};
-ghost use Rattle.spl_matrix.specs.Spanning.{doubled_item, doubled, right_part};
+ghost use Rattle.spl_matrix.specs.Spanning.{doubled, IsRightPart};
 
-use crate::basis::basis_of;
-use crate::matrix::Matrix;
+use crate::basis::{basis_of, pivots_of};
+use crate::echelon::columns_of;
+use crate::matrix::{Matrix, copied};
+use crate::rows::{joined, zeros};
 use spl_field::field::{Field, NoMemory};
-use spl_field::list::{List, Vector};
-use std::alloc::{AllocError, Global};
+use spl_field::list::Vector;
+use std::alloc::Global;
 
 /// The rows of a, and after them those of b.
 pub(crate) fn stacked<F: Field>(
     alloc: Global,
     f: &F,
-    w: usize,
-    a: &Matrix<F>,
+    a: &[Vector<F>],
     b: &[Vector<F>],
-) -> Result<Matrix<F>, NoMemory>
-    requires left { IsMatrix (F.ops f.now) w a.now }
-    requires right { IsMatrix (F.ops f.now) w b.now }
-    ensures shape { IfOk result (IsMatrix (F.ops f.now) w) }
-    ensures value { IfOk result (λ m. m ≡ a.now ++ b.now) }
+) -> Result<Vec<Vector<F>>, NoMemory>
+    requires left { All (All (IsElem (F.ops f.now))) a.now }
+    requires right { All (All (IsElem (F.ops f.now))) b.now }
+    ensures { IfOk result (λ r. r.items ≡ a.now ++ b.now) }
 {
-    let mut rows = a.copy(alloc, f)?;
+    let mut rows = copied(alloc, f, a)?;
     for i in 0..b.len() {
-        let row = b[i].copy(alloc, f)?;
-        rows.push(row)?;
+        rows.push(b[i].copy(alloc, f)?)?;
     }
     Ok(rows)
 }
 
-fn doubled_item_of<F: Field>(
-    alloc: Global,
-    f: &F,
-    w: usize,
-    twice: bool,
-    row: &[F::Elem],
-    j: usize,
-) -> Result<F::Elem, NoMemory>
-    requires row { IsTuple (F.ops f.now) w row.now }
-    requires column { j < w + w }
-    ensures elem { IfOk result (IsElem (F.ops f.now)) }
-    ensures value { IfOk result (λ r. r ≡ doubled_item (F.ops f.now) w twice row.now j) }
-{
-    if j < w {
-        return f.copy(alloc, &row[j]);
-    }
-    if twice {
-        return f.copy(alloc, &row[j - w]);
-    }
-    f.zero(alloc)
-}
-
-/// The row with itself after it, or 0.
+/// The row with itself after it, or with these zeros.
 fn doubled_row<F: Field>(
     alloc: Global,
     f: &F,
-    w: usize,
+    zeros: &[F::Elem],
     twice: bool,
-    row: &[F::Elem],
+    row: &Vector<F>,
 ) -> Result<Vector<F>, NoMemory>
-    requires row { IsTuple (F.ops f.now) w row.now }
-    requires fits { w + w < 2 ^ 64 }
-    ensures elem { IfOk result (IsTuple (F.ops f.now) (w + w)) }
-    ensures value { IfOk result (λ r. r ≡ table (w + w) (doubled_item (F.ops f.now) w twice row.now)) }
+    requires row { All (IsElem (F.ops f.now)) row.now }
+    requires zeros { All (IsElem (F.ops f.now)) zeros.now }
+    ensures { IfOk result (λ r. r ≡ row.now ++ cond twice row.now zeros.now) }
 {
-    let mut items = List::new(alloc);
-    for j in 0..w + w {
-        items.push(doubled_item_of(alloc, f, w, twice, row, j)?)?;
+    if twice {
+        joined(alloc, f, row, row.as_slice())
+    } else {
+        joined(alloc, f, row, zeros)
     }
-    Ok(items)
 }
 
 /// The matrix whose first p rows stand twice beside each other, and the others beside 0.
 fn doubled_of<F: Field>(
     alloc: Global,
     f: &F,
-    w: usize,
+    zeros: &[F::Elem],
     p: usize,
     rows: &[Vector<F>],
-) -> Result<Matrix<F>, NoMemory>
-    requires shape { IsMatrix (F.ops f.now) w rows.now }
-    requires fits { w + w < 2 ^ 64 }
-    ensures shape { IfOk result (IsMatrix (F.ops f.now) (w + w)) }
-    ensures value { IfOk result (λ m. m ≡ doubled (F.ops f.now) w p rows.now) }
+) -> Result<Vec<Vector<F>>, NoMemory>
+    requires rows { All (All (IsElem (F.ops f.now))) rows.now }
+    requires zeros { All (IsElem (F.ops f.now)) zeros.now }
+    ensures { IfOk result (λ r. r.items ≡ doubled zeros.now p rows.now) }
 {
-    let mut out = Matrix::new(alloc);
+    let mut out = Vec::with_capacity(alloc, rows.len())?;
     for i in 0..rows.len() {
-        let row = doubled_row(alloc, f, w, i < p, rows[i].as_slice())?;
-        out.push(row)?;
+        out.push(doubled_row(alloc, f, zeros, i < p, &rows[i])?)?;
     }
     Ok(out)
+}
+
+/// The rows of a, each beside itself, and after them those of b, each beside 0.
+fn zassenhaus<F: Field>(
+    alloc: Global,
+    f: &F,
+    w: usize,
+    a: &[Vector<F>],
+    b: &[Vector<F>],
+) -> Result<Vec<Vector<F>>, NoMemory>
+    requires left { IsMatrix (F.ops f.now) w a.now }
+    requires right { IsMatrix (F.ops f.now) w b.now }
+    ensures { IfOk result (λ r. r.items ≡ doubled (table w (λ _. (F.ops f.now).zero)) (length a.now)
+        (a.now ++ b.now)) }
+{
+    let rows = stacked(alloc, f, a, b)?;
+    let zeros = zeros(alloc, f, w)?;
+    doubled_of(alloc, f, zeros.as_slice(), a.len(), rows.as_slice())
 }
 
 /// The number of indices below w before the first that is not.
@@ -111,43 +102,21 @@ fn count_below(indices: &[usize], w: usize) -> usize
     indices.len()
 }
 
-/// The w items from place w on.
-fn right_half<F: Field>(
+/// The rows of a reduced form with n = 2w columns whose left half is 0, without that half.
+fn right_part<F: Field>(
     alloc: Global,
     f: &F,
     w: usize,
-    row: &[F::Elem],
-) -> Result<Vector<F>, NoMemory>
-    requires row { IsTuple (F.ops f.now) (w + w) row.now }
-    ensures elem { IfOk result (IsTuple (F.ops f.now) w) }
-    ensures value { IfOk result (λ r. r ≡ table w (λ j. at (F.ops f.now) row.now (w + j))) }
-{
-    let mut items = List::new(alloc);
-    for j in 0..w {
-        items.push(f.copy(alloc, &row[w + j])?)?;
-    }
-    Ok(items)
-}
-
-/// The rows from k on, from column w on.
-fn right_part_of<F: Field>(
-    alloc: Global,
-    f: &F,
-    w: usize,
-    k: usize,
+    n: usize,
     rows: &[Vector<F>],
 ) -> Result<Matrix<F>, NoMemory>
-    requires shape { IsMatrix (F.ops f.now) (w + w) rows.now }
-    requires from { k ≤ length rows.now }
-    ensures shape { IfOk result (IsMatrix (F.ops f.now) w) }
-    ensures value { IfOk result (λ m. m ≡ right_part (F.ops f.now) w k rows.now) }
+    requires basis { IsReducedBasis (F.ops f.now) n rows.now }
+    requires width { n ≡ w + w }
+    ensures { IfOk result (IsRightPart (F.ops f.now) w rows.now) }
 {
-    let mut out = Matrix::new(alloc);
-    for i in 0..rows.len() - k {
-        let row = right_half(alloc, f, w, rows[k + i].as_slice())?;
-        out.push(row)?;
-    }
-    Ok(out)
+    let pivots = pivots_of(alloc, f, n, rows)?;
+    let k = count_below(pivots.as_slice(), w);
+    columns_of(alloc, f, n, &rows[k..], w, w)
 }
 
 /// The basis of what the spans of the rows of a and of b have in common, by Zassenhaus: each row of a stands twice
@@ -157,7 +126,7 @@ pub(crate) fn meet_rows<F: Field>(
     alloc: Global,
     f: &F,
     w: usize,
-    a: &Matrix<F>,
+    a: &[Vector<F>],
     b: &[Vector<F>],
 ) -> Result<Matrix<F>, NoMemory>
     requires left { IsMatrix (F.ops f.now) w a.now }
@@ -165,14 +134,12 @@ pub(crate) fn meet_rows<F: Field>(
     ensures basis { IfOk result (IsReducedBasis (F.ops f.now) w) }
     ensures members { IfOk result (λ m. SpansMeet (F.ops f.now) w m a.now b.now) }
 {
-    match w.checked_add(w) {
-        Some(n) => {
-            let rows = stacked(alloc, f, w, a, b)?;
-            let twice = doubled_of(alloc, f, w, a.len(), rows.as_slice())?;
-            let e = basis_of(alloc, f, n, twice.as_slice())?;
-            let k = count_below(e.pivots.as_slice(), w);
-            right_part_of(alloc, f, w, k, e.rows.as_slice())
-        }
-        None => Err(NoMemory::from(AllocError)),
+    let twice = zassenhaus(alloc, f, w, a, b)?;
+    let h = twice.len();
+    if h == 0 {
+        return Ok(Matrix::new(alloc));
     }
+    let n = twice[0].len();
+    let rows = basis_of(alloc, f, n, twice)?;
+    right_part(alloc, f, w, n, rows.as_slice())
 }

@@ -1,10 +1,10 @@
-// Rows: their multiples, their sums, the sums of their products, and rows that are changed in place.
-ghost use Rattle.std.specs.Prelude.{◌≡◌, ◌≢◌, ◌<◌, List, length, IfOk, OnOk, All};
+// Rows: rows one after the other, the sums of their products, and rows that are changed in place.
+ghost use Rattle.std.specs.Prelude.{◌≡◌, ◌≢◌, ◌<◌, ◌++◌, length, cond, nat_eq, IfOk, OnOk, All};
 ghost use Rattle.theory_rings.specs.Ops.{IsElem};
 ghost use Rattle.theory_rings.specs.Sum.{table, at};
 ghost use Rattle.theory_spaces.specs.Tuples.{IsTuple};
 ghost use Rattle.theory_tables.specs.Matrix.{dot};
-ghost use Rattle.spl_matrix.specs.Elimination.{divided, reduced_by};
+ghost use Rattle.spl_matrix.specs.Elimination.{divided, reduced_by, identity_row};
 
 use spl_field::field::{Field, NoMemory};
 use spl_field::list::{List, Vector};
@@ -56,6 +56,64 @@ pub(crate) fn dot_of<F: Field>(
         sum = f.add(alloc, &sum, &term)?;
     }
     Ok(sum)
+}
+
+/// Two rows, one after the other.
+pub(crate) fn joined<F: Field>(
+    alloc: Global,
+    f: &F,
+    left: &Vector<F>,
+    right: &[F::Elem],
+) -> Result<Vector<F>, NoMemory>
+    requires left { All (IsElem (F.ops f.now)) left.now }
+    requires right { All (IsElem (F.ops f.now)) right.now }
+    ensures { IfOk result (λ r. r ≡ left.now ++ right.now) }
+{
+    let mut items = left.copy(alloc, f)?;
+    for j in 0..right.len() {
+        items.push(f.copy(alloc, &right[j])?)?;
+    }
+    Ok(items)
+}
+
+/// Item l of the row with 1 at place j, and else 0.
+pub(crate) fn unit_item<F: Field>(
+    alloc: Global,
+    f: &F,
+    l: usize,
+    j: usize,
+) -> Result<F::Elem, NoMemory>
+    ensures elem { IfOk result (IsElem (F.ops f.now)) }
+    ensures value { IfOk result (λ r. r ≡ cond (nat_eq l j) (F.ops f.now).one (F.ops f.now).zero) }
+{
+    if l == j { f.one(alloc) } else { f.zero(alloc) }
+}
+
+/// The row of n items with 1 at place i, and else 0.
+pub(crate) fn identity_row<F: Field>(
+    alloc: Global,
+    f: &F,
+    n: usize,
+    i: usize,
+) -> Result<Vector<F>, NoMemory>
+    ensures { IfOk result (λ r. r ≡ identity_row (F.ops f.now) n i) }
+{
+    let mut items = List::new(alloc);
+    for l in 0..n {
+        items.push(unit_item(alloc, f, l, i)?)?;
+    }
+    Ok(items)
+}
+
+/// The row of n zeros.
+pub(crate) fn zeros<F: Field>(alloc: Global, f: &F, n: usize) -> Result<Vector<F>, NoMemory>
+    ensures { IfOk result (λ r. r ≡ table n (λ _. (F.ops f.now).zero)) }
+{
+    let mut items = List::new(alloc);
+    for _l in 0..n {
+        items.push(f.zero(alloc)?)?;
+    }
+    Ok(items)
 }
 
 /// c·row

@@ -1,5 +1,5 @@
 // Linear systems.
-ghost use Rattle.std.specs.Prelude.{◌≡◌, ◌≢◌, ◌+◌, ◌^◌, ◌<◌, ◌≤◌, ℕ, List, length, IfOk, MatchOption, get_or, All};
+ghost use Rattle.std.specs.Prelude.{◌≡◌, ◌≢◌, ◌<◌, ◌≤◌, ℕ, length, IfOk, MatchOption, All};
 ghost use Rattle.theory_rings.specs.Ops.{IsElem};
 ghost use Rattle.theory_rings.specs.Sum.{table, at};
 ghost use Rattle.theory_spaces.specs.Tuples.{IsTuple};
@@ -9,11 +9,12 @@ ghost use Rattle.spl_matrix.specs.Solution.{IsSolution};
 ghost use Rattle.theory_tables.specs.Solve.{IsSolved, IsRefuted, IsScattered};
 
 use crate::echelon::{Echelon, echelon_of};
+use crate::kernel::place_of;
 use crate::matrix::Matrix;
 use crate::rows::{dot_of, scaled};
 use spl_field::field::{Field, NoMemory};
 use spl_field::list::{List, Vector};
-use std::alloc::{AllocError, Global};
+use std::alloc::Global;
 
 /// m·v
 fn image_of<F: Field>(
@@ -56,6 +57,7 @@ fn find_nonzero<F: Field>(
     Ok(None)
 }
 
+/// Item j of the tuple with c_s at the place of pivot s, and 0 elsewhere.
 fn scattered_item<F: Field>(
     alloc: Global,
     f: &F,
@@ -68,12 +70,12 @@ fn scattered_item<F: Field>(
     ensures elem { IfOk result (IsElem (F.ops f.now)) }
     ensures value { IfOk result (IsScattered (F.ops f.now) pivots.now c.now j) }
 {
-    for s in 0..pivots.len() {
-        if pivots[s] == j {
-            return f.copy(alloc, &c[s]);
-        }
+    let s = place_of(pivots, j);
+    if s < pivots.len() {
+        f.copy(alloc, &c[s])
+    } else {
+        f.zero(alloc)
     }
-    f.zero(alloc)
 }
 
 /// The tuple with c_s at the place of pivot s, and 0 elsewhere.
@@ -115,7 +117,6 @@ fn solve_of<F: Field>(
 ) -> Result<Solution<F>, NoMemory>
     requires shape { IsMatrix (F.ops f.now) w a.now }
     requires right { IsTuple (F.ops f.now) (length a.now) right.now }
-    requires fits { w + length a.now < 2 ^ 64 }
     ensures { IfOk result (IsSolution (F.ops f.now) (length a.now) w a.now right.now) }
 {
     let e = echelon_of(alloc, f, w, a)?;
@@ -168,10 +169,6 @@ impl<F: Field> Matrix<F> {
         requires right { IsTuple (F.ops f.now) (length self.now) right.now }
         ensures { IfOk result (IsSolution (F.ops f.now) (length self.now) (width_of self.now) self.now right.now) }
     {
-        let w = self.width();
-        match w.checked_add(self.len()) {
-            Some(_) => solve_of(alloc, f, w, self.as_slice(), right),
-            None => Err(NoMemory::from(AllocError)),
-        }
+        solve_of(alloc, f, self.width(), self.as_slice(), right)
     }
 }

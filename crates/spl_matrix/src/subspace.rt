@@ -7,9 +7,8 @@ ghost use Rattle.theory_tables.specs.Echelon.{IsReducedEchelon};
 ghost use Rattle.theory_tables.specs.Subspace.{InSpan, SameSpan, IsReducedBasis, IsSubspace, SpansSum, SpansMeet};
 
 use crate::basis::{basis_of, gathered, is_combination, pivots_of};
-use crate::matrix::Matrix;
+use crate::matrix::{Matrix, copied};
 use crate::meet::{meet_rows, stacked};
-use crate::reduced::Reduced;
 use spl_field::field::{Field, NoMemory};
 use spl_field::list::Vector;
 use std::alloc::Global;
@@ -45,14 +44,14 @@ pub(crate) fn span_of<F: Field>(
     alloc: Global,
     f: &F,
     w: usize,
-    rows: &[Vector<F>],
+    rows: Vec<Vector<F>>,
 ) -> Result<Subspace<F>, NoMemory>
-    requires shape { IsMatrix (F.ops f.now) w rows.now }
+    requires shape { IsMatrix (F.ops f.now) w rows.items }
     ensures basis { IfOk result (λ s. IsSubspace (F.ops f.now) s) }
     ensures width { IfOk result (λ s. s.width ≡ w) }
-    ensures members { IfOk result (λ s. SameSpan (F.ops f.now) w s.rows rows.now) }
+    ensures members { IfOk result (λ s. SameSpan (F.ops f.now) w s.rows rows.items) }
 {
-    let Reduced { rows, .. } = basis_of(alloc, f, w, rows)?;
+    let rows = basis_of(alloc, f, w, rows)?;
     Ok(Subspace { width: w, rows })
 }
 
@@ -64,7 +63,7 @@ impl<F: Field> Subspace<F> {
         ensures width { IfOk result (λ s. s.width ≡ width) }
         ensures members { IfOk result (λ s. SameSpan (F.ops f.now) width s.rows rows.now) }
     {
-        span_of(alloc, f, width, rows.as_slice())
+        span_of(alloc, f, width, copied(alloc, f, rows.as_slice())?)
     }
 
     /// The sum: the set of the sums of a vector of this subspace and one of the other.
@@ -76,8 +75,12 @@ impl<F: Field> Subspace<F> {
         ensures width { IfOk result (λ s. s.width ≡ self.now.width) }
         ensures members { IfOk result (λ s. SpansSum (F.ops f.now) self.now.width s.rows self.now.rows b.now.rows) }
     {
-        let rows = stacked(alloc, f, self.width, &self.rows, b.rows.as_slice())?;
-        span_of(alloc, f, self.width, rows.as_slice())
+        span_of(
+            alloc,
+            f,
+            self.width,
+            stacked(alloc, f, self.rows.as_slice(), b.rows.as_slice())?,
+        )
     }
 
     /// The meet: the set of the vectors of this subspace that are in the other too.
@@ -89,7 +92,13 @@ impl<F: Field> Subspace<F> {
         ensures width { IfOk result (λ s. s.width ≡ self.now.width) }
         ensures members { IfOk result (λ s. SpansMeet (F.ops f.now) self.now.width s.rows self.now.rows b.now.rows) }
     {
-        let rows = meet_rows(alloc, f, self.width, &self.rows, b.rows.as_slice())?;
+        let rows = meet_rows(
+            alloc,
+            f,
+            self.width,
+            self.rows.as_slice(),
+            b.rows.as_slice(),
+        )?;
         Ok(Subspace {
             width: self.width,
             rows,

@@ -1,11 +1,7 @@
 use Rattle.std.proofs.Common.{◌≡◌}
 use Rattle.theory_rings.specs.Sum.{table}
-use Rattle.theory_spaces.specs.Tuples.{IsTuple}
 use Rattle.spl_matrix.specs.Spanning.{kernel_item}
 use Rattle.spl_matrix.proofs.kernel.kernel_row_of.Given as goal
 
 abbrev pub invariant-loop-l : goal.invariant-loop-l
-invariant-loop-l g l = let o = g.F.Field.ops l.f in record {
-  elem : IsTuple o l.l l.items;
-  value : l.items ≡ table l.l (kernel_item o l.rows l.places l.j);
-}
+invariant-loop-l g l = let o = g.F.Field.ops l.f in l.items ≡ table l.l (kernel_item o l.rows l.places l.j)

@@ -1,25 +1,24 @@
-use Rattle.std.proofs.Common.{◌+◌, [], get_or, nat_lt}
+use Rattle.std.proofs.Common.{◌≡◌, ◌++◌, [], get_or, cond, nat_lt, ap, ◌∙◌, arith, ℕ, List, length, refl}
 use Rattle.theory_rings.specs.Sum.{table}
-use Rattle.theory_spaces.specs.Tuples.{IsTuple}
-use Rattle.spl_matrix.specs.Spanning.{doubled_item}
-use Rattle.theory_tables.proofs.Rows.Sums.{table_step, All_step, row_at}
+use Rattle.theory_tables.proofs.Rows.Sums.{table_step, row_at}
 use Rattle.spl_matrix.proofs.meet.doubled_of.Goals as goal
 
 pub loop-i-preserved : goal.loop-i-preserved
 loop-i-preserved g c =
-    let o = g.F.Field.ops c.args.f.now in
-    let w = c.args.w in
     let rows = c.args.rows.now in
+    let zeros = c.args.zeros.now in
+    let p = c.args.p in
     let i = c.loop-i.i in
-    let read = row_at rows i c.index-rows-i.result c.as_slice.result.now c.loop-i-test.true c.index-rows-i.is
-    c.as_slice.ensures in
-    let item = c.in_ok-row.row in
-    record {
-      shape = All_step (IsTuple o
-          (w + w)) c.loop-i.out c.push.new.self item c.loop-i.invariant.shape c.in_ok-row.ensures.elem
-          c.in_ok-push.ensures.ok;
-      value = table_step i (λ i.
-          table (w + w) (doubled_item o w (nat_lt i c.args.p)
-          (get_or rows i []))) c.loop-i.out c.push.new.self item c.loop-i.invariant.value
-          (rw read at c.in_ok-row.ensures.value) c.in_ok-push.ensures.ok;
-    }
+    table_step i (λ i. get_or rows i [] ++ cond (nat_lt i p) (get_or rows i []) zeros) c.loop-i.out.items
+    c.push.new.self.items c.in_ok-doubled_row.field-0 c.loop-i.invariant
+    (c.in_ok-doubled_row.ensures
+    ∙ ap (λ (row : List g.row.F-Elem.Denot). row ++ cond (nat_lt i p) row zeros)
+    (row_at rows i c.index-rows-i.result c.index-rows-i.result c.loop-i-test.true c.index-rows-i.is refl))
+    c.in_ok-push.ensures.items
+
+pub returns : goal.returns
+returns g c =
+    let rows = c.args.rows.now in
+    let ended : c.loop-i.i ≡ length rows = omega arith in
+    c.loop-i.invariant ∙ ap (λ (n : ℕ).
+    table n (λ i. get_or rows i [] ++ cond (nat_lt i c.args.p) (get_or rows i []) c.args.zeros.now)) ended

@@ -1,11 +1,7 @@
-use Rattle.std.proofs.Common.{◌≡◌, ◌+◌, [], get_or, nat_lt}
+use Rattle.std.proofs.Common.{◌≡◌, ◌++◌, [], get_or, cond, nat_lt}
 use Rattle.theory_rings.specs.Sum.{table}
-use Rattle.theory_tables.specs.Matrix.{IsMatrix}
-use Rattle.spl_matrix.specs.Spanning.{doubled_item}
 use Rattle.spl_matrix.proofs.meet.doubled_of.Given as goal
 
 abbrev pub invariant-loop-i : goal.invariant-loop-i
-invariant-loop-i g l = let o = g.F.Field.ops l.f in record {
-  shape : IsMatrix o (l.w + l.w) l.out;
-  value : l.out ≡ table l.i (λ i. table (l.w + l.w) (doubled_item o l.w (nat_lt i l.p) (get_or l.rows i [])));
-}
+invariant-loop-i g l =
+    l.out.items ≡ table l.i (λ i. get_or l.rows i [] ++ cond (nat_lt i l.p) (get_or l.rows i []) l.zeros)
