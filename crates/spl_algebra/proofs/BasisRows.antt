@@ -2,7 +2,7 @@
 use Rattle.std.specs.Prelude.{◌≡◌, ℕ, ◌+◌, ◌-◌, ◌*◌, ◌<◌, ◌≤◌, List, length, take, drop, cond, eqb, All}
 use Rattle.std.proofs.Common.{refl, sym, ◌∙◌, ap, arith}
 use Rattle.std.proofs.lemmas.Bool.{eq-eqb, ne_eqb}
-use Rattle.std.proofs.lemmas.List.{length-take, length-drop}
+use Rattle.std.proofs.lemmas.List.{length-take, length-drop, get_or-drop}
 use Rattle.theory_rings.specs.Ops.{Ops, IsElem, FieldLaws}
 use Rattle.theory_rings.specs.Sum.{at, sum_of, table}
 use Rattle.theory_spaces.specs.Tuples.{product, basis, constant}
@@ -10,6 +10,7 @@ use Rattle.theory_rings.proofs.Sums.Lists.{table_congr}
 use Rattle.theory_rings.proofs.Rings.Elements.{at-elem, sum_of-elem, sum_of_congr}
 use Rattle.theory_spaces.proofs.Tuples.Tuples.{at-table}
 use Rattle.theory_spaces.proofs.Tuples.TupleProducts.{product_basis, IsTuple-basis}
+use Rattle.spl_algebra.specs.Contractions.{contracted}
 use Rattle.spl_algebra.specs.Products.{sum_of_rows}
 use Rattle.spl_algebra.proofs.Terms.{mul-one, mul-zero, zero-mul, sum_of_eq_single, sum_of_eq_zero}
 use Rattle.spl_algebra.proofs.Steps.{table-at, at-part}
@@ -95,6 +96,29 @@ module _ {E : Type 0} (o : Ops E) (L : FieldLaws o) (m : ℕ) (cs : List E) (con
       (λ j. o.mul (at o b j) (at o (drop (i * m * m) cs) (j * m + t)))
       (λ j _. term-left_one (basis o m i) b t i j hb (at-basis_same o m i h)
       ∙ ap (o.mul (at o b j)) (constant-row o m cs i j t)))
+
+  -- the first item of the rows from a place on, which begin each stride items
+  first-rows : (a : List E) (start stride : ℕ) → 0 < m
+      → contracted o m a cs start stride ≡ at o (table m (sum_of_rows o m a (drop start cs) stride)) 0
+  first-rows a start stride some =
+      sum_of_congr o m
+      (λ l. o.mul (at o a l) (at o cs (start + l * stride)))
+      (λ l. o.mul (at o a l) (at o (drop start cs) (l * stride + 0)))
+      (λ l _.
+      let e : start + l * stride ≡ start + (l * stride + 0) = omega arith in
+      ap (o.mul (at o a l)) (ap (at o cs) e ∙ sym (get_or-drop start cs (l * stride + 0) o.zero)))
+      ∙ sym (at-table o m (sum_of_rows o m a (drop start cs) stride) 0 some)
+
+  -- the first item of a product with a basis element on the right, and on the left
+  pub first-product_basis : (a : List E) (k : ℕ) → All (IsElem o) a → k < m
+      → contracted o m a cs (k * m) (m * m) ≡ at o (product o m cs a (basis o m k)) 0
+  first-product_basis a k ha h =
+      first-rows a (k * m) (m * m) (omega arith) ∙ sym (ap (λ xs. at o xs 0) (product-basis a k ha h))
+
+  pub first-basis_product : (b : List E) (i : ℕ) → All (IsElem o) b → i < m
+      → contracted o m b cs (i * m * m) m ≡ at o (product o m cs (basis o m i) b) 0
+  first-basis_product b i hb h =
+      first-rows b (i * m * m) m (omega arith) ∙ sym (ap (λ xs. at o xs 0) (basis-product b i hb h))
 
   -- the product of two basis elements is the row of their constants
   pub row-product : (i j : ℕ) (start : ℕ) → start ≡ (i * m + j) * m → i < m → j < m → length cs ≡ m * m * m

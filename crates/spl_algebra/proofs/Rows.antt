@@ -28,6 +28,13 @@ column_end-le_rest k l m n h below e =
     let next : l + 1 ≤ m = omega arith in
     omega (arith, row_end-le k m m h, nat.mul-le-mul_right (m * m) next)
 
+-- these items begin within them
+pub row_start-lt_rest : (i l m n : ℕ) → i < m → l < m → n ≡ m * m * m → i * m * m + l * m < n
+row_start-lt_rest i l m n h k e = omega (arith, row_end-le_rest i l m n h k e)
+
+pub column_start-lt_rest : (k l m n : ℕ) → k < m → l < m → n ≡ m * m * m → k * m + l * (m * m) < n
+column_start-lt_rest k l m n h below e = omega (arith, column_end-le_rest k l m n h below e)
+
 -- the places of the constants in a part of their list
 module _ {E : Type 0} (o : Ops E) (m : ℕ) (cs : List E) where
   pub constant-row : (i j k : ℕ) → constant o m cs i j k ≡ at o (drop (i * m * m) cs) (j * m + k)
@@ -118,21 +125,6 @@ module _ {E : Type 0} (o : Ops E) (L : FieldLaws o) where
       ∙ scaled_rows-part m c a b i k) q)
       (λ k _. parts_of_product-elem m c a b i k hc ha hb) (λ k _. part_of_product-elem m c a b i k hc ha hb)
       (λ k _. sum_of-next o i (λ i. part_of_product o m c a b i k))
-
-  -- a zero of the first factor is left out
-  pub parts-skip : (m : ℕ) (old new : List E) (c a b : List E) (i : ℕ) → All (IsElem o) c → All (IsElem o) a
-      → All (IsElem o) b → at o a i ≡ o.zero
-      → AddsEach o old new (parts_of_product o m c a b i) → AddsEach o old new (parts_of_product o m c a b (i + 1))
-  parts-skip m old new c a b i hc ha hb z p =
-      let vanishes : (k : ℕ) → part_of_product o m c a b i k ≡ o.zero = λ k.
-      sum_of_eq_zero o L m (λ j. o.mul (o.mul (at o a i) (at o b j)) (constant o m c i j k)) (λ j _.
-      ap (λ x. o.mul x (constant o m c i j k))
-      (ap (λ x. o.mul x (at o b j)) z ∙ zero-mul o L (at o b j) (at-elem o L b hb j))
-      ∙ zero-mul o L (constant o m c i j k) (at-elem o L c hc ((i * m + j) * m + k))) in
-      AddsEach-congr o L old new (parts_of_product o m c a b i) (parts_of_product o m c a b (i + 1)) (λ k _.
-      sym (sum_of-next o i (λ i. part_of_product o m c a b i k)
-      ∙ ap (o.add (parts_of_product o m c a b i k)) (vanishes k)
-      ∙ add-zero o L (parts_of_product o m c a b i k) (parts_of_product-elem m c a b i k hc ha hb))) p
 
   pub parts-all : (m : ℕ) (old new : List E) (c a b : List E) → old ≡ table m (λ _. o.zero) → All (IsElem o) c
       → All (IsElem o) a → All (IsElem o) b

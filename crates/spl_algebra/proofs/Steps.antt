@@ -1,17 +1,14 @@
 -- The steps of the loops that add rows to a list of sums.
 use Rattle.std.specs.Prelude.{◌≡◌, ℕ, ◌+◌, ◌-◌, ◌*◌, ◌<◌, ◌≤◌, List, [], ◌∷◌, ◌++◌, length, take, drop, All}
-use Rattle.std.proofs.Common.{refl, sym, ◌∙◌, ap, ap₂, arith, length-append, below_more, get_or-set_same}
-use Rattle.std.proofs.Common.{get_or-set_other}
-use Rattle.std.proofs.lemmas.List.{length-set, ext_get_or, get_or-take, get_or-drop}
-use Rattle.std.proofs.lemmas.List.Elements.{All-set}
-use Rattle.std.proofs.Math.ListN.{set}
+use Rattle.std.proofs.Common.{refl, sym, ◌∙◌, ap, ap₂, arith, length-append}
+use Rattle.std.proofs.lemmas.List.{ext_get_or, get_or-take, get_or-drop}
 use Rattle.theory_rings.specs.Ops.{Ops, IsElem, FieldLaws}
 use Rattle.theory_rings.specs.Sum.{at, table}
-use Rattle.theory_rings.proofs.Sums.Lists.{length-table, get_or-table}
+use Rattle.theory_rings.proofs.Sums.Lists.{length-table, get_or-table, All-table}
 use Rattle.theory_spaces.specs.Tuples.{IsTuple}
 use Rattle.theory_tables.proofs.Rows.Sums.{All_step}
 use Rattle.spl_algebra.specs.Products.{AddsEach, scaled_rows}
-use Rattle.spl_algebra.proofs.Terms.{add-zero, mul-zero, zero-mul, sum_of-next}
+use Rattle.spl_algebra.proofs.Terms.{add-zero, mul-zero, zero-mul, sum_of-next, sum_of_eq_zero}
 use Rattle.theory_rings.proofs.Rings.Elements.{at-elem, sum_of-elem}
 
 -- a list is the table of its items
@@ -35,36 +32,6 @@ IsTuple-push o n before after item t h e = record {
   of_elements = All_step (IsElem o) before after item t.of_elements h e;
 }
 
-module _ {E : Type 0} (o : Ops E) where
-  -- as AddsEach at the places below k, and the other items are as they were
-  pub record AddsBelow (k : ℕ) (old new : List E) (f : ℕ → E) : Type 0 where
-    pub same_length : length new ≡ length old
-    pub of_elements : All (IsElem o) new
-    pub done : (j : ℕ) → j < k → at o new j ≡ o.add (at o old j) (f j)
-    pub rest : (j : ℕ) → k ≤ j → at o new j ≡ at o old j
-
-  -- the item at k is written
-  pub AddsBelow-set : (k : ℕ) (old new : List E) (f : ℕ → E) (y : E) → k < length new → AddsBelow k old new f
-      → IsElem o y → y ≡ o.add (at o new k) (f k) → AddsBelow (k + 1) old (set new k y) f
-  AddsBelow-set k old new f y l a h e = record {
-    same_length = length-set new k y ∙ a.same_length;
-    of_elements = All-set (IsElem o) new k y h a.of_elements;
-    done = below_more _ _
-        (λ j m. get_or-set_other new k j y o.zero (λ e. omega arith) ∙ a.done j m)
-        (get_or-set_same new k y o.zero l ∙ e ∙ ap (λ x. o.add x (f k)) (a.rest k (omega arith)));
-    rest = λ j m. get_or-set_other new k j y o.zero (λ e. omega arith) ∙ a.rest j (omega arith);
-  }
-
-  -- nothing is to be added at k
-  pub AddsBelow-skip : (k : ℕ) (old new : List E) (f : ℕ → E) → AddsBelow k old new f
-      → o.add (at o new k) (f k) ≡ at o new k → AddsBelow (k + 1) old new f
-  AddsBelow-skip k old new f a e = record {
-    same_length = a.same_length;
-    of_elements = a.of_elements;
-    done = below_more _ _ a.done (sym e ∙ ap (λ x. o.add x (f k)) (a.rest k (omega arith)));
-    rest = λ j m. a.rest j (omega arith);
-  }
-
 module _ {E : Type 0} (o : Ops E) (L : FieldLaws o) where
   -- nothing is added yet
   pub AddsEach-zero : (old : List E) (f : ℕ → E) → All (IsElem o) old → ((k : ℕ) → f k ≡ o.zero) → AddsEach o old old f
@@ -73,6 +40,19 @@ module _ {E : Type 0} (o : Ops E) (L : FieldLaws o) where
     of_elements = h;
     item = λ k l. sym (add-zero o L (at o old k) (at-elem o L old h k)) ∙ ap (o.add (at o old k)) (sym (z k));
   }
+
+  -- the sums as a table
+  pub AddsEach-table : (old new : List E) (f : ℕ → E) → All (IsElem o) old
+      → ((k : ℕ) → k < length old → IsElem o (f k)) → new ≡ table (length old) (λ k. o.add (at o old k) (f k))
+      → AddsEach o old new f
+  AddsEach-table old new f h fe e =
+      let sum : ℕ → E = λ k. o.add (at o old k) (f k) in
+      record {
+        same_length = ap length e ∙ length-table (length old) sum;
+        of_elements = rw e (All-table (IsElem o) (length old) sum
+            (λ k l. L.add-elem (at o old k) (f k) (at-elem o L old h k) (fe k l)));
+        item = λ k l. ap (λ xs. at o xs k) e ∙ get_or-table (length old) sum k o.zero l;
+      }
 
   -- one list after the other
   pub AddsEach-then : (old mid new : List E) (f g h : ℕ → E) → All (IsElem o) old → AddsEach o old mid f
@@ -125,17 +105,15 @@ module _ {E : Type 0} (o : Ops E) (L : FieldLaws o) where
       (λ k l. term-elem x b rows n (n * stride + k) h hb hr)
       (λ k l. sum_of-next o n (λ j. o.mul (o.mul x (at o b j)) (at o rows (j * stride + k))))
 
-  -- a row times zero is left out
-  pub scaled_rows-skip : (old new : List E) (n : ℕ) (x : E) (b rows : List E) (stride : ℕ)
-      → IsElem o x → All (IsElem o) b → All (IsElem o) rows → at o b n ≡ o.zero
-      → AddsEach o old new (scaled_rows o n x b rows stride)
-      → AddsEach o old new (scaled_rows o (n + 1) x b rows stride)
-  scaled_rows-skip old new n x b rows stride h hb hr z a =
-      AddsEach-congr old new (scaled_rows o n x b rows stride) (scaled_rows o (n + 1) x b rows stride) (λ k l.
-      sym (sum_of-next o n (λ j. o.mul (o.mul x (at o b j)) (at o rows (j * stride + k)))
-      ∙ ap₂ o.add refl (ap (λ y. o.mul y (at o rows (n * stride + k))) (ap (o.mul x) z ∙ mul-zero o L x h)
-      ∙ zero-mul o L (at o rows (n * stride + k)) (at-elem o L rows hr (n * stride + k)))
-      ∙ add-zero o L (scaled_rows o n x b rows stride k) (scaled_rows-elem n x b rows stride k h hb hr))) a
+  -- nothing times the rows
+  pub scaled_rows-none : (old : List E) (m : ℕ) (x : E) (b rows : List E) (stride : ℕ) → All (IsElem o) old
+      → All (IsElem o) b → All (IsElem o) rows → x ≡ o.zero → AddsEach o old old (scaled_rows o m x b rows stride)
+  scaled_rows-none old m x b rows stride h hb hr z =
+      AddsEach-zero old (scaled_rows o m x b rows stride) h (λ k.
+      sum_of_eq_zero o L m (λ l. o.mul (o.mul x (at o b l)) (at o rows (l * stride + k))) (λ l _.
+      ap (λ y. o.mul y (at o rows (l * stride + k)))
+      (ap (λ y. o.mul y (at o b l)) z ∙ zero-mul o L (at o b l) (at-elem o L b hb l))
+      ∙ zero-mul o L (at o rows (l * stride + k)) (at-elem o L rows hr (l * stride + k))))
 
   -- what is added to zeros
   pub AddsEach-zeros : (m : ℕ) (old new : List E) (f : ℕ → E) → old ≡ table m (λ _. o.zero) → AddsEach o old new f

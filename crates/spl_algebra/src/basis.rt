@@ -1,12 +1,20 @@
 // Basis elements and their products, by structure constants.
-ghost use Rattle.std.specs.Prelude.{◌≡◌, ◌≢◌, ◌*◌, ◌^◌, ◌<◌, ◌↔◌, IfOk, IsTrue};
+ghost use Rattle.std.specs.Prelude.{◌≡◌, ◌≢◌, ◌+◌, ◌*◌, ◌^◌, ◌<◌, ◌↔◌, ◌==◌, if◌then◌else◌, IfOk, IsTrue};
 ghost use Rattle.theory_rings.specs.Ops.{IsElem};
 ghost use Rattle.theory_spaces.specs.Tuples.{IsTuple, basis, product};
 
-use crate::products::{combination, first_of_combination, same};
+use crate::products::{combination, contracted_item, same};
 use spl_field::field::{Field, NoMemory};
 use spl_field::list::{List, Vector};
 use std::alloc::Global;
+
+/// 1 where k is i, and else 0.
+fn unit_item<F: Field>(alloc: Global, f: &F, k: usize, i: usize) -> Result<F::Elem, NoMemory>
+    ensures elem { IfOk result (IsElem (F.ops f.now)) }
+    ensures value { IfOk result (λ r. r ≡ (if k == i then (F.ops f.now).one else (F.ops f.now).zero)) }
+{
+    if k == i { f.one(alloc) } else { f.zero(alloc) }
+}
 
 /// The coordinates of the basis element i, of m.
 pub(crate) fn coordinates<F: Field>(
@@ -18,16 +26,23 @@ pub(crate) fn coordinates<F: Field>(
     ensures elem { IfOk result (IsTuple (F.ops f.now) m) }
     ensures value { IfOk result (λ r. r ≡ basis (F.ops f.now) m i) }
 {
-    let mut items = Vec::with_capacity(alloc, m)?;
+    let mut items = List::new(alloc);
     for k in 0..m {
-        let item = if k == i {
-            f.one(alloc)?
-        } else {
-            f.zero(alloc)?
-        };
-        items.push(item)?;
+        items.push(unit_item(alloc, f, k, i)?)?;
     }
-    Ok(List::from_vec(items))
+    Ok(items)
+}
+
+/// The place of the constant for the basis elements i, j and k.
+pub(crate) fn place(m: usize, i: usize, j: usize, k: usize) -> usize
+    requires fits { m * m * m < 2 ^ 64 }
+    requires first { i < m }
+    requires second { j < m }
+    requires third { k < m }
+    ensures value { result ≡ (i * m + j) * m + k }
+    ensures within { result < m * m * m }
+{
+    (i * m + j) * m + k
 }
 
 /// The product of the basis elements i and j, which is the row of their constants.
@@ -76,10 +91,9 @@ fn first_items_differ<F: Field>(
 {
     let first = row_of(f, m, constants, i, j);
     let second = row_of(f, m, constants, j, k);
-    let by_k = &constants[k * m..];
-    let by_i = &constants[i * m * m..];
-    let left = first_of_combination(alloc, f, m, first, by_k, m * m)?;
-    let right = first_of_combination(alloc, f, m, second, by_i, m)?;
+    let zero = f.zero(alloc)?;
+    let left = contracted_item(alloc, f, &zero, first, constants, k * m, m * m)?;
+    let right = contracted_item(alloc, f, &zero, second, constants, i * m * m, m)?;
     Ok(!f.eq(&left, &right))
 }
 

@@ -10,6 +10,7 @@ ghost use Rattle.spl_algebra.specs.Contractions.{commutator_item, commutator_row
 ghost use Rattle.spl_algebra.specs.Subspaces.{SpansCentre};
 
 use crate::algebra::Algebra;
+use crate::basis::place;
 use spl_field::field::{Field, NoMemory};
 use spl_field::list::{List, Vector};
 use spl_matrix::matrix::Matrix;
@@ -60,8 +61,8 @@ fn commutator_row_of<F: Field>(
 {
     let mut row = List::new(alloc);
     for j in 0..m {
-        let right = &constants[(j * m + i) * m + k];
-        let left = &constants[(i * m + j) * m + k];
+        let right = &constants[place(m, j, i, k)];
+        let left = &constants[place(m, i, j, k)];
         row.push(difference(alloc, f, zero, right, left)?)?;
     }
     Ok(row)

@@ -10,7 +10,7 @@ ghost use Rattle.spl_algebra.specs.Subspaces.{GeneratesIdeal};
 use crate::algebra::Algebra;
 use crate::products::combination;
 use spl_field::field::{Field, NoMemory};
-use spl_field::list::{List, Vector};
+use spl_field::list::Vector;
 use spl_matrix::matrix::Matrix;
 use spl_matrix::subspace::Subspace;
 use std::alloc::Global;
@@ -32,7 +32,7 @@ fn left_multiple<F: Field>(
     ensures value { IfOk result (λ r. r ≡ product (F.ops f.now) m constants.now (basis (F.ops f.now) m i) a.now) }
 {
     let items = combination(alloc, f, m, a, &constants[i * m * m..], m)?;
-    Ok(List::from_vec(items))
+    Ok(items)
 }
 
 /// The product a·b_i.
@@ -52,7 +52,7 @@ fn right_multiple<F: Field>(
     ensures value { IfOk result (λ r. r ≡ product (F.ops f.now) m constants.now a.now (basis (F.ops f.now) m i)) }
 {
     let items = combination(alloc, f, m, a, &constants[i * m..], m * m)?;
-    Ok(List::from_vec(items))
+    Ok(items)
 }
 
 /// Appends b_i·a and a·b_i for each basis element b_i.

@@ -4,44 +4,46 @@ ghost use Rattle.theory_rings.specs.Ops.{IsElem};
 ghost use Rattle.theory_rings.specs.Sum.{table, at};
 ghost use Rattle.theory_spaces.specs.Tuples.{IsTuple, product};
 ghost use Rattle.spl_algebra.specs.Products.{AddsEach, scaled_rows, sum_of_rows};
+ghost use Rattle.spl_algebra.specs.Contractions.{contracted};
 
 use spl_field::field::{Field, NoMemory};
 use spl_field::list::{List, Vector};
-use spl_matrix::rows::add_product;
+use spl_matrix::rows::{add_multiple, add_product};
 use std::alloc::Global;
 
-/// Adds c times the row to the sums. A zero of the row costs no multiplication.
-fn add_multiple<F: Field>(
+/// Adds x·c times the row to the sums. A zero c costs nothing.
+fn add_row<F: Field>(
     alloc: Global,
     f: &F,
     zero: &F::Elem,
-    sums: &mut [F::Elem],
+    sums: &mut Vector<F>,
+    x: &F::Elem,
     c: &F::Elem,
     row: &[F::Elem],
 ) -> Result<(), NoMemory>
     requires zero { zero.now ≡ (F.ops f.now).zero }
     requires sums { All (IsElem (F.ops f.now)) sums.old }
-    requires factor { IsElem (F.ops f.now) c.now }
+    requires factor { IsElem (F.ops f.now) x.now }
+    requires coordinate { IsElem (F.ops f.now) c.now }
     requires row { IsTuple (F.ops f.now) (length sums.old) row.now }
     ensures { OnOk result (AddsEach (F.ops f.now) sums.old sums.new
-        (λ k. (F.ops f.now).mul c.now (at (F.ops f.now) row.now k))) }
+        (λ k. (F.ops f.now).mul ((F.ops f.now).mul x.now c.now) (at (F.ops f.now) row.now k))) }
 {
-    for k in 0..sums.len() {
-        if !f.eq(&row[k], zero) {
-            let term = f.mul(alloc, c, &row[k])?;
-            sums[k] = f.add(alloc, &sums[k], &term)?;
-        }
+    if f.eq(c, zero) {
+        return Ok(());
     }
+    let factor = f.mul(alloc, x, c)?;
+    add_multiple(alloc, f, zero, sums, &factor, row)?;
     Ok(())
 }
 
 /// Adds to each sum k the sum over l of x·b_l times item k of row l, where a row begins each stride items. A zero of b
-/// costs no row.
+/// costs no row, and a zero x none at all.
 fn add_rows<F: Field>(
     alloc: Global,
     f: &F,
     zero: &F::Elem,
-    sums: &mut [F::Elem],
+    sums: &mut Vector<F>,
     x: &F::Elem,
     b: &[F::Elem],
     rows: &[F::Elem],
@@ -56,23 +58,23 @@ fn add_rows<F: Field>(
     ensures { OnOk result (AddsEach (F.ops f.now) sums.old sums.new
         (scaled_rows (F.ops f.now) (length sums.old) x.now b.now rows.now stride)) }
 {
+    if f.eq(x, zero) {
+        return Ok(());
+    }
     let m = sums.len();
     for l in 0..m {
-        if !f.eq(&b[l], zero) {
-            let c = f.mul(alloc, x, &b[l])?;
-            let start = l * stride;
-            add_multiple(alloc, f, zero, sums, &c, &rows[start..start + m])?;
-        }
+        let start = l * stride;
+        add_row(alloc, f, zero, sums, x, &b[l], &rows[start..start + m])?;
     }
     Ok(())
 }
 
 /// A list of m zeros.
-fn zeros<F: Field>(alloc: Global, f: &F, m: usize) -> Result<Vec<F::Elem>, NoMemory>
-    ensures elem { IfOk result (λ v. IsTuple (F.ops f.now) m v.items) }
-    ensures value { IfOk result (λ v. v.items ≡ table m (λ _. (F.ops f.now).zero)) }
+fn zeros<F: Field>(alloc: Global, f: &F, m: usize) -> Result<Vector<F>, NoMemory>
+    ensures elem { IfOk result (IsTuple (F.ops f.now) m) }
+    ensures value { IfOk result (λ v. v ≡ table m (λ _. (F.ops f.now).zero)) }
 {
-    let mut zeros = Vec::with_capacity(alloc, m)?;
+    let mut zeros = List::new(alloc);
     for _ in 0..m {
         zeros.push(f.zero(alloc)?)?;
     }
@@ -98,20 +100,10 @@ pub(crate) fn product_of_slices<F: Field>(
     let zero = f.zero(alloc)?;
     let mut sums = zeros(alloc, f, m)?;
     for i in 0..m {
-        if !f.eq(&a[i], &zero) {
-            add_rows(
-                alloc,
-                f,
-                &zero,
-                &mut sums,
-                &a[i],
-                b,
-                &constants[i * m * m..],
-                m,
-            )?;
-        }
+        let rows = &constants[i * m * m..];
+        add_rows(alloc, f, &zero, &mut sums, &a[i], b, rows, m)?;
     }
-    Ok(List::from_vec(sums))
+    Ok(sums)
 }
 
 /// The sum over l of b_l times the m items of row l, where a row begins each stride items.
@@ -122,12 +114,12 @@ pub(crate) fn combination<F: Field>(
     b: &[F::Elem],
     rows: &[F::Elem],
     stride: usize,
-) -> Result<Vec<F::Elem>, NoMemory>
+) -> Result<Vector<F>, NoMemory>
     requires coordinates { IsTuple (F.ops f.now) m b.now }
     requires rows { All (IsElem (F.ops f.now)) rows.now }
     requires within { (l : ℕ) → l < m → l * stride + m ≤ length rows.now }
-    ensures elem { IfOk result (λ v. IsTuple (F.ops f.now) m v.items) }
-    ensures value { IfOk result (λ v. v.items ≡ table m (sum_of_rows (F.ops f.now) m b.now rows.now stride)) }
+    ensures elem { IfOk result (IsTuple (F.ops f.now) m) }
+    ensures value { IfOk result (λ v. v ≡ table m (sum_of_rows (F.ops f.now) m b.now rows.now stride)) }
 {
     let zero = f.zero(alloc)?;
     let one = f.one(alloc)?;
@@ -136,29 +128,28 @@ pub(crate) fn combination<F: Field>(
     Ok(sums)
 }
 
-/// The sum over l of b_l times the first item of row l, where a row begins each stride items. A zero of b costs no
-/// multiplication.
-pub(crate) fn first_of_combination<F: Field>(
+/// The sum over l of a_l times the constant at the place start + l·stride.
+pub(crate) fn contracted_item<F: Field>(
     alloc: Global,
     f: &F,
-    m: usize,
-    b: &[F::Elem],
-    rows: &[F::Elem],
+    zero: &F::Elem,
+    a: &[F::Elem],
+    constants: &[F::Elem],
+    start: usize,
     stride: usize,
 ) -> Result<F::Elem, NoMemory>
-    requires coordinates { IsTuple (F.ops f.now) m b.now }
-    requires rows { All (IsElem (F.ops f.now)) rows.now }
-    requires within { (l : ℕ) → l < m → l * stride + m ≤ length rows.now }
-    requires positive { 1 ≤ m }
+    requires zero { zero.now ≡ (F.ops f.now).zero }
+    requires coordinates { All (IsElem (F.ops f.now)) a.now }
+    requires constants { All (IsElem (F.ops f.now)) constants.now }
+    requires within { (l : ℕ) → l < length a.now → start + l * stride < length constants.now }
     ensures elem { IfOk result (IsElem (F.ops f.now)) }
-    ensures value { IfOk result (λ r. r ≡ sum_of_rows (F.ops f.now) m b.now rows.now stride 0) }
+    ensures value { IfOk result (λ r. r ≡ contracted (F.ops f.now) (length a.now) a.now constants.now start stride) }
 {
-    let zero = f.zero(alloc)?;
-    let mut total = f.zero(alloc)?;
-    for l in 0..m {
-        total = add_product(alloc, f, &zero, total, &b[l], &rows[l * stride])?;
+    let mut sum = f.zero(alloc)?;
+    for l in 0..a.len() {
+        sum = add_product(alloc, f, zero, sum, &a[l], &constants[start + l * stride])?;
     }
-    Ok(total)
+    Ok(sum)
 }
 
 /// Whether the lists are the same.

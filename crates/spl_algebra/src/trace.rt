@@ -6,38 +6,15 @@ ghost use Rattle.theory_spaces.specs.Tuples.{IsTuple};
 ghost use Rattle.theory_tables.specs.Matrix.{IsMatrix};
 ghost use Rattle.theory_tables.specs.Traces.{left_matrix, trace_form};
 ghost use Rattle.theory_tables.specs.Structure.{IsOver, IsElement};
-ghost use Rattle.spl_algebra.specs.Contractions.{contracted, contracted_row, contraction, basis_trace};
+ghost use Rattle.spl_algebra.specs.Contractions.{contracted_row, contraction, basis_trace};
 
 use crate::algebra::Algebra;
+use crate::basis::place;
+use crate::products::contracted_item;
 use spl_field::field::{Field, NoMemory};
 use spl_field::list::{List, Vector};
 use spl_matrix::matrix::Matrix;
-use spl_matrix::rows::add_product;
 use std::alloc::Global;
-
-/// The sum over l of a_l times the constant at the place start + l·stride.
-fn contracted_item<F: Field>(
-    alloc: Global,
-    f: &F,
-    zero: &F::Elem,
-    a: &[F::Elem],
-    constants: &[F::Elem],
-    start: usize,
-    stride: usize,
-) -> Result<F::Elem, NoMemory>
-    requires zero { zero.now ≡ (F.ops f.now).zero }
-    requires coordinates { All (IsElem (F.ops f.now)) a.now }
-    requires constants { All (IsElem (F.ops f.now)) constants.now }
-    requires within { (l : ℕ) → l < length a.now → start + l * stride < length constants.now }
-    ensures elem { IfOk result (IsElem (F.ops f.now)) }
-    ensures value { IfOk result (λ r. r ≡ contracted (F.ops f.now) (length a.now) a.now constants.now start stride) }
-{
-    let mut sum = f.zero(alloc)?;
-    for l in 0..a.len() {
-        sum = add_product(alloc, f, zero, sum, &a[l], &constants[start + l * stride])?;
-    }
-    Ok(sum)
-}
 
 /// The row of these sums that begin `along` places after one another, as many as a has items.
 fn contracted_row_of<F: Field>(
@@ -109,7 +86,7 @@ fn basis_trace_of<F: Field>(
 {
     let mut sum = f.zero(alloc)?;
     for j in 0..m {
-        sum = f.add(alloc, &sum, &constants[(i * m + j) * m + j])?;
+        sum = f.add(alloc, &sum, &constants[place(m, i, j, j)])?;
     }
     Ok(sum)
 }

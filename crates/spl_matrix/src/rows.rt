@@ -161,7 +161,7 @@ fn scale<F: Field>(
 }
 
 /// row + c·other, in place. A zero of the other row costs no multiplication.
-fn add_multiple<F: Field>(
+pub fn add_multiple<F: Field>(
     alloc: Global,
     f: &F,
     zero: &F::Elem,

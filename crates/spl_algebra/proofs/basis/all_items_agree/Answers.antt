@@ -3,9 +3,18 @@ use Rattle.std.proofs.lemmas.List.{take_rest, length-drop}
 use Rattle.theory_rings.specs.Sum.{table}
 use Rattle.theory_spaces.specs.Tuples.{product, basis}
 use Rattle.spl_algebra.specs.Products.{sum_of_rows}
-use Rattle.spl_algebra.proofs.Rows.{row_end-le_rest}
+use Rattle.spl_algebra.proofs.Rows.{row_end-le_rest, column_end-le_rest}
 use Rattle.spl_algebra.proofs.BasisRows.{product-basis, basis-product}
 use Rattle.spl_algebra.proofs.basis.all_items_agree.Goals as goal
+
+pub combination-requires-clause-within : goal.combination-requires-clause-within
+combination-requires-clause-within g c =
+    let m = c.args.m in
+    let constants = c.args.constants.now in
+    let k = c.args.k in
+    λ l h.
+    rw (take_rest constants (k * m), length-drop (k * m) constants)
+    (column_end-le_rest k l m (length constants) c.requires.third h c.requires.over.right_length)
 
 pub combination-requires-2-clause-within : goal.combination-requires-2-clause-within
 combination-requires-2-clause-within g c =
@@ -30,13 +39,13 @@ returns g c =
     let second = c.row_of-2.result.now in
     let left : c.as_slice.result.now ≡ product o m constants (product o m constants (basis o m i) (basis o m j))
     (basis o m k) =
-    c.as_slice.ensures.value ∙ c.in_ok-left.ensures.value
+    c.as_slice.ensures ∙ c.in_ok-left.ensures.value
     ∙ ap (λ rows. table m (sum_of_rows o m first rows (m * m))) (take_rest constants (k * m))
     ∙ sym (product-basis o laws m constants elems first k c.row_of.ensures.elem.of_elements c.requires.third)
     ∙ ap (λ a. product o m constants a (basis o m k)) c.row_of.ensures.value in
     let right : c.as_slice-2.result.now ≡ product o m constants (basis o m i)
     (product o m constants (basis o m j) (basis o m k)) =
-    c.as_slice-2.ensures.value ∙ c.in_ok-right.ensures.value
+    c.as_slice-2.ensures ∙ c.in_ok-right.ensures.value
     ∙ ap (λ rows. table m (sum_of_rows o m second rows m)) (take_rest constants (i * m * m))
     ∙ sym (basis-product o laws m constants elems second i c.row_of-2.ensures.elem.of_elements c.requires.first)
     ∙ ap (λ a. product o m constants (basis o m i) a) c.row_of-2.ensures.value in

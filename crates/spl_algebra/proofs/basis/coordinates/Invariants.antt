@@ -6,6 +6,6 @@ use Rattle.spl_algebra.proofs.basis.coordinates.Given as goal
 
 abbrev pub invariant-loop-k : goal.invariant-loop-k
 invariant-loop-k g l = let o = g.F.Field.ops l.f in record {
-  elem : IsTuple o l.k l.items.items;
-  value : l.items.items ≡ table l.k (λ k. if k == l.i then o.one else o.zero);
+  elem : IsTuple o l.k l.items;
+  value : l.items ≡ table l.k (λ k. if k == l.i then o.one else o.zero);
 }

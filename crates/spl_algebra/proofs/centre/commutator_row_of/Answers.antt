@@ -1,8 +1,8 @@
-use Rattle.std.proofs.Common.{◌+◌, ◌*◌, length, ◌∙◌, ap₂}
+use Rattle.std.proofs.Common.{◌+◌, ◌*◌, length, ◌∙◌, ap, ap₂, arith}
+use Rattle.theory_rings.specs.Sum.{at}
 use Rattle.theory_tables.proofs.Rows.Sums.{table_step, read_at}
 use Rattle.spl_algebra.specs.Contractions.{commutator_item}
 use Rattle.spl_algebra.proofs.Steps.{IsTuple-push}
-use Rattle.spl_algebra.proofs.Contractions.{constant_within}
 use Rattle.spl_algebra.proofs.centre.commutator_row_of.Goals as goal
 
 pub loop-j-preserved : goal.loop-j-preserved
@@ -14,12 +14,12 @@ loop-j-preserved g c =
     let k = c.args.k in
     let j = c.loop-j.j in
     let long = c.requires.over.right_length in
-    let right = read_at o cs ((j * m + i) * m + k) c.index-constants-j.result
-    (constant_within j i k m
-    (length cs) c.loop-j-test.true c.requires.first c.requires.second long) c.index-constants-j.is in
-    let left = read_at o cs ((i * m + j) * m + k) c.index-constants-i.result
-    (constant_within i j k m
-    (length cs) c.requires.first c.loop-j-test.true c.requires.second long) c.index-constants-i.is in
+    let right = read_at o cs c.place.result c.index-constants-place.result
+    (omega (arith, long, c.place.ensures.within)) c.index-constants-place.is
+    ∙ ap (at o cs) c.place.ensures.value in
+    let left = read_at o cs c.place-in-loop-j.result c.index-constants-place-in-loop-j.result
+    (omega (arith, long, c.place-in-loop-j.ensures.within)) c.index-constants-place-in-loop-j.is
+    ∙ ap (at o cs) c.place-in-loop-j.ensures.value in
     record {
       elem = IsTuple-push o j c.loop-j.row c.push.new.self c.in_ok-difference.field-0 c.loop-j.invariant.elem
           c.in_ok-difference.ensures.elem c.in_ok-push.ensures.ok;

@@ -1,9 +1,19 @@
-use Rattle.std.proofs.Common.{◌*◌, sym, ◌∙◌, ap}
-use Rattle.std.proofs.lemmas.List.{take_rest}
+use Rattle.std.proofs.Common.{◌*◌, length, sym, ◌∙◌, ap}
+use Rattle.std.proofs.lemmas.List.{take_rest, length-drop}
 use Rattle.theory_rings.specs.Sum.{table}
 use Rattle.spl_algebra.specs.Products.{sum_of_rows}
+use Rattle.spl_algebra.proofs.Rows.{row_end-le_rest}
 use Rattle.spl_algebra.proofs.BasisRows.{basis-product}
 use Rattle.spl_algebra.proofs.ideal.left_multiple.Goals as goal
+
+pub combination-requires-clause-within : goal.combination-requires-clause-within
+combination-requires-clause-within g c =
+    let m = c.args.m in
+    let cs = c.args.constants.now in
+    let i = c.args.i in
+    λ l h.
+    rw (take_rest cs (i * m * m), length-drop (i * m * m) cs)
+    (row_end-le_rest i l m (length cs) c.requires.index h c.requires.over.right_length)
 
 pub returns-clause-value : goal.returns-clause-value
 returns-clause-value g c =
@@ -12,7 +22,7 @@ returns-clause-value g c =
     let cs = c.args.constants.now in
     let a = c.args.a.now in
     let i = c.args.i in
-    c.from_vec.ensures ∙ c.in_ok-items.ensures.value
+    c.in_ok-items.ensures.value
     ∙ ap (λ rows. table m (sum_of_rows o m a rows m)) (take_rest cs (i * m * m))
     ∙ sym (basis-product o
     (g.met.F.Field.laws c.args.f.now) m cs c.requires.over.of_elements a i c.requires.element.of_elements

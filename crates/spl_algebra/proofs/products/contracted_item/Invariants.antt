@@ -1,7 +1,7 @@
 use Rattle.std.proofs.Common.{◌≡◌, ◌+◌, ◌*◌}
 use Rattle.theory_rings.specs.Ops.{IsElem}
 use Rattle.theory_rings.specs.Sum.{sum_of, at}
-use Rattle.spl_algebra.proofs.trace.contracted_item.Given as goal
+use Rattle.spl_algebra.proofs.products.contracted_item.Given as goal
 
 abbrev pub invariant-loop-l : goal.invariant-loop-l
 invariant-loop-l g l = let o = g.F.Field.ops l.f in record {
