@@ -1,5 +1,6 @@
 -- The linear system for an identity: its places, and what its two kinds of solutions show.
-use Rattle.std.specs.Prelude.{◌≡◌, ◌+◌, ◌-◌, ◌*◌, ◌/◌, ◌%◌, ◌<◌, ◌≤◌, ℕ, zero, suc, List, [], ◌∷◌, ◌++◌, length, get_or}
+use Rattle.std.specs.Prelude.{◌≡◌, ◌+◌, ◌-◌, ◌*◌, ◌/◌, ◌%◌, ◌^◌, ◌<◌, ◌≤◌, ℕ, zero, suc, List, [], ◌∷◌, ◌++◌, length}
+use Rattle.std.specs.Prelude.{get_or}
 use Rattle.std.specs.Prelude.{take, drop, cond, nat_eq, nat_lt, All}
 use Rattle.std.proofs.Common.{refl, sym, ◌∙◌, ap, ap₂, subst, arith, ⊎_elim}
 use Rattle.std.proofs.Math.Nat as nat
@@ -30,6 +31,15 @@ use Rattle.spl_algebra.specs.Products.{sum_of_rows}
 use Rattle.spl_algebra.proofs.Terms.{sum_of_eq_single, sum_of_eq_zero}
 use Rattle.spl_algebra.proofs.Rows.{constant-row, constant-column}
 use Rattle.spl_algebra.proofs.BasisRows.{at-basis_same, at-basis_other, product-basis, basis-product}
+
+-- the columns of the system can be counted where the constants can
+pub columns-fit : (m : ℕ) → 1 ≤ m → m * m * m < 2 ^ 64 → m * m + m * m < 2 ^ 64
+columns-fit m some fits = ⊎_elim
+    (λ (few : m < 2).
+    let one : m ≡ 1 = omega arith in
+    rw one (omega arith))
+    (λ (many : 2 ≤ m). omega (arith, nat.mul-le-mul_right (m * m) many))
+    (cases_lt m 2)
 
 pub right_place-within : (m i c : ℕ) → i < m → c < m * m + m * m
     → ((c - m * m) / m * m + i) * m + (c - m * m) % m < m * m * m

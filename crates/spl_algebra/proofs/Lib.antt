@@ -4,6 +4,7 @@ pub mod Rows
 pub mod BasisRows
 pub mod Multipliers
 pub mod IdentityRows
+pub mod Identities
 pub mod Contractions
 pub mod Commutators
 pub mod Inclusions

@@ -4,7 +4,8 @@ ghost use Rattle.theory_rings.specs.Ops.{IsElem};
 ghost use Rattle.theory_rings.specs.Sum.{table};
 ghost use Rattle.theory_spaces.specs.Tuples.{IsTuple, tuple_neg};
 ghost use Rattle.theory_tables.specs.Structure.{IsOver};
-ghost use Rattle.spl_algebra.specs.Identity.{IsOne};
+ghost use Rattle.theory_tables.specs.Algebras.{HasIdentity};
+ghost use Rattle.spl_algebra.specs.Identity.{IsOne, IsHere, IsRefuted};
 ghost use Rattle.spl_algebra.specs.IdentitySystem.{constant_place, constant_row, unit_row, unit_item};
 ghost use Rattle.spl_algebra.specs.IdentitySystem.{IsIdentitySystem, ListsMultipliers};
 
@@ -160,26 +161,45 @@ fn opposite<F: Field>(
     Ok(opposite)
 }
 
+/// The identity of the algebra of dimension m with these constants, or what refutes that there is one.
+fn one_of<F: Field>(
+    alloc: Global,
+    f: &F,
+    m: usize,
+    constants: &[F::Elem],
+) -> Result<One<F>, NoMemory>
+    requires positive { 1 ≤ m }
+    requires fits { m * m * m < 2 ^ 64 }
+    requires over { IsTuple (F.ops f.now) (m * m * m) constants.now }
+    ensures { IfOk result (IsOne (F.ops f.now) (record { dim = m; constants = constants.now })) }
+{
+    let rows = system(alloc, f, m, constants)?;
+    let right = coordinates(alloc, f, m + 1, m)?;
+    match rows.solve(alloc, f, right.as_slice())? {
+        Solution::Solved { vector } => {
+            let (left, right) = vector.as_slice().split_at(m * m);
+            let left = listed(alloc, f, m, left)?;
+            let right = listed(alloc, f, m, right)?;
+            Ok(One::Refuted { left, right })
+        }
+        Solution::Refuted { multipliers } => {
+            let tuple = opposite(alloc, f, m, multipliers.as_slice())?;
+            Ok(One::Here { tuple })
+        }
+    }
+}
+
 impl<F: Field> Algebra<F> {
-    /// The identity, or what refutes that there is one. The algebra need not be associative.
+    /// The identity exactly where there is one, and else what refutes that there is one. The algebra need not be
+    /// associative.
     pub fn identity(&self, alloc: Global, f: &F) -> Result<One<F>, NoMemory>
         requires { IsOver (F.ops f.now) self.now }
-        ensures { IfOk result (IsOne (F.ops f.now) self.now) }
+        ensures value { IfOk result (IsOne (F.ops f.now) self.now) }
+        ensures here { IfOk result (λ r. IsHere r ↔ HasIdentity (F.ops f.now) self.now) }
+        ensures refuted { IfOk result (λ r.
+            IsRefuted r ↔ (HasIdentity (F.ops f.now) self.now → ⊥)) }
     {
-        let m = self.dim();
-        let rows = system(alloc, f, m, self.constants())?;
-        let right = coordinates(alloc, f, m + 1, m)?;
-        match rows.solve(alloc, f, right.as_slice())? {
-            Solution::Solved { vector } => {
-                let (left, right) = vector.as_slice().split_at(m * m);
-                let left = listed(alloc, f, m, left)?;
-                let right = listed(alloc, f, m, right)?;
-                Ok(One::Refuted { left, right })
-            }
-            Solution::Refuted { multipliers } => {
-                let tuple = opposite(alloc, f, m, multipliers.as_slice())?;
-                Ok(One::Here { tuple })
-            }
-        }
+        let one = one_of(alloc, f, self.dim(), self.constants())?;
+        Ok(one)
     }
 }

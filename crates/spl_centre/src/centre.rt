@@ -1,11 +1,11 @@
 // Identity, centre and trace form.
-ghost use Rattle.std.specs.Prelude.{◌≡◌, ◌≢◌, ◌%◌, IfOk, MatchOption, All};
+ghost use Rattle.std.specs.Prelude.{◌≡◌, ◌≢◌, ◌↔◌, ◌%◌, IfOk, MatchOption, All};
 ghost use Rattle.theory_rings.specs.Ops.{IsElem};
 ghost use Rattle.spl_field.specs.SmallField.{characteristic};
 ghost use Rattle.spl_fraction.specs.Fractions.{field_of};
 ghost use Rattle.spl_fraction.specs.FractionsOver.{fractions_over};
 ghost use Rattle.theory_tables.specs.Structure.{IsOver, IsAssociative};
-ghost use Rattle.spl_algebra.specs.Identity.{IsOne};
+ghost use Rattle.spl_algebra.specs.Identity.{IsOne, IsHere, IsRefuted};
 ghost use Rattle.theory_tables.specs.Algebras.{HasIdentity, HasSmallCentre};
 ghost use Rattle.theory_tables.specs.Traces.{IsNondegenerate};
 ghost use Rattle.theory_tables.specs.Claims.{CentralClaim};
@@ -23,14 +23,18 @@ use std::alloc::Global;
 /// An algebra over the rational functions.
 pub type KAlgebra = Algebra<Fractions>;
 
-/// The identity, or what refutes that there is one. The one fault is want of memory.
+/// The identity exactly where there is one, and else what refutes that there is one. The one fault is want of memory.
 pub fn identity_or_refutation(
     alloc: Global,
     f: &Fractions,
     a: &KAlgebra,
 ) -> Result<One<Fractions>, NoMemory>
     requires { IsOver (fractions_over (field_of f.now)) a.now }
-    ensures { IfOk result (IsOne (fractions_over (field_of f.now)) a.now) }
+    ensures value { IfOk result (IsOne (fractions_over (field_of f.now)) a.now) }
+    ensures here { IfOk result (λ r.
+        IsHere r ↔ HasIdentity (fractions_over (field_of f.now)) a.now) }
+    ensures refuted { IfOk result (λ r.
+        IsRefuted r ↔ (HasIdentity (fractions_over (field_of f.now)) a.now → ⊥)) }
 {
     a.identity(alloc, f)
 }

@@ -1,46 +1,25 @@
-use Rattle.std.proofs.Common.{◌∙◌, ◌*◌, ap, sym, subst, take, drop, All, length}
-use Rattle.theory_rings.specs.Ops.{IsElem}
-use Rattle.theory_tables.specs.Matrix.{width_of}
-use Rattle.theory_tables.specs.Solve.{IsSolved, IsRefuted}
-use Rattle.spl_algebra.specs.IdentitySystem.{ListsMultipliers}
-use Rattle.spl_algebra.proofs.IdentityRows.{refutes_identity, opposite_is_one}
+use Rattle.std.proofs.Common.{ℕ, List, subst₂}
+use Rattle.spl_algebra.specs.Identity.{IsOne}
+use Rattle.spl_algebra.proofs.Identities.{here_exactly, refuted_exactly}
 use Rattle.spl_algebra.proofs.algebra.Algebra.identity.Goals as goal
 
-pub returns-in-Solved : goal.returns-in-Solved
-returns-in-Solved g c =
-    let o = g.F.Field.ops c.args.f.now in
-    let laws = g.met.F.Field.laws c.args.f.now in
-    let m = c.dim-m.result in
-    let cs = c.constants.result.now in
-    let rows = c.in_ok-rows.rows in
-    let elems = subst (λ xs. All (IsElem o) xs) (sym c.constants.ensures.value) c.requires.of_elements in
-    let solution = rw c.in-Solved.is at c.in_ok-vector.ensures in
-    let solved = subst (λ right. IsSolved o (length rows) (width_of rows) rows right c.in-Solved.vector)
-    (c.as_slice.ensures ∙ c.in_ok-right.ensures.value) solution in
-    let front = subst (λ xs. ListsMultipliers o m xs c.in_ok-left-in-Solved.left)
-    (c.split_at.ensures.front ∙ ap (take (m * m)) c.as_slice-in-Solved.ensures) c.in_ok-left-in-Solved.ensures in
-    let back = subst (λ xs. ListsMultipliers o m xs c.in_ok-right-in-Solved.right)
-    (c.split_at.ensures.back ∙ ap (drop (m * m)) c.as_slice-in-Solved.ensures) c.in_ok-right-in-Solved.ensures in
-    rw (← c.dim-m.ensures.dim, ← c.constants.ensures.value)
-    (refutes_identity o laws m cs elems rows c.in_ok-rows.ensures c.in-Solved.vector c.in_ok-left-in-Solved.left
-    c.in_ok-right-in-Solved.right
-    solved front back)
+pub returns-clause-value : goal.returns-clause-value
+returns-clause-value g c =
+    subst₂ (λ (m : ℕ) (cs : List g.row.F-Elem.Denot).
+    IsOne (g.F.Field.ops c.args.f.now) (record { dim = m; constants = cs }) c.in_ok-one.one)
+    c.dim.ensures.dim c.constants.ensures.value c.in_ok-one.ensures
 
-pub returns : goal.returns
-returns g c =
-    let o = g.F.Field.ops c.args.f.now in
-    let laws = g.met.F.Field.laws c.args.f.now in
-    let m = c.dim-m.result in
-    let cs = c.constants.result.now in
-    let rows = c.in_ok-rows.rows in
-    let elems = subst (λ xs. All (IsElem o) xs) (sym c.constants.ensures.value) c.requires.of_elements in
-    let solution = rw c.in-Refuted.is at c.in_ok-vector.ensures in
-    let refuted = subst (λ right. IsRefuted o (length rows) (width_of rows) rows right c.in-Refuted.multipliers)
-    (c.as_slice.ensures ∙ c.in_ok-right.ensures.value) solution in
-    rw (
-      ← c.dim-m.ensures.dim,
-      ← c.constants.ensures.value,
-      c.in_ok-tuple-in-Refuted.ensures.value,
-      c.as_slice-in-Refuted.ensures,
-    )
-    (opposite_is_one o laws m cs elems rows c.in_ok-rows.ensures c.in-Refuted.multipliers refuted)
+pub returns-clause-here : goal.returns-clause-here
+returns-clause-here g c =
+    here_exactly (g.F.Field.ops c.args.f.now) (g.met.F.Field.laws c.args.f.now) c.args.self.now c.requires c.in_ok-one.one
+    (subst₂ (λ (m : ℕ) (cs : List g.row.F-Elem.Denot).
+    IsOne (g.F.Field.ops c.args.f.now) (record { dim = m; constants = cs }) c.in_ok-one.one)
+    c.dim.ensures.dim c.constants.ensures.value c.in_ok-one.ensures)
+
+pub returns-clause-refuted : goal.returns-clause-refuted
+returns-clause-refuted g c =
+    refuted_exactly (g.F.Field.ops c.args.f.now) (g.met.F.Field.laws c.args.f.now) c.args.self.now c.requires
+    c.in_ok-one.one
+    (subst₂ (λ (m : ℕ) (cs : List g.row.F-Elem.Denot).
+    IsOne (g.F.Field.ops c.args.f.now) (record { dim = m; constants = cs }) c.in_ok-one.one)
+    c.dim.ensures.dim c.constants.ensures.value c.in_ok-one.ensures)

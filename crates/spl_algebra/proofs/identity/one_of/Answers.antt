@@ -1,0 +1,39 @@
+use Rattle.std.proofs.Common.{◌∙◌, ◌*◌, ap, subst, take, drop, length}
+use Rattle.theory_tables.specs.Matrix.{width_of}
+use Rattle.theory_tables.specs.Solve.{IsSolved, IsRefuted}
+use Rattle.spl_algebra.specs.IdentitySystem.{ListsMultipliers}
+use Rattle.spl_algebra.proofs.IdentityRows.{refutes_identity, opposite_is_one, columns-fit}
+use Rattle.spl_algebra.proofs.identity.one_of.Goals as goal
+
+pub system-requires-clause-columns : goal.system-requires-clause-columns
+system-requires-clause-columns g c = columns-fit c.args.m c.requires.positive c.requires.fits
+
+pub returns-in-Solved : goal.returns-in-Solved
+returns-in-Solved g c =
+    let o = g.F.Field.ops c.args.f.now in
+    let m = c.args.m in
+    let rows = c.in_ok-rows.rows in
+    let solution = rw c.in-Solved.is at c.in_ok-vector.ensures in
+    let solved = subst (λ right. IsSolved o (length rows) (width_of rows) rows right c.in-Solved.vector)
+    (c.as_slice.ensures ∙ c.in_ok-right.ensures.value) solution in
+    let front = subst (λ xs. ListsMultipliers o m xs c.in_ok-left-in-Solved.left)
+    (c.split_at.ensures.front ∙ ap (take (m * m)) c.as_slice-in-Solved.ensures) c.in_ok-left-in-Solved.ensures in
+    let back = subst (λ xs. ListsMultipliers o m xs c.in_ok-right-in-Solved.right)
+    (c.split_at.ensures.back ∙ ap (drop (m * m)) c.as_slice-in-Solved.ensures) c.in_ok-right-in-Solved.ensures in
+    refutes_identity o (g.met.F.Field.laws c.args.f.now) m c.args.constants.now c.requires.over.of_elements rows
+    c.in_ok-rows.ensures c.in-Solved.vector c.in_ok-left-in-Solved.left c.in_ok-right-in-Solved.right
+    solved front back
+
+pub returns : goal.returns
+returns g c =
+    let o = g.F.Field.ops c.args.f.now in
+    let m = c.args.m in
+    let cs = c.args.constants.now in
+    let rows = c.in_ok-rows.rows in
+    let solution = rw c.in-Refuted.is at c.in_ok-vector.ensures in
+    let refuted = subst (λ right. IsRefuted o (length rows) (width_of rows) rows right c.in-Refuted.multipliers)
+    (c.as_slice.ensures ∙ c.in_ok-right.ensures.value) solution in
+    rw (c.in_ok-tuple-in-Refuted.ensures.value, c.as_slice-in-Refuted.ensures)
+    (opposite_is_one o
+    (g.met.F.Field.laws c.args.f.now) m cs c.requires.over.of_elements rows c.in_ok-rows.ensures
+    c.in-Refuted.multipliers refuted)
