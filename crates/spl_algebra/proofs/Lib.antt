@@ -9,3 +9,4 @@ pub mod Contractions
 pub mod Commutators
 pub mod Inclusions
 pub mod Multiples
+pub mod Triples

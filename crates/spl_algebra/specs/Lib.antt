@@ -4,3 +4,4 @@ pub mod IdentitySystem
 pub mod Subspaces
 pub mod Contractions
 pub mod Multiples
+pub mod Triple

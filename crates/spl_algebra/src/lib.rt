@@ -12,3 +12,4 @@ pub mod identity;
 pub mod laws;
 mod products;
 pub mod trace;
+pub mod triple;

@@ -17,8 +17,8 @@ use Rattle.spl_evidence.specs.declared.evidence.Evidence.TheVariants.{Ideal}
 use Rattle.spl_evidence.specs.Claim.{Claim}
 use Rattle.spl_table.specs.Table.{field_of, algebra_of, ops_of}
 use Rattle.spl_table.specs.declared.table.Table.{Table}
-use Rattle.spl_table.specs.Triple.{IsFirstFailed}
-use Rattle.spl_table.specs.declared.triple.Triple.{Triple}
+use Rattle.spl_algebra.specs.Triple.{IsFirstFailed}
+use Rattle.spl_algebra.specs.declared.triple.Triple.{Triple}
 use Rattle.spl_centre.specs.TraceIdeal.{IsTraceIdeal}
 use Rattle.spl_engine.specs.Kind.{IsOfKind, IsEvidence, HasNoFault}
 

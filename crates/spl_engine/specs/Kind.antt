@@ -12,7 +12,7 @@ use Rattle.theory_tables.specs.Split.{IsSplit}
 use Rattle.spl_evidence.specs.declared.evidence.Evidence.{Evidence}
 use Rattle.spl_evidence.specs.declared.evidence.Evidence.TheVariants.{Triple, NoIdentity, Central, Ideal}
 use Rattle.spl_evidence.specs.Claim.{Claim}
-use Rattle.spl_table.specs.Triple.{IsFirstFailed}
+use Rattle.spl_algebra.specs.Triple.{IsFirstFailed}
 
 module _ (o : Ops (Pair ℕ)) (A : Structure (Pair ℕ)) where
   -- an associative algebra with identity whose centre is larger than the multiples of it

@@ -8,4 +8,3 @@ mod Filling
 mod Constants
 mod EntryFaults
 mod Admitted
-pub mod Triples

@@ -1,5 +1,4 @@
 pub mod TableText
 pub mod Refusal
 pub mod Table
-pub mod Triple
 pub mod Reading

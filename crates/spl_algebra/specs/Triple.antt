@@ -3,7 +3,7 @@ use Rattle.std.specs.Prelude.{ℕ, ◌+◌, ◌-◌, ◌<◌, ◌≤◌}
 use Rattle.theory_rings.specs.Ops.{Ops}
 use Rattle.theory_rings.specs.Triples.{ComesBefore}
 use Rattle.theory_tables.specs.Structure.{Structure, AssociatesAt}
-use Rattle.spl_table.specs.declared.triple.Triple.{Triple}
+use Rattle.spl_algebra.specs.declared.triple.Triple.{Triple}
 
 module _ {E : Type 0} (o : Ops E) (A : Structure E) where
   -- k is the first, counted from 0, at which (b_i·b_j)·b_k and b_i·(b_j·b_k) differ

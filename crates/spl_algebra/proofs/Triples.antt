@@ -3,7 +3,7 @@ use Rattle.std.specs.Prelude.{◌≡◌, ◌⊎◌, ℕ, ◌+◌, ◌-◌, ◌<�
 use Rattle.std.proofs.Common.{subst, arith, ⊎_elim}
 use Rattle.theory_rings.specs.Ops.{Ops}
 use Rattle.theory_tables.specs.Structure.{Structure, AssociatesAt}
-use Rattle.spl_table.specs.Triple.{AssociatesAtPair, FailsFirstAtPair, IsFirstFailed}
+use Rattle.spl_algebra.specs.Triple.{AssociatesAtPair, FailsFirstAtPair, IsFirstFailed}
 
 module _ {E : Type 0} (o : Ops E) (A : Structure E) where
   -- a triple counted from 1 is what its places counted from 0 are
