@@ -1,17 +1,16 @@
 // Identity, centre and trace form.
-ghost use Rattle.std.specs.Prelude.{◌≡◌, ◌≢◌, ◌↔◌, ◌%◌, IfOk, MatchOption, All};
-ghost use Rattle.theory_rings.specs.Ops.{IsElem};
+ghost use Rattle.std.specs.Prelude.{◌≢◌, ◌↔◌, ◌%◌, IfOk, MatchOption};
 ghost use Rattle.spl_field.specs.SmallField.{characteristic};
 ghost use Rattle.spl_fraction.specs.Fractions.{field_of};
 ghost use Rattle.spl_fraction.specs.FractionsOver.{fractions_over};
 ghost use Rattle.theory_tables.specs.Structure.{IsOver, IsAssociative};
 ghost use Rattle.spl_algebra.specs.Identity.{IsOne, IsHere, IsRefuted};
-ghost use Rattle.theory_tables.specs.Algebras.{HasIdentity, HasSmallCentre};
+ghost use Rattle.theory_tables.specs.Algebras.{IsIdentity, HasIdentity, HasSmallCentre};
 ghost use Rattle.theory_tables.specs.Traces.{IsNondegenerate};
 ghost use Rattle.theory_tables.specs.Claims.{CentralClaim};
 ghost use Rattle.spl_centre.specs.TraceIdeal.{IsTraceIdeal};
 
-use crate::identity::fault_of;
+use crate::identity::{fault_of, identity_of};
 use crate::radical::radical_of;
 use spl_algebra::algebra::Algebra;
 use spl_algebra::identity::One;
@@ -49,19 +48,25 @@ pub fn centre_fault(alloc: Global, f: &Fractions, a: &KAlgebra) -> Result<Option
         (HasSmallCentre (fractions_over (field_of f.now)) a.now)
         (CentralClaim (fractions_over (field_of f.now)) a.now)) }
 {
-    fault_of(alloc, f, a)
+    let one = identity_of(alloc, f, a)?;
+    fault_of(alloc, f, a, &one)
 }
 
-/// A list of equal tuples.
-fn copies(alloc: Global, f: &Fractions, rows: &[Tuple]) -> Result<Tuples, NoMemory>
-    requires { All (All (IsElem (fractions_over (field_of f.now)))) rows.now }
-    ensures { IfOk result (λ r. r ≡ rows.now) }
+/// The same where the identity is at hand.
+pub fn centre_fault_from(
+    alloc: Global,
+    f: &Fractions,
+    a: &KAlgebra,
+    one: &Tuple,
+) -> Result<Option<Tuple>, NoMemory>
+    requires over { IsOver (fractions_over (field_of f.now)) a.now }
+    requires associative { IsAssociative (fractions_over (field_of f.now)) a.now }
+    requires one { IsIdentity (fractions_over (field_of f.now)) a.now one.now }
+    ensures { IfOk result (λ r. MatchOption r
+        (HasSmallCentre (fractions_over (field_of f.now)) a.now)
+        (CentralClaim (fractions_over (field_of f.now)) a.now)) }
 {
-    let mut tuples = Tuples::new(alloc);
-    for row in rows {
-        tuples.push(row.copy(alloc, f)?)?;
-    }
-    Ok(tuples)
+    fault_of(alloc, f, a, one)
 }
 
 /// A basis of the radical of the trace form, the set of all a with tr(a·b) = 0 for each b; None exactly where it is 0.
@@ -80,5 +85,5 @@ pub fn trace_ideal(alloc: Global, f: &Fractions, a: &KAlgebra) -> Result<Option<
     if radical.dim() == 0 {
         return Ok(None);
     }
-    Ok(Some(copies(alloc, f, radical.rows().as_slice())?))
+    Ok(Some(radical.into_rows().into_list()))
 }

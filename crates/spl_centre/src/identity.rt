@@ -15,7 +15,11 @@ use spl_matrix::subspace::Subspace;
 use std::alloc::Global;
 
 /// The identity of an algebra that has one.
-fn identity_of<F: Field>(alloc: Global, f: &F, a: &Algebra<F>) -> Result<Vector<F>, NoMemory>
+pub(crate) fn identity_of<F: Field>(
+    alloc: Global,
+    f: &F,
+    a: &Algebra<F>,
+) -> Result<Vector<F>, NoMemory>
     requires over { IsOver (F.ops f.now) a.now }
     requires identity { HasIdentity (F.ops f.now) a.now }
     ensures { IfOk result (IsIdentity (F.ops f.now) a.now) }
@@ -31,16 +35,16 @@ fn multiples_of<F: Field>(
     alloc: Global,
     f: &F,
     a: &Algebra<F>,
-    element: Vector<F>,
+    element: &Vector<F>,
 ) -> Result<Subspace<F>, NoMemory>
-    requires { IsElement (F.ops f.now) a.now element }
+    requires { IsElement (F.ops f.now) a.now element.now }
     ensures basis { IfOk result (IsSubspace (F.ops f.now)) }
     ensures width { IfOk result (λ s. s.width ≡ a.now.dim) }
     ensures members { IfOk result (λ s. (v : List F.Elem) → IsElement (F.ops f.now) a.now v
-        → (InSpan (F.ops f.now) a.now.dim s.rows v ↔ IsMultiple (F.ops f.now) a.now element v)) }
+        → (InSpan (F.ops f.now) a.now.dim s.rows v ↔ IsMultiple (F.ops f.now) a.now element.now v)) }
 {
     let mut rows = Matrix::new(alloc);
-    rows.push(element)?;
+    rows.push(element.copy(alloc, f)?)?;
     let multiples = Subspace::span(alloc, f, a.dim(), &rows)?;
     Ok(multiples)
 }
@@ -51,18 +55,18 @@ fn outside<F: Field>(
     alloc: Global,
     f: &F,
     a: &Algebra<F>,
+    one: &Vector<F>,
     centre: &Subspace<F>,
 ) -> Result<Vector<F>, NoMemory>
     requires over { IsOver (F.ops f.now) a.now }
     requires associative { IsAssociative (F.ops f.now) a.now }
-    requires identity { HasIdentity (F.ops f.now) a.now }
+    requires one { IsIdentity (F.ops f.now) a.now one.now }
     requires basis { IsSubspace (F.ops f.now) centre.now }
     requires width { centre.now.width ≡ a.now.dim }
     requires members { SpansCentre (F.ops f.now) a.now centre.now.rows }
     requires large { 2 ≤ length centre.now.rows }
     ensures { IfOk result (CentralClaim (F.ops f.now) a.now) }
 {
-    let one = identity_of(alloc, f, a)?;
     let multiples = multiples_of(alloc, f, a, one)?;
     let rows = centre.rows().as_slice();
     if multiples.contains(alloc, f, rows[0].as_slice())? {
@@ -72,16 +76,17 @@ fn outside<F: Field>(
     }
 }
 
-/// A central element that is no multiple of the identity; None exactly where the centre is the multiples of the
-/// identity.
+/// A central element that is no multiple of the identity, which is handed in; None exactly where the centre is the
+/// multiples of the identity.
 pub(crate) fn fault_of<F: Field>(
     alloc: Global,
     f: &F,
     a: &Algebra<F>,
+    one: &Vector<F>,
 ) -> Result<Option<Vector<F>>, NoMemory>
     requires over { IsOver (F.ops f.now) a.now }
     requires associative { IsAssociative (F.ops f.now) a.now }
-    requires identity { HasIdentity (F.ops f.now) a.now }
+    requires one { IsIdentity (F.ops f.now) a.now one.now }
     ensures { IfOk result (λ r. MatchOption r
         (HasSmallCentre (F.ops f.now) a.now)
         (CentralClaim (F.ops f.now) a.now)) }
@@ -91,5 +96,5 @@ pub(crate) fn fault_of<F: Field>(
     if centre.dim() < 2 {
         return Ok(None);
     }
-    Ok(Some(outside(alloc, f, a, &centre)?))
+    Ok(Some(outside(alloc, f, a, one, &centre)?))
 }

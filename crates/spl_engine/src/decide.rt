@@ -1,14 +1,15 @@
 // The decision.
 ghost use Rattle.std.specs.Prelude.{◌≡◌, IfOk, MatchOption};
 ghost use Rattle.theory_tables.specs.Structure.{IsAssociative};
-ghost use Rattle.theory_tables.specs.Algebras.{HasIdentity, HasSmallCentre};
+ghost use Rattle.theory_tables.specs.Algebras.{IsIdentity, HasSmallCentre};
 ghost use Rattle.spl_table.specs.Table.{algebra_of, ops_of};
 ghost use Rattle.spl_engine.specs.Kind.{IsEvidence, HasNoFault};
 
 use spl_algebra::identity::One;
-use spl_centre::centre::{centre_fault, identity_or_refutation, trace_ideal};
+use spl_centre::centre::{centre_fault_from, identity_or_refutation, trace_ideal};
 use spl_evidence::evidence::Evidence;
 use spl_field::field::NoMemory;
+use spl_fraction::tuples::Tuple;
 use spl_table::table::Table;
 use spl_table::triple::first_failed_triple;
 use std::alloc::Global;
@@ -26,14 +27,14 @@ fn of_small_centre(alloc: Global, table: &Table) -> Result<Option<Evidence>, NoM
     }
 }
 
-/// Of an associative algebra with an identity.
-fn of_unital(alloc: Global, table: &Table) -> Result<Option<Evidence>, NoMemory>
+/// Of an associative algebra with this identity.
+fn of_unital(alloc: Global, table: &Table, one: &Tuple) -> Result<Option<Evidence>, NoMemory>
     requires associative { IsAssociative (ops_of table.now) (algebra_of table.now) }
-    requires identity { HasIdentity (ops_of table.now) (algebra_of table.now).dim (algebra_of table.now).constants }
+    requires one { IsIdentity (ops_of table.now) (algebra_of table.now) one.now }
     ensures { IfOk result (λ r. MatchOption r (HasNoFault (ops_of table.now) (algebra_of table.now))
         (IsEvidence (ops_of table.now) (algebra_of table.now))) }
 {
-    match centre_fault(alloc, table.fractions(), table.algebra())? {
+    match centre_fault_from(alloc, table.fractions(), table.algebra(), one)? {
         Some(tuple) => Ok(Some(Evidence::Central { tuple })),
         None => of_small_centre(alloc, table),
     }
@@ -47,7 +48,7 @@ fn of_associative(alloc: Global, table: &Table) -> Result<Option<Evidence>, NoMe
 {
     match identity_or_refutation(alloc, table.fractions(), table.algebra())? {
         One::Refuted { left, right } => Ok(Some(Evidence::NoIdentity { left, right })),
-        One::Here { .. } => of_unital(alloc, table),
+        One::Here { tuple } => of_unital(alloc, table, &tuple),
     }
 }
 

@@ -91,6 +91,14 @@ impl<F: Field> Matrix<F> {
         self.rows.as_slice()
     }
 
+    /// All rows in order, as a list of its own. It takes no memory.
+    pub fn into_list(self) -> List<Vector<F>>
+        ensures { result ≡ self }
+    {
+        let Matrix { rows } = self;
+        List::from_vec(rows)
+    }
+
     /// An equal matrix of elements of f. The one fault is want of memory.
     pub fn copy(&self, alloc: Global, f: &F) -> Result<Self, NoMemory>
         requires { All (All (IsElem (F.ops f.now))) self.now }

@@ -138,6 +138,14 @@ impl<F: Field> Subspace<F> {
         &self.rows
     }
 
+    /// The basis in reduced row echelon form, as a matrix of its own. It takes no memory.
+    pub fn into_rows(self) -> Matrix<F>
+        ensures { result ≡ self.rows }
+    {
+        let Subspace { width, rows } = self;
+        rows
+    }
+
     /// An equal subspace over f. The one fault is want of memory.
     pub fn copy(&self, alloc: Global, f: &F) -> Result<Self, NoMemory>
         requires { All (All (IsElem (F.ops f.now))) self.now.rows }

@@ -26,5 +26,5 @@ returns c =
     (fractions_laws f) a c.requires.over c.requires.associative c.requires.identity rows basis some
     c.in_ok-radical.ensures.members
     (times_one-nonzero_over f a.dim c.requires.apart) in
-    subst (λ tuples. IsTraceIdeal o a tuples) (sym (c.in_ok-copies.ensures ∙ c.as_slice.ensures ∙ c.rows.ensures))
+    subst (λ tuples. IsTraceIdeal o a tuples) (sym (c.into_list.ensures ∙ c.into_rows.ensures))
     (record { claim = claim; spans = c.in_ok-radical.ensures.members })

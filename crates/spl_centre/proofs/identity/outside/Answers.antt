@@ -29,7 +29,7 @@ returns-then-branch g c =
     let basis = rw c.requires.width at c.requires.basis in
     let claim = second_row_claim o
     (g.met.F.Field.laws c.args.f.now) a c.requires.over.of_elements c.requires.associative
-    c.in_ok-one.one c.in_ok-one.ensures rows multiples basis c.requires.large c.requires.members
+    c.args.one.now c.requires.one rows multiples basis c.requires.large c.requires.members
     c.in_ok-multiples.ensures.members inside in
     IfOk-weaker c.copy.result (λ v. v ≡ c.index-rows-1.result) (λ v. CentralClaim o a v)
     (λ v e. subst (λ x. CentralClaim o a x) (sym (e ∙ second)) claim) c.copy.ensures
@@ -51,7 +51,7 @@ returns g c =
     let basis = rw c.requires.width at c.requires.basis in
     let claim = first_row_claim o
     (g.met.F.Field.laws c.args.f.now) a c.requires.over.of_elements c.requires.associative
-    c.in_ok-one.one c.in_ok-one.ensures rows multiples basis c.requires.large c.requires.members
+    c.args.one.now c.requires.one rows multiples basis c.requires.large c.requires.members
     c.in_ok-multiples.ensures.members
     (λ s. both_ways c.in_ok-contains.field-0 c.if-branch.false (c.in_ok-contains.ensures.1
     (subst (λ w. InSpan o w multiples c.as_slice.result.now) (sym c.in_ok-multiples.ensures.width)

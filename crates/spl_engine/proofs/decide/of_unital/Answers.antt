@@ -10,7 +10,8 @@ use Rattle.spl_engine.proofs.decide.of_unital.Goals as goal
 
 pub returns-in-Some : goal.returns-in-Some
 returns-in-Some c =
-    of_central c.args.table.now c.in-Some.tuple c.requires.associative c.requires.identity
+    of_central c.args.table.now c.in-Some.tuple c.requires.associative
+    (record { one = c.args.one.now; is_one = c.requires.one })
     (subst₂ (λ (f : Fractions) (A : Structure (Pair ℕ)). CentralClaim
     (fractions_over (field_of f)) A.dim A.constants c.in-Some.tuple)
     c.fractions.ensures c.algebra.ensures.algebra (rw c.in-Some.is at c.in_ok-tuple.ensures))
