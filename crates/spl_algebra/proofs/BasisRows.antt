@@ -3,9 +3,10 @@ use Rattle.std.specs.Prelude.{◌≡◌, ℕ, ◌+◌, ◌-◌, ◌*◌, ◌<◌
 use Rattle.std.proofs.Common.{refl, sym, ◌∙◌, ap, arith}
 use Rattle.std.proofs.lemmas.Bool.{eq-eqb, ne_eqb}
 use Rattle.std.proofs.lemmas.List.{length-take, length-drop, get_or-drop}
+use Rattle.std.proofs.lemmas.List.Elements.{All-take, All-drop}
 use Rattle.theory_rings.specs.Ops.{Ops, IsElem, FieldLaws}
 use Rattle.theory_rings.specs.Sum.{at, sum_of, table}
-use Rattle.theory_spaces.specs.Tuples.{product, basis, constant}
+use Rattle.theory_spaces.specs.Tuples.{IsTuple, product, basis, constant}
 use Rattle.theory_rings.proofs.Sums.Lists.{table_congr}
 use Rattle.theory_rings.proofs.Rings.Elements.{at-elem, sum_of-elem, sum_of_congr}
 use Rattle.theory_spaces.proofs.Tuples.Tuples.{at-table}
@@ -119,6 +120,13 @@ module _ {E : Type 0} (o : Ops E) (L : FieldLaws o) (m : ℕ) (cs : List E) (con
       → contracted o m b cs (i * m * m) m ≡ at o (product o m cs (basis o m i) b) 0
   first-basis_product b i hb h =
       first-rows b (i * m * m) m (omega arith) ∙ sym (ap (λ xs. at o xs 0) (basis-product b i hb h))
+
+  -- the row of the constants of two basis elements
+  pub IsTuple-row : (start : ℕ) → start + m ≤ length cs → IsTuple o m (take (start + m - start) (drop start cs))
+  IsTuple-row start last = record {
+    right_length = simp (length-take, length-drop) (omega arith);
+    of_elements = All-take (IsElem o) (start + m - start) (drop start cs) (All-drop (IsElem o) start cs constants);
+  }
 
   -- the product of two basis elements is the row of their constants
   pub row-product : (i j : ℕ) (start : ℕ) → start ≡ (i * m + j) * m → i < m → j < m → length cs ≡ m * m * m

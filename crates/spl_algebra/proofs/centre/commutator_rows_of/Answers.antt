@@ -1,9 +1,20 @@
-use Rattle.std.proofs.Common.{◌/◌, ◌%◌}
+use Rattle.std.proofs.Common.{◌/◌, ◌%◌, sym, ◌∙◌}
+use Rattle.theory_spaces.proofs.Matrices.PairIndex.{row-lt, column-lt}
 use Rattle.theory_rings.specs.Sum.{table}
 use Rattle.theory_spaces.specs.Tuples.{IsTuple}
 use Rattle.theory_tables.proofs.Rows.Sums.{table_step, All_step}
 use Rattle.spl_algebra.specs.Contractions.{commutator_item}
 use Rattle.spl_algebra.proofs.centre.commutator_rows_of.Goals as goal
+
+pub commutator_row_of-requires-clause-first : goal.commutator_row_of-requires-clause-first
+commutator_row_of-requires-clause-first g c = row-lt c.args.m c.args.m c.loop-r.r c.loop-r-test.true
+
+pub commutator_row_of-requires-clause-second : goal.commutator_row_of-requires-clause-second
+commutator_row_of-requires-clause-second g c = column-lt c.args.m c.args.m c.loop-r.r c.loop-r-test.true
+
+pub push-requires : goal.push-requires
+push-requires g c = λ k d k_in. (c.loop-r.invariant.shape k d k_in).right_length
+    ∙ sym c.in_ok-row.ensures.elem.right_length
 
 pub loop-r-preserved : goal.loop-r-preserved
 loop-r-preserved g c =

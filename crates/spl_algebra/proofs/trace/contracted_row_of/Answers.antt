@@ -16,6 +16,9 @@ overflow_add-start g c =
     let last = c.requires.within c.loop-j.j 0 c.loop-j-test.true some in
     omega arith
 
+pub contracted_item-requires-clause-within : goal.contracted_item-requires-clause-within
+contracted_item-requires-clause-within g c = λ l hl. c.requires.within c.loop-j.j l c.loop-j-test.true hl
+
 pub loop-j-preserved : goal.loop-j-preserved
 loop-j-preserved g c =
     let o = g.F.Field.ops c.args.f.now in
