@@ -16,8 +16,8 @@ use Rattle.spl_fraction.specs.Fractions.{field_of as base_of}
 use Rattle.spl_fraction.specs.declared.field.Fractions.{Fractions}
 use Rattle.spl_table.specs.TableText.{Entry, Head, first_line, field_line, degree_line, head_lines, entry_line}
 use Rattle.spl_table.specs.TableText.{end_line, lines_before_end, spelling, IsRightHead, IsWellFormed}
-use Rattle.spl_table.specs.Refusal.{whole, Begins, LacksLine, LineFault, last_of, IsFaultOfLines, IsFirstFault}
-use Rattle.spl_table.specs.Refusal.{IsRefusal, IsNoTextAt, table_limit}
+use Rattle.spl_table.specs.Refusal.{Extent, whole, Begins, LacksLine, LineFault, last_of, IsAfterEnd, IsFaultOfLines}
+use Rattle.spl_table.specs.Refusal.{IsFirstFault, IsRefusal, IsNoTextAt, IsWithinLimit, table_limit}
 use Rattle.spl_table.specs.Table.{fractions_of, degree_of, algebra_of, AreConstants, IsTableOf}
 use Rattle.spl_table.specs.declared.table.Table.{Table}
 use Rattle.spl_table.specs.Reading.{IfRefused, head_of, field_text, degree_text, IsFieldFault, IsDegreeFault}
@@ -35,7 +35,7 @@ use Rattle.spl_table.proofs.Spellings.{Lacks-field, Lacks-degree}
 cut_line : (text rest : List ℕ) → line text ++ rest ≡ text ++ 10 ∷ rest
 cut_line text rest = append_assoc text (10 ∷ []) rest
 
-module _ (bytes rest : List ℕ) (first : bytes ≡ first_line ++ rest) where
+module _ (x : Extent) (bytes rest : List ℕ) (first : bytes ≡ first_line ++ rest) where
   -- ---- the second line
 
   pub no_second : Lacks 10 rest → LacksLine bytes 2
@@ -56,7 +56,7 @@ module _ (bytes rest : List ℕ) (first : bytes ≡ first_line ++ rest) where
         (cut ∙ ap (λ t. t ++ 10 ∷ rest') spelled ∙ sym (cut_line (field_text p m) rest'))
         ∙ sym (append_assoc first_line (field_line p m) rest')
 
-    second_fault : (kind : Kind) → IsFieldFault second kind → IsFaultOfLines whole bytes 2 kind
+    pub second_fault : (kind : Kind) → IsFieldFault second kind → IsFaultOfLines x bytes 2 kind
     second_fault Header none = inr (inl (
       refl,
       record {
@@ -111,9 +111,9 @@ module _ (bytes rest : List ℕ) (first : bytes ≡ first_line ++ rest) where
     second_fault NotBuilt w = absurd w.fault
 
     pub second_refused : (e : TableFault) → IfRefused e (λ at kind. (at ≡ 2) × IsFieldFault second kind)
-        → IfRefused e (IsFaultOfLines whole bytes)
+        → IfRefused e (IsFaultOfLines x bytes)
     second_refused (Refused refusal) w =
-        subst (λ at. IsFaultOfLines whole bytes at refusal.kind) (sym w.0) (second_fault refusal.kind w.1)
+        subst (λ at. IsFaultOfLines x bytes at refusal.kind) (sym w.0) (second_fault refusal.kind w.1)
     second_refused Memory w = tt
 
     -- ---- the third line
@@ -144,7 +144,7 @@ module _ (bytes rest : List ℕ) (first : bytes ≡ first_line ++ rest) where
             (third_cut ∙ ap (λ t. t ++ 10 ∷ rest'') spelled ∙ sym (cut_line (degree_text n) rest''))
             ∙ sym (append_assoc (first_line ++ field_line p m) (degree_line n) rest'')
 
-        third_fault : (kind : Kind) → IsDegreeFault p third kind → IsFaultOfLines whole bytes 3 kind
+        pub third_fault : (kind : Kind) → IsDegreeFault p third kind → IsFaultOfLines x bytes 3 kind
         third_fault Header none = inr (inr (
           refl,
           record {
@@ -202,15 +202,15 @@ module _ (bytes rest : List ℕ) (first : bytes ≡ first_line ++ rest) where
         third_fault NotBuilt w = absurd w.fault
 
         pub third_refused : (e : TableFault) → IfRefused e (λ at kind. (at ≡ 3) × IsDegreeFault p third kind)
-            → IfRefused e (IsFaultOfLines whole bytes)
+            → IfRefused e (IsFaultOfLines x bytes)
         third_refused (Refused refusal) w =
-            subst (λ at. IsFaultOfLines whole bytes at refusal.kind) (sym w.0) (third_fault refusal.kind w.1)
+            subst (λ at. IsFaultOfLines x bytes at refusal.kind) (sym w.0) (third_fault refusal.kind w.1)
         third_refused Memory w = tt
 
 -- ---- the lines of the entries
 
-module _ (bytes rest : List ℕ) (h : Head) (right : IsRightHead h) (spelled : bytes ≡ head_lines h ++ rest) where
-  entries_fault : (at : ℕ) (kind : Kind) → IsFaultAfter h rest at kind → IsFaultOfLines whole bytes at kind
+module _ (x : Extent) (bytes rest : List ℕ) (h : Head) (right : IsRightHead h) (spelled : bytes ≡ head_lines h ++ rest) where
+  pub entries_fault : (at : ℕ) (kind : Kind) → IsFaultAfter h rest at kind → IsFaultOfLines x bytes at kind
   entries_fault at kind w = go kind w.fault
     where
       begins : Begins bytes h w.entries w.rest
@@ -221,7 +221,7 @@ module _ (bytes rest : List ℕ) (h : Head) (right : IsRightHead h) (spelled : b
             ∙ sym (append_assoc (head_lines h) (flat_map entry_line w.entries) w.rest);
       }
 
-      go : (kind' : Kind) → LineFault h (last_of None w.entries) w.rest kind' → IsFaultOfLines whole bytes at kind'
+      go : (kind' : Kind) → LineFault h (last_of None w.entries) w.rest kind' → IsFaultOfLines x bytes at kind'
       go EntryForm f = record {
         head = h;
         entries = w.entries;
@@ -279,7 +279,7 @@ module _ (bytes rest : List ℕ) (h : Head) (right : IsRightHead h) (spelled : b
       go AfterEnd f = absurd f
       go NotBuilt f = absurd f
 
-  pub entries_refused : (e : TableFault) → IfRefused e (IsFaultAfter h rest) → IfRefused e (IsFaultOfLines whole bytes)
+  pub entries_refused : (e : TableFault) → IfRefused e (IsFaultAfter h rest) → IfRefused e (IsFaultOfLines x bytes)
   entries_refused (Refused refusal) w = entries_fault refusal.line refusal.kind w
   entries_refused Memory w = tt
 
@@ -289,11 +289,11 @@ module _ (bytes rest : List ℕ) (h : Head) (right : IsRightHead h) (spelled : b
     all = spelled ∙ ap (λ t. head_lines h ++ t) read.spelled
         ∙ sym (append_assoc (head_lines h) (flat_map entry_line read.entries) (end_line ++ after))
 
-    pub bytes_after_end : length after ≢ 0 → IsFaultOfLines whole bytes (number + 1) AfterEnd
+    pub bytes_after_end : length after ≢ 0 → IsAfterEnd bytes (number + 1)
     bytes_after_end some = go after some all
       where
         go : (left : List ℕ) → length left ≢ 0 → bytes ≡ lines_before_end h read.entries ++ (end_line ++ left)
-            → IsFaultOfLines whole bytes (number + 1) AfterEnd
+            → IsAfterEnd bytes (number + 1)
         go [] none e = absurd (none refl)
         go (byte ∷ left) more e = record {
           head = h;
@@ -337,29 +337,32 @@ table_read table k n es constants fractions degree algebra are = record {
       (subst (λ (A : Structure (Pair ℕ)). AreConstants (small_ops (base_of k)) A.dim es A.constants) (sym algebra) are);
 }
 
+-- of an input within the limit that is text, the first fault of its lines is the first of all
+pub is_first_fault : (x : Extent) (bytes : List ℕ) → IsWithinLimit x bytes → IsText bytes → (at : ℕ) (kind : Kind)
+    → IsFaultOfLines x bytes at kind → IsFirstFault x bytes at kind
+is_first_fault x bytes within text at TooLong w = absurd w.fault
+is_first_fault x bytes within text at NotText w = absurd w.fault
+is_first_fault x bytes within text at Header w = (within, text, w)
+is_first_fault x bytes within text at FieldSize w = (within, text, w)
+is_first_fault x bytes within text at (FieldLaw element) w = (within, text, w)
+is_first_fault x bytes within text at Degree w = (within, text, w)
+is_first_fault x bytes within text at Characteristic w = (within, text, w)
+is_first_fault x bytes within text at EntryForm w = (within, text, w)
+is_first_fault x bytes within text at EntryRange w = (within, text, w)
+is_first_fault x bytes within text at EntryOrder w = (within, text, w)
+is_first_fault x bytes within text at ZeroDenominator w = (within, text, w)
+is_first_fault x bytes within text at PolyDegree w = (within, text, w)
+is_first_fault x bytes within text at NoEnd w = (within, text, w)
+is_first_fault x bytes within text at AfterEnd w = (within, text, w)
+is_first_fault x bytes within text at NotBuilt w = (within, text, w)
+
 module _ (bytes : List ℕ) (within : length bytes ≤ table_limit) where
   pub refused_lines : IsText bytes → (r : Result Table TableFault)
       → IfErr r (λ e. IfRefused e (IsFaultOfLines whole bytes)) → (refusal : Refusal) → r ≡ Err (Refused refusal)
       → IsRefusal whole bytes refusal
   refused_lines text r faults refusal is =
-      go refusal.kind (IfErr-at_err (λ e. IfRefused e (IsFaultOfLines whole bytes)) is faults)
-    where
-      go : (kind : Kind) → IsFaultOfLines whole bytes refusal.line kind → IsFirstFault whole bytes refusal.line kind
-      go TooLong w = absurd w.fault
-      go NotText w = absurd w.fault
-      go Header w = (within, text, w)
-      go FieldSize w = (within, text, w)
-      go (FieldLaw element) w = (within, text, w)
-      go Degree w = (within, text, w)
-      go Characteristic w = (within, text, w)
-      go EntryForm w = (within, text, w)
-      go EntryRange w = (within, text, w)
-      go EntryOrder w = (within, text, w)
-      go ZeroDenominator w = (within, text, w)
-      go PolyDegree w = (within, text, w)
-      go NoEnd w = (within, text, w)
-      go AfterEnd w = (within, text, w)
-      go NotBuilt w = (within, text, w)
+      is_first_fault whole bytes within text refusal.line refusal.kind
+      (IfErr-at_err (λ e. IfRefused e (IsFaultOfLines whole bytes)) is faults)
 
   pub refused_bytes : (e : TableFault) → IfRefused e (λ at kind. (kind ≡ NotText) × IsNoTextAt bytes at)
       → (refusal : Refusal) → e ≡ Refused refusal → IsRefusal whole bytes refusal

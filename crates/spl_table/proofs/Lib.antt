@@ -8,3 +8,6 @@ mod Filling
 mod Constants
 mod EntryFaults
 mod Admitted
+mod FieldDecisions
+mod EntryDecisions
+pub mod TableOrFault

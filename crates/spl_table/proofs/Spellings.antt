@@ -51,7 +51,7 @@ pub line_unique : (a b x y : List ℕ) → Lacks 10 a → Lacks 10 b → line a 
 line_unique a b x y la lb e =
     split_unique 10 a b x y la lb (sym (append_assoc a (10 ∷ []) x) ∙ e ∙ append_assoc b (10 ∷ []) y)
 
-after_word : (word x : List ℕ) (n : ℕ) → word ++ decimal n ++ 32 ∷ [] ++ x ≡ word ++ (decimal n ++ 32 ∷ x)
+pub after_word : (word x : List ℕ) (n : ℕ) → word ++ decimal n ++ 32 ∷ [] ++ x ≡ word ++ (decimal n ++ 32 ∷ x)
 after_word word x n = append_assoc (word ++ decimal n) (32 ∷ []) x ∙ append_assoc word (decimal n) (32 ∷ x)
 
 pub field_unique : (p q : ℕ) (m l : List ℕ) → IsNumber p → IsNumber q → AreNumbers m → AreNumbers l

@@ -176,9 +176,22 @@ IsFirstFault extent bytes at kind = IsWithinLimit extent bytes × IsText bytes �
 abbrev pub IsRefusal : Extent → List ℕ → Refusal → Type 0
 IsRefusal extent bytes r = IsFirstFault extent bytes r.line r.kind
 
--- Each byte string is the text of a table or has a refusal. No contract names this yet; `read_table` shows it of the
--- whole form wherever memory suffices.
+-- ---- each text has one or the other
+
+-- the bytes are the text of this table and of no other, and have no refusal
+pub record IsOnlyTableText (extent : Extent) (bytes : List ℕ) (t : TableText) (rest : List ℕ) : Type 0 where
+  pub is_text : IsTableText extent bytes t rest
+  pub only : (u : TableText) (s : List ℕ) → IsTableText extent bytes u s → (t ≡ u) × (rest ≡ s)
+  pub no_refusal : (r : Refusal) → IsRefusal extent bytes r → ⊥
+
+-- the bytes have this refusal and no other, and are the text of no table
+pub record IsOnlyRefusal (extent : Extent) (bytes : List ℕ) (r : Refusal) : Type 0 where
+  pub is_refusal : IsRefusal extent bytes r
+  pub only : (f : Refusal) → IsRefusal extent bytes f → r ≡ f
+  pub no_table : (t : TableText) (rest : List ℕ) → IsTableText extent bytes t rest → ⊥
+
+-- each byte string is the text of exactly one table, or has exactly one refusal
 abbrev pub EachIsTextOrRefused : Extent → Type 0
 EachIsTextOrRefused extent =
-    (bytes : List ℕ) → ((t : TableText) × (rest : List ℕ) × IsTableText extent bytes t rest)
-    ⊎ ((f : Refusal) × IsRefusal extent bytes f)
+    (bytes : List ℕ) → ((t : TableText) × (rest : List ℕ) × IsOnlyTableText extent bytes t rest)
+    ⊎ ((r : Refusal) × IsOnlyRefusal extent bytes r)

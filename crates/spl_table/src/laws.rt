@@ -1,7 +1,7 @@
 // What holds of table texts whoever reads them.
 ghost use Rattle.std.specs.Prelude.{◌≡◌, ℕ, List};
 ghost use Rattle.spl_table.specs.TableText.{TableText};
-ghost use Rattle.spl_table.specs.Refusal.{Extent, IsTableText, IsRefusal};
+ghost use Rattle.spl_table.specs.Refusal.{Extent, IsTableText, IsRefusal, EachIsTextOrRefused};
 ghost use Rattle.spl_table.specs.declared.refusal.Refusal.{Refusal};
 
 /// A text is the text of at most one table, and the table text ends at one place.
@@ -20,4 +20,9 @@ pub fn no_text_has_both()
 pub fn one_refusal_a_text()
     ensures { (extent : Extent) (bytes : List ℕ) (f g : Refusal) → IsRefusal extent bytes f → IsRefusal extent bytes g
         → f ≡ g }
+{}
+
+/// Each byte string is the text of exactly one table, or has exactly one refusal.
+pub fn each_text_has_a_table_or_a_refusal()
+    ensures { (extent : Extent) → EachIsTextOrRefused extent }
 {}

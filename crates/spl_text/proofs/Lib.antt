@@ -1,3 +1,4 @@
 pub mod Words
 pub mod NumberLists
 pub mod Fractions
+pub mod Decisions

@@ -29,7 +29,7 @@ Lacks-numbers_text separator (n ∷ m ∷ ms) low other each =
 abbrev pub commas_text : List ℕ → List ℕ
 commas_text ns = flat_map (λ n. decimal n ++ 44 ∷ []) ns
 
-more : (n m : ℕ) (ms : List ℕ) → numbers_text (n ∷ m ∷ ms) ≡ decimal n ++ 44 ∷ numbers_text (m ∷ ms)
+pub more : (n m : ℕ) (ms : List ℕ) → numbers_text (n ∷ m ∷ ms) ≡ decimal n ++ 44 ∷ numbers_text (m ∷ ms)
 more n m ms = append_assoc (decimal n) (44 ∷ []) (numbers_text (m ∷ ms))
 
 commas_text-push : (ns rest : List ℕ) (n : ℕ)
@@ -70,7 +70,7 @@ SoFar-none word = record {
       record { numbers = ms; are = are; spelled = e };
 }
 
-rest_after : (ls after : List ℕ) (n : ℕ) → AreNumbers ls → IsNumber n → numbers_text ls ≡ decimal n ++ 44 ∷ after
+pub rest_after : (ls after : List ℕ) (n : ℕ) → AreNumbers ls → IsNumber n → numbers_text ls ≡ decimal n ++ 44 ∷ after
     → Rest after
 rest_after [] after n are is read = absurd (omega (arith, are.some))
 rest_after (m ∷ []) after n are is read =
@@ -95,7 +95,7 @@ pub SoFar-last : (word rest ns : List ℕ) (n : ℕ) → SoFar word rest ns → 
 SoFar-last word rest ns n so_far is read =
     (AreNumbers-push ns n so_far.each is, so_far.spelled ∙ ap (λ t. commas_text ns ++ t) read ∙ numbers_text-push ns n)
 
-no_rest : (rest ls : List ℕ) → AreNumbers ls → rest ≡ numbers_text ls
+pub no_rest : (rest ls : List ℕ) → AreNumbers ls → rest ≡ numbers_text ls
     → ((n : ℕ) (after : List ℕ) → IsNumber n → rest ≢ decimal n ++ 44 ∷ after)
     → ((n : ℕ) → IsNumber n → rest ≢ decimal n) → ⊥
 no_rest rest [] are e unbefore unread = omega (arith, are.some)

@@ -3,6 +3,7 @@ use Rattle.std.proofs.lemmas.Bool.{eqb-true, eqb-false}
 use Rattle.std.proofs.lemmas.Result.{err_from_is_err_and}
 use Rattle.spl_field.specs.SmallField.{characteristic, modulus_of, small_ops}
 use Rattle.spl_fraction.specs.Fractions.{field_of}
+use Rattle.spl_table.specs.Refusal.{whole}
 use Rattle.spl_table.specs.Reading.{IfRefused, IsDegreeFault, head_of}
 use Rattle.spl_table.proofs.Faults.{no_second, second_refused, no_third_line, third_refused, spelled_head}
 use Rattle.spl_table.proofs.Faults.{entries_refused, bytes_after_end, well_formed, spelled_whole, right_head}
@@ -12,14 +13,14 @@ use Rattle.spl_table.proofs.reader.read_lines.Goals as goal
 pub returns-in_default-split_once-clause-fault : goal.returns-in_default-split_once-clause-fault
 returns-in_default-split_once-clause-fault c =
     rw c.at-in_default-split_once.ensures
-    (no_second c.args.bytes.now c.in-Some.rest.now c.in-Some.ensures c.in_default-split_once.ensures)
+    (no_second whole c.args.bytes.now c.in-Some.rest.now c.in-Some.ensures c.in_default-split_once.ensures)
 
 pub returns-in_err-fractions-clause-fault : goal.returns-in_err-fractions-clause-fault
 returns-in_err-fractions-clause-fault c =
     let s = c.in-Some-split_once in
     let p = err_from_is_err_and c.from_residual.result c.from_residual.ensures.1 in
     rw (p.1, p.2)
-    (second_refused c.args.bytes.now c.in-Some.rest.now c.in-Some.ensures s.second.now s.rest.now s.ensures.0
+    (second_refused whole c.args.bytes.now c.in-Some.rest.now c.in-Some.ensures s.second.now s.rest.now s.ensures.0
     s.ensures.1 c.in_err-fractions.field-0.0 c.in_err-fractions.ensures.fault)
 
 pub returns-in_default-split_once-2-clause-fault : goal.returns-in_default-split_once-2-clause-fault
@@ -27,7 +28,7 @@ returns-in_default-split_once-2-clause-fault c =
     let s = c.in-Some-split_once in
     let k = field_of c.in_ok-fractions.fractions in
     rw c.at-in_default-split_once-2.ensures
-    (no_third_line c.args.bytes.now c.in-Some.rest.now c.in-Some.ensures s.second.now s.rest.now s.ensures.0 s.ensures.1
+    (no_third_line whole c.args.bytes.now c.in-Some.rest.now c.in-Some.ensures s.second.now s.rest.now s.ensures.0 s.ensures.1
     (characteristic k) (modulus_of k)
     c.in_ok-fractions.ensures.spelled c.in_ok-fractions.ensures.admitted c.in_default-split_once-2.ensures)
 
@@ -42,7 +43,7 @@ returns-in_err-n-clause-fault c =
     (λ at kind. (at ≡ 3) × IsDegreeFault q t.third.now kind)) same c.in_err-n.ensures.fault in
     let p = err_from_is_err_and c.from_residual-in_err-n.result c.from_residual-in_err-n.ensures.1 in
     rw (p.1, p.2)
-    (third_refused c.args.bytes.now c.in-Some.rest.now c.in-Some.ensures s.second.now s.rest.now s.ensures.0 s.ensures.1
+    (third_refused whole c.args.bytes.now c.in-Some.rest.now c.in-Some.ensures s.second.now s.rest.now s.ensures.0 s.ensures.1
     (characteristic k) (modulus_of k)
     c.in_ok-fractions.ensures.spelled c.in_ok-fractions.ensures.admitted t.third.now t.rest.now t.ensures.0 t.ensures.1
     c.in_err-n.field-0.0 fault)
@@ -56,12 +57,12 @@ returns-in_err-entries-clause-fault c =
     let same : c.p.result ≡ characteristic k = c.p.ensures.p ∙ ap characteristic c.field.ensures in
     let right = right_head k n.n c.p.result same c.in_ok-fractions.ensures.admitted n.ensures.low n.ensures.high
     n.ensures.apart in
-    let spelled = spelled_head c.args.bytes.now c.in-Some.rest.now c.in-Some.ensures s.second.now s.rest.now s.ensures.0
+    let spelled = spelled_head whole c.args.bytes.now c.in-Some.rest.now c.in-Some.ensures s.second.now s.rest.now s.ensures.0
     s.ensures.1 (characteristic k) (modulus_of k)
     c.in_ok-fractions.ensures.spelled c.in_ok-fractions.ensures.admitted t.third.now t.rest.now t.ensures.0 t.ensures.1
     n.n n.ensures.spelled in
     let p = err_from_is_err_and c.from_residual-in_err-entries.result c.from_residual-in_err-entries.ensures.1 in
-    rw (p.1, p.2) (entries_refused c.args.bytes.now t.rest.now
+    rw (p.1, p.2) (entries_refused whole c.args.bytes.now t.rest.now
     (head_of k n.n) right spelled c.in_err-entries.field-0.0 c.in_err-entries.ensures.fault)
 
 pub returns-then-not-is_empty-clause-fault : goal.returns-then-not-is_empty-clause-fault
@@ -73,14 +74,14 @@ returns-then-not-is_empty-clause-fault c =
     let same : c.p.result ≡ characteristic k = c.p.ensures.p ∙ ap characteristic c.field.ensures in
     let right = right_head k n.n c.p.result same c.in_ok-fractions.ensures.admitted n.ensures.low n.ensures.high
     n.ensures.apart in
-    let spelled = spelled_head c.args.bytes.now c.in-Some.rest.now c.in-Some.ensures s.second.now s.rest.now s.ensures.0
+    let spelled = spelled_head whole c.args.bytes.now c.in-Some.rest.now c.in-Some.ensures s.second.now s.rest.now s.ensures.0
     s.ensures.1 (characteristic k) (modulus_of k)
     c.in_ok-fractions.ensures.spelled c.in_ok-fractions.ensures.admitted t.third.now t.rest.now t.ensures.0 t.ensures.1
     n.n n.ensures.spelled in
     let entries = c.in_ok-entries.entries in
     let some : length entries.rest.now ≢ 0 = eqb-false _ _ (sym c.if-not-is_empty.ensures) in
     rw c.at-then-not-is_empty.ensures
-    (bytes_after_end c.args.bytes.now t.rest.now (head_of k n.n) right spelled
+    (bytes_after_end whole c.args.bytes.now t.rest.now (head_of k n.n) right spelled
     (small_ops k) entries.rest.now entries.number entries.constants c.in_ok-entries.ensures.entries some)
 
 pub returns-clause-ok : goal.returns-clause-ok
@@ -92,7 +93,7 @@ returns-clause-ok c =
     let same : c.p.result ≡ characteristic k = c.p.ensures.p ∙ ap characteristic c.field.ensures in
     let right = right_head k n.n c.p.result same c.in_ok-fractions.ensures.admitted n.ensures.low n.ensures.high
     n.ensures.apart in
-    let spelled = spelled_head c.args.bytes.now c.in-Some.rest.now c.in-Some.ensures s.second.now s.rest.now s.ensures.0
+    let spelled = spelled_head whole c.args.bytes.now c.in-Some.rest.now c.in-Some.ensures s.second.now s.rest.now s.ensures.0
     s.ensures.1 (characteristic k) (modulus_of k)
     c.in_ok-fractions.ensures.spelled c.in_ok-fractions.ensures.admitted t.third.now t.rest.now t.ensures.0 t.ensures.1
     n.n n.ensures.spelled in
@@ -101,9 +102,9 @@ returns-clause-ok c =
     let none : length entries.rest.now ≡ 0 = eqb-true _ _ (sym c.if-not-is_empty.ensures) in
     let table = c.in_ok-of.ensures in (
       record { head = head_of k n.n; entries = read.entries },
-      well_formed c.args.bytes.now t.rest.now (head_of k n.n) right spelled
+      well_formed whole c.args.bytes.now t.rest.now (head_of k n.n) right spelled
           (small_ops k) entries.rest.now entries.number entries.constants read,
-      spelled_whole c.args.bytes.now t.rest.now (head_of k n.n) right spelled
+      spelled_whole whole c.args.bytes.now t.rest.now (head_of k n.n) right spelled
           (small_ops k) entries.rest.now entries.number entries.constants read none,
       table_read c.in_ok-of.field-0 c.in_ok-fractions.fractions n.n read.entries entries.constants table.fractions
           table.degree table.algebra read.values,
