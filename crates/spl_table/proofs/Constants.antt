@@ -10,10 +10,10 @@ use Rattle.spl_field.specs.SmallField.{small_ops, size_of}
 use Rattle.spl_field.specs.declared.small.SmallField.{SmallField}
 use Rattle.spl_poly.specs.Operations.{IsOver, without_zeros}
 use Rattle.spl_poly.proofs.Trimming.{get_or-without_zeros}
-use Rattle.spl_text.specs.Text.{FractionText, IsFractionText, IsNumberList}
+use Rattle.spl_text.specs.Text.{FractionText, IsFractionText, IsNumberList, lists_of}
 use Rattle.spl_text.proofs.NumberLists.{last-from_IsTrimmed}
 use Rattle.theory_fractions.specs.Fraction.{Pair, IsSame, IsLowestTerms, IsFraction}
-use Rattle.spl_table.specs.TableText.{Entry, lists_of, IsInRange, IsOverZero}
+use Rattle.spl_table.specs.TableText.{Entry, IsInRange, IsOverZero}
 use Rattle.spl_table.specs.Reading.{head_of}
 use Rattle.spl_table.specs.Table.{IsConstant, denominator_of}
 

@@ -5,7 +5,7 @@ use Rattle.std.specs.Prelude.{length, codes, decimal, Option, Some, None}
 use Rattle.std.specs.List.{flat_map, AllByRecursion}
 use Rattle.theory_rings.specs.Triples.{ComesBefore}
 use Rattle.spl_field.specs.FieldByDigits.{IsAdmitted}
-use Rattle.spl_text.specs.Text.{FractionText, IsFractionText, IsNumber, fraction_text, numbers_text, line}
+use Rattle.spl_text.specs.Text.{FractionText, IsFractionText, IsNumber, fraction_text, numbers_text, lists_of, line}
 
 -- the line `I J K F`: the constant at (I, J, K), counted from 1, is the fraction F
 pub record Entry : Type 0 where
@@ -76,14 +76,6 @@ pub record IsEntry (e : Entry) : Type 0 where
   pub second : IsNumber e.j
   pub third : IsNumber e.k
   pub fraction : IsFractionText e.value
-
--- the lists of numbers of a fraction
-abbrev pub lists_of : FractionText → List (List ℕ)
-lists_of t = t.numerator ∷ denominators t.denominator
-  where
-    denominators : Option (List ℕ) → List (List ℕ)
-    denominators None = []
-    denominators (Some d) = d ∷ []
 
 -- the triple is one of basis elements, and each number of a list is an element of the field
 pub record IsInRange (h : Head) (e : Entry) : Type 0 where

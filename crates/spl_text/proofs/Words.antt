@@ -1,7 +1,7 @@
 -- The words of a text: what stands before a byte, what follows a prefix, and numbers.
 use Rattle.std.proofs.Common.{◌≡◌, ◌≢◌, ℕ, zero, suc, ◌+◌, ◌-◌, ◌^◌, ◌<◌, ◌≤◌, ◌==◌, ◌&&◌, ◌||◌, Bool, true, false, not}
 use Rattle.std.proofs.Common.{cond, eqb, ltb, leb, nat_eq, List, [], ◌∷◌, ◌++◌, length, take, drop, get_or, slice_index}
-use Rattle.std.proofs.Common.{Option, Some, None, refl, sym, ap, subst, ◌∙◌, inl, inr, arith, lit<}
+use Rattle.std.proofs.Common.{Option, Some, None, refl, sym, ap, subst, ◌∙◌, inl, inr, arith, lit<, append_assoc}
 use Rattle.std.specs.Prelude.{position, decimal, nat_lt, nat_le, MatchOption}
 use Rattle.std.specs.Bool.{then_some}
 use Rattle.std.specs.List.{position_or_len, list_all}
@@ -20,7 +20,7 @@ use Rattle.std.proofs.lemmas.List.Sums.{split_at_first, passes_at_first, fails_b
 use Rattle.std.proofs.lemmas.Option.{cond_some}
 use Rattle.std.proofs.lemmas.Str.Parse.{IsNumeralModel, numerals_by_value, tells_all_ascii_digits, digits_value_short}
 use Rattle.std.proofs.lemmas.Str.Parse.{not_in_digits}
-use Rattle.spl_text.specs.Text.{Lacks, IsNumber}
+use Rattle.spl_text.specs.Text.{Lacks, IsNumber, line}
 
 -- ---- bytes that a list lacks
 
@@ -70,6 +70,11 @@ split_unique separator (a ∷ u) (b ∷ v) x y la lb e =
     let both = split_unique separator u v x y (λ i below. la (suc i) (omega arith))
     (λ i below. lb (suc i) (omega arith)) tails in
     (cc (heads, both.0), both.1)
+
+-- a line ends at the first newline
+pub line_unique : (t u x y : List ℕ) → Lacks 10 t → Lacks 10 u → line t ++ x ≡ line u ++ y → (t ≡ u) × (x ≡ y)
+line_unique t u x y lt lu e =
+    split_unique 10 t u x y lt lu (sym (append_assoc t (10 ∷ []) x) ∙ e ∙ append_assoc u (10 ∷ []) y)
 
 module _ (separator : ℕ) (bytes : List ℕ) where
   abbrev is_separator : ℕ → Bool

@@ -77,6 +77,14 @@ pub record IsFractionText (t : FractionText) : Type 0 where
   pub numerator : IsNumberList t.numerator
   pub denominator : IfSome t.denominator IsNumberList
 
+-- the lists of numbers of a fraction
+abbrev pub lists_of : FractionText → List (List ℕ)
+lists_of t = t.numerator ∷ denominators t.denominator
+  where
+    denominators : Option (List ℕ) → List (List ℕ)
+    denominators None = []
+    denominators (Some d) = d ∷ []
+
 -- the coefficients of a polynomial as a text has them; 0 is `0`
 abbrev pub coefficients_text : List ℕ → List ℕ
 coefficients_text [] = codes "0"

@@ -1,6 +1,7 @@
 // The words that spell fractions.
-ghost use Rattle.std.specs.Prelude.{◌≡◌, ◌≢◌, IfOk, MatchOption};
-ghost use Rattle.spl_text.specs.Text.{FractionText, fraction_text, IsFractionText};
+ghost use Rattle.std.specs.Prelude.{◌≡◌, ◌≢◌, ◌↔◌, ◌<◌, IfOk, IsTrue, MatchOption};
+ghost use Rattle.std.specs.List.{AllByRecursion};
+ghost use Rattle.spl_text.specs.Text.{FractionText, fraction_text, IsFractionText, lists_of};
 ghost use Rattle.spl_text.specs.FractionWords.{text_of};
 
 use crate::numbers::{Numbers, number_list_of};
@@ -40,4 +41,22 @@ pub fn fraction_of(alloc: Global, word: &[u8]) -> Result<Option<FractionWords>, 
         numerator,
         denominator: Some(denominator),
     }))
+}
+
+/// Whether each number is below q.
+fn are_elements(numbers: &[u32], q: u32) -> bool
+    ensures { IsTrue result ↔ AllByRecursion (λ c. c < q) numbers.now }
+{
+    numbers.iter().all(|number| *number < q)
+}
+
+/// Whether each number of a list is below q.
+pub fn has_elements(value: &FractionWords, q: u32) -> bool
+    ensures { IsTrue result ↔ AllByRecursion (AllByRecursion (λ c. c < q)) (lists_of (text_of value.now)) }
+{
+    are_elements(value.numerator.as_slice(), q)
+        && match &value.denominator {
+            Some(denominator) => are_elements(denominator.as_slice(), q),
+            None => true,
+        }
 }

@@ -3,13 +3,13 @@ ghost use Rattle.std.specs.Prelude.{◌≡◌, ◌<◌, ◌≤◌, ◌-◌, [], 
 ghost use Rattle.std.specs.List.{AllByRecursion};
 ghost use Rattle.theory_rings.specs.Ops.{IsElem};
 ghost use Rattle.spl_field.specs.SmallField.{small_ops, size_of};
-ghost use Rattle.spl_text.specs.Text.{IsNumberList, IsFractionText};
+ghost use Rattle.spl_text.specs.Text.{IsNumberList, IsFractionText, lists_of};
 ghost use Rattle.spl_text.specs.FractionWords.{text_of};
 ghost use Rattle.spl_poly.specs.Operations.{IsOver, without_zeros};
 ghost use Rattle.theory_fractions.specs.Fraction.{IsLowestTerms, IsFraction};
 ghost use Rattle.spl_fraction.specs.Fractions.{field_of};
 ghost use Rattle.spl_fraction.specs.FractionsOver.{fractions_over};
-ghost use Rattle.spl_table.specs.TableText.{IsOverZero, lists_of};
+ghost use Rattle.spl_table.specs.TableText.{IsOverZero};
 ghost use Rattle.spl_table.specs.Table.{IsConstant, denominator_of};
 
 use smallvec::SmallVec;

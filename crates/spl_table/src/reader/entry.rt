@@ -1,11 +1,9 @@
 // An entry of a table text.
 ghost use Rattle.std.specs.Prelude.{◌≡◌, ◌≢◌, ◌↔◌, ℕ, ◌*◌, ◌<◌, ◌≤◌, ◌++◌, Option, IfOk, IfErr, IsTrue, List};
 ghost use Rattle.std.specs.Prelude.{MatchOption, codes};
-ghost use Rattle.std.specs.List.{AllByRecursion};
 ghost use Rattle.spl_text.specs.Text.{Lacks, line};
 ghost use Rattle.spl_text.specs.FractionWords.{text_of};
 ghost use Rattle.spl_table.specs.TableText.{Entry, IsEntry, IsInRange, IsOverZero, HasSmallDegrees, IsRightEntry};
-ghost use Rattle.spl_table.specs.TableText.{lists_of};
 ghost use Rattle.spl_table.specs.Refusal.{LineFault};
 ghost use Rattle.spl_table.specs.Reading.{IfRefused, entry_text, entry_of, head_of, place_of, IsPrevious};
 ghost use Rattle.spl_table.specs.Reading.{IsEntryFaultOf};
@@ -13,7 +11,7 @@ ghost use Rattle.spl_table.specs.Reading.{IsEntryFaultOf};
 use crate::refusal::{Kind, TableFault};
 use spl_field::field::NoMemory;
 use spl_field::small::SmallField;
-use spl_text::fraction::{FractionWords, fraction_of};
+use spl_text::fraction::{FractionWords, fraction_of, has_elements};
 use spl_text::word::number_before;
 use std::alloc::Global;
 
@@ -45,24 +43,6 @@ pub fn entry_words(alloc: Global, line: &[u8]) -> Result<Option<EntryWords>, NoM
         return Ok(None);
     };
     Ok(Some(EntryWords { i, j, k, value }))
-}
-
-/// Whether each number is below q.
-fn are_elements(numbers: &[u32], q: u32) -> bool
-    ensures { IsTrue result ↔ AllByRecursion (λ c. c < q) numbers.now }
-{
-    numbers.iter().all(|number| *number < q)
-}
-
-/// Whether each number of a list is below q.
-fn has_elements(value: &FractionWords, q: u32) -> bool
-    ensures { IsTrue result ↔ AllByRecursion (AllByRecursion (λ c. c < q)) (lists_of (text_of value.now)) }
-{
-    are_elements(value.numerator.as_slice(), q)
-        && match &value.denominator {
-            Some(denominator) => are_elements(denominator.as_slice(), q),
-            None => true,
-        }
 }
 
 /// Whether the denominator is `0`.
