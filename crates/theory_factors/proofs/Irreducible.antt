@@ -108,7 +108,7 @@ module _ {K : Type 0} (F : FieldOn K) (E : Enumerated K) where
           (cases_lt (degree a.0) (degree b.0));
     }
 
-  coprime_of_irreducible : (f : Poly R) → IsIrreducible R P f → IsCoprimeToPowers F E P t f
+  pub coprime_of_irreducible : (f : Poly R) → IsIrreducible R P f → IsCoprimeToPowers F E P t f
   coprime_of_irreducible f i j one l =
       let n = irreducible-ne-zero F f i in
       let h : Poly R = monic_of F f in

@@ -1,0 +1,4 @@
+pub mod Irreducible
+pub mod RemainderOps
+pub mod RemainderLaws
+pub mod RemainderStatements
