@@ -1,6 +1,6 @@
 -- Coprime lists of coefficients: a step of Euclid's algorithm, and its end.
-use Rattle.std.specs.Prelude.{◌≡◌, List, [], length}
-use Rattle.std.proofs.Common.{refl, sym, ◌∙◌, ap, ap₂, arith}
+use Rattle.std.specs.Prelude.{◌≡◌, ◌↔◌, List, [], length}
+use Rattle.std.proofs.Common.{refl, subst, sym, ◌∙◌, ap, ap₂, arith}
 use Rattle.std.proofs.lemmas.List.Elements.{All-nil}
 use Rattle.theory_rings.specs.Ring.{FieldOn, CommRingOn}
 use Rattle.theory_rings.specs.Ops.{Ops, IsElem, FieldLaws}
@@ -14,6 +14,7 @@ use Rattle.theory_rings.proofs.Polynomials.Degrees.{length-degree_of_ne_zero}
 use Rattle.theory_rings.proofs.Polynomials.Constants.{variable, degree-variable}
 use Rattle.theory_rings.proofs.Polynomials.Bezout.{field_polynomials, coprime_comm}
 use Rattle.theory_rings.proofs.Polynomials.Monic.{divides_self}
+use Rattle.theory_fractions.specs.PolynomialLists.{IsOver, IsDivision}
 use Rattle.theory_fractions.specs.Fraction.{IsCoprime}
 use Rattle.theory_fractions.specs.FractionOps.{polynomial_of}
 use Rattle.theory_fractions.proofs.FractionField.{polynomial_of-nil}
@@ -106,3 +107,39 @@ module _ {E : Type 0} (o : Ops E) (L : FieldLaws o) where
 
   pub coprime_nil : (a : List E) → IsPolynomialList o a → length a ≡ 1 → IsCoprime o a []
   coprime_nil a ha e = coprime_of_constant_left o L a [] (is_list o L a ha) e
+
+  -- x and y are coprime where a and b are, and only there
+  pub record HasSameDivisors (a b x y : List E) : Type 0 where
+    pub first : IsPolynomialList o x
+    pub second : IsPolynomialList o y
+    pub same : IsCoprime o x y ↔ IsCoprime o a b
+
+  pub same_divisors : (a b x y : List E) → IsPolynomialList o x → IsPolynomialList o y → x ≡ a → y ≡ b
+      → HasSameDivisors a b x y
+  same_divisors a b x y hx hy ex ey = record {
+    first = hx;
+    second = hy;
+    same = (
+      λ h. subst (IsCoprime o a) ey (subst (λ l. IsCoprime o l y) ex h),
+      λ h. subst (λ l. IsCoprime o l y) (sym ex) (subst (IsCoprime o a) (sym ey) h),
+    );
+  }
+
+  pub same_divisors_next : (a b x y q r : List E) → HasSameDivisors a b x y → IsOver o q → IsPolynomialList o r
+      → IsDivision o x y q r
+      → HasSameDivisors a b y r
+  same_divisors_next a b x y q r h hq hr d = record {
+    first = h.second;
+    second = hr;
+    same = (
+      λ c. h.same.0 (coprime_of_remainder x y r h.first h.second hr (q, hq, d) c),
+      λ c. coprime_remainder x y r h.first h.second hr (q, hq, d) (h.same.1 c),
+    );
+  }
+
+  pub coprime_iff_constant : (a b x y : List E) → HasSameDivisors a b x y → y ≡ []
+      → (length x ≡ 1) ↔ IsCoprime o a b
+  coprime_iff_constant a b x y h e = (
+    λ l. h.same.0 (subst (IsCoprime o x) (sym e) (coprime_nil x h.first l)),
+    λ c. constant_of_coprime_nil x h.first (subst (IsCoprime o x) e (h.same.1 c)),
+  )

@@ -1,11 +1,12 @@
 -- The test of a polynomial for irreducibility, step by step: after i steps the i-th iterate of the q-th power of x is
 -- known modulo the polynomial, and it is coprime to x^(q^j) − x for each j up to i.
-use Rattle.std.specs.Prelude.{◌≡◌, ℕ, zero, suc, ◌*◌, ◌^◌, ◌<◌, ◌≤◌, List, [], ◌∷◌}
+use Rattle.std.specs.Prelude.{◌≡◌, ℕ, zero, suc, ◌*◌, ◌^◌, ◌<◌, ◌≤◌, List, [], ◌∷◌, length}
 use Rattle.std.proofs.Common.{refl, sym, ◌∙◌, ap, subst, arith, ⊎_elim}
 use Rattle.std.proofs.lemmas.Bool.{cases_lt}
+use Rattle.std.proofs.lemmas.List.Elements.{All-nil, All-cons}
 use Rattle.std.proofs.Math.Nat.{pow-zero, pow-suc}
 use Rattle.theory_rings.specs.Ring.{FieldOn, CommRingOn}
-use Rattle.theory_rings.specs.Ops.{Ops, FieldLaws}
+use Rattle.theory_rings.specs.Ops.{Ops, IsElem, FieldLaws}
 use Rattle.theory_rings.specs.Elements.{Elem, elements}
 use Rattle.theory_rings.specs.Sum.{at}
 use Rattle.theory_rings.specs.Power.{power}
@@ -32,6 +33,11 @@ use Rattle.theory_remainders.specs.RemainderLaws.{IsRemainderOf}
 use Rattle.theory_remainders.proofs.Divisions.{congruent_of_remainder_of, power_coefficients, has-power}
 use Rattle.theory_remainders.proofs.IrreducibleLists.{is_list, irreducible_polynomial, irreducible_list}
 use Rattle.theory_remainders.proofs.CoprimeLists.{coprime_of_sum, coprime_sum}
+
+-- a list of d + 1 coefficients is of degree d
+pub degree_of_length : {X : Type 0} (xs : List X) (d : ℕ) → suc d ≡ length xs → degree xs ≡ d
+degree_of_length [] d e = absurd (omega arith)
+degree_of_length (x ∷ xs) d e = omega arith
 
 module _ {E : Type 0} (o : Ops E) (L : FieldLaws o) where
   abbrev F : FieldOn (Elem o)
@@ -75,21 +81,31 @@ module _ {E : Type 0} (o : Ops E) (L : FieldLaws o) where
       each (suc zero) = refl
       each (suc (suc k)) = nought
 
-  module _ (N : Enumerated (Elem o)) (a : List E) (ha : IsPolynomialList o a) where
+  module _ (N : Enumerated (Elem o)) (a : List E) where
     abbrev A : Poly F.cring
     A = poly a
 
     -- i steps are done
     pub record AreStepsDone (i : ℕ) (w : List E) : Type 0 where
+      pub polynomial : IsPolynomialList o w
       pub congruent : Congruent P A (power P.ring t (N.size ^ i)) (poly w)
       pub coprime : (j : ℕ) → 1 ≤ j → j ≤ i → IsCoprimeIn F.cring P A (power_less F P t (N.size ^ j))
 
-    pub no_steps : (x : List E) → IsOver o x → ((k : ℕ) → at o x k ≡ at o (o.zero ∷ o.one ∷ []) k) → AreStepsDone 0 x
+    pub no_steps : (x : List E) → IsPolynomialList o x → ((k : ℕ) → at o x k ≡ at o (o.zero ∷ o.one ∷ []) k)
+        → AreStepsDone 0 x
     no_steps x hx h = record {
+      polynomial = hx;
       congruent = congruent_of_eq P A (power P.ring t (N.size ^ 0)) (poly x)
-          (ap (power P.ring t) (pow-zero N.size) ∙ power_first P.ring t ∙ sym (poly-variable x hx h));
+          (ap (power P.ring t) (pow-zero N.size) ∙ power_first P.ring t ∙ sym (poly-variable x hx.over h));
       coprime = λ j l m. absurd (omega arith);
     }
+
+    pub no_steps_variable : (x : List E) → x ≡ o.zero ∷ o.one ∷ [] → AreStepsDone 0 x
+    no_steps_variable x e = subst (AreStepsDone 0) (sym e) (no_steps (o.zero ∷ o.one ∷ []) (record {
+      over = All-cons (IsElem o) o.zero (o.one ∷ []) L.zero-elem
+          (All-cons (IsElem o) o.one [] L.one-elem (All-nil (IsElem o)));
+      trimmed = L.one-nonzero;
+    }) (λ k. refl))
 
     congruent-power : (p r : Poly F.cring) (n : ℕ) → Congruent P A p r
         → Congruent P A (power P.ring p n) (power P.ring r n)
@@ -97,7 +113,7 @@ module _ {E : Type 0} (o : Ops E) (L : FieldLaws o) where
     congruent-power p r (suc n) c =
         congruent-mul P A p r (power P.ring p n) (power P.ring r n) c (congruent-power p r n c)
 
-    module _ (i : ℕ) (w v y d : List E) (hw : IsPolynomialList o w) (hv : IsPolynomialList o v) (hy : IsOver o y)
+    module _ (ha : IsPolynomialList o a) (i : ℕ) (w v y d : List E) (hv : IsPolynomialList o v) (hy : IsOver o y)
         (hd : IsPolynomialList o d)
         (done : AreStepsDone i w) (s : IsRemainderOf o (power_coefficients o L w N.size) a v)
         (ey : (k : ℕ) → at o y k ≡ at o (o.zero ∷ o.neg o.one ∷ []) k) (ed : IsSum o v y d) where
@@ -115,7 +131,7 @@ module _ {E : Type 0} (o : Ops E) (L : FieldLaws o) where
           (congruent_trans P A (power P.ring (power P.ring t (q ^ i)) q) (power P.ring W q) (poly v)
           (congruent-power (power P.ring t (q ^ i)) W q done.congruent)
           (congruent_of_remainder_of o L (power P.ring W q) (power_coefficients o L w q)
-          (has-power o L W w q (has_polynomial_of o L w hw.over)) a v ha.over hv.over s))
+          (has-power o L W w q (has_polynomial_of o L w done.polynomial.over)) a v ha.over hv.over s))
 
       -- and its difference with x
       difference : power_less F P t n ≡ P.◌⊕◌ (poly d) (P.◌⊗◌ next.0 A)
@@ -133,6 +149,7 @@ module _ {E : Type 0} (o : Ops E) (L : FieldLaws o) where
 
       pub one_more : IsCoprime o a d → AreStepsDone (suc i) v
       one_more h = record {
+        polynomial = hv;
         congruent = next;
         coprime = λ j l b. ⊎_elim
             (λ (k : j < suc i). done.coprime j l (omega arith))
@@ -151,9 +168,9 @@ module _ {E : Type 0} (o : Ops E) (L : FieldLaws o) where
           (omega (arith, l, degree-polynomial_of o L a (is_list o L a ha))))))
 
     -- as many steps as half the degree
-    pub irreducible_of_steps : (w : List E) (h : ℕ) → 1 ≤ degree a → degree a ≤ suc (2 * h) → AreStepsDone h w
+    pub irreducible_of_steps : (w : List E) (h : ℕ) → IsPolynomialList o a → 1 ≤ degree a → degree a ≤ suc (2 * h) → AreStepsDone h w
         → IsIrreducible o a
-    irreducible_of_steps w h pos half done =
+    irreducible_of_steps w h ha pos half done =
         let d = degree-polynomial_of o L a (is_list o L a ha) in
         irreducible_list o L a ha (irreducible_of_coprime F N A (omega arith)
         (λ j l b. done.coprime j l (omega arith)))

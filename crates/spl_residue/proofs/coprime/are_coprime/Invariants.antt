@@ -1,0 +1,11 @@
+use Rattle.std.proofs.Common.{length}
+use Rattle.spl_field.specs.SmallField.{small_ops}
+use Rattle.theory_remainders.proofs.CoprimeLists.{HasSameDivisors}
+use Rattle.spl_residue.specs.ResidueOver.{small_laws}
+use Rattle.spl_residue.proofs.coprime.are_coprime.Given as goal
+
+abbrev pub invariant-steps : goal.invariant-steps
+invariant-steps l = HasSameDivisors (small_ops l.f) (small_laws l.f) l.a l.b l.first l.second
+
+abbrev pub decreases-steps : goal.decreases-steps
+decreases-steps l = length l.second
