@@ -1,0 +1,3 @@
+pub mod Transforms
+pub mod LiftedRows
+pub mod Positions
