@@ -159,7 +159,7 @@ module _ {E : Type 0} (o : Ops E) (L : FieldLaws o) where
   pub up-row_of : (n : ℕ) (c : ℕ → Poly G.cring) (i : ℕ) → i < n → up_row (row_of n c) i ≡ c i
   up-row_of n c i l = ap up (get_or-table n (λ i. values o L (c i).0) i [] l) ∙ up_values (c i)
 
-  up_row-nil : (j : ℕ) → up_row [] j ≡ Q.zero
+  pub up_row-nil : (j : ℕ) → up_row [] j ≡ Q.zero
   up_row-nil j = lift_nil o L
 
   pub row_unique : (w : ℕ) (x : List (List E)) → IsPolynomialRow o w x → ((j : ℕ) → j < w → up_row x j ≡ Q.zero)
@@ -220,15 +220,20 @@ module _ {E : Type 0} (o : Ops E) (L : FieldLaws o) where
 
   -- ---- transforms
 
+  pub same_of_spans : (w : ℕ) (a b : List (List (List E))) → IsPolynomialMatrix o w a → IsPolynomialMatrix o w b
+      → ((i : ℕ) → i < length a → InSpan M (length b) (up_rows b) (up_rows a i))
+      → ((i : ℕ) → i < length b → InSpan M (length a) (up_rows a) (up_rows b i)) → SameRowLattice o w a b
+  same_of_spans w a b ha hb forth back x hx = (
+    λ h. lattice_of_span w b hb x hx (InSpan_trans M (length a) (length b) (up_rows a) (up_rows b) (up_row x) forth
+        (span_of_lattice w a ha x hx h)),
+    λ h. lattice_of_span w a ha x hx (InSpan_trans M (length b) (length a) (up_rows b) (up_rows a) (up_row x) back
+        (span_of_lattice w b hb x hx h)),
+  )
+
   module _ (w : ℕ) (a b : List (List (List E))) (ha : IsPolynomialMatrix o w a) (hb : IsPolynomialMatrix o w b) where
     pub image_of_up : Transformed M (length a) (length b) (up_rows a) (up_rows b) → IsUnimodularImage o w a b
     image_of_up t = record {
-      same = λ x hx. (
-        λ h. lattice_of_span w b hb x hx (InSpan_trans M (length a) (length b) (up_rows a) (up_rows b) (up_row x) t.forth
-            (span_of_lattice w a ha x hx h)),
-        λ h. lattice_of_span w a ha x hx (InSpan_trans M (length b) (length a) (up_rows b) (up_rows a) (up_row x) t.back
-            (span_of_lattice w b hb x hx h)),
-      );
+      same = same_of_spans w a b ha hb t.forth t.back;
       independent = λ h. independent_of_up w b hb (t.free (up_independent w a ha h));
     }
 

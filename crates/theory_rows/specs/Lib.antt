@@ -1,3 +1,4 @@
 pub mod Rows
 pub mod LeadingPositions
+pub mod Augmented
 pub mod RowLaws
