@@ -6,3 +6,4 @@ pub mod Insertion
 pub mod Lowering
 pub mod Splits
 pub mod Kernels
+pub mod SumsAndMeets
