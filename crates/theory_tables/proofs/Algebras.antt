@@ -4,3 +4,4 @@ pub mod SpannedIdeals
 pub mod CentralSimple
 pub mod TraceRadical
 pub mod Exclusions
+pub mod Dimensions

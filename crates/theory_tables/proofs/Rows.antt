@@ -3,6 +3,7 @@ pub mod Terms
 pub mod Sums
 pub mod Spans
 pub mod Stacks
+pub mod MultiplierSums
 pub mod PivotRows
 pub mod Inverses
 pub mod Refutations

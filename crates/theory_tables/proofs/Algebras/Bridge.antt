@@ -125,6 +125,14 @@ module _ {E : Type 0} (o : Ops E) (L : FieldLaws o) where
             ∙ sym (row-sum c j j_in) ∙ ap (λ (y : Tuple o m). at o y.0 j) e ∙ zero-at j j_in) i i_in);
       }
 
+      pub from_independent : Independent M (length rows) row → rows_of.AreIndependent o m rows
+      from_independent h c c_tuple e i i_in =
+          let w : ℕ → Elem o = λ i. (at o c i, at-elem o L c c_tuple.of_elements i) in
+          let x = comb M (length rows) w row in
+          ap (λ (y : Elem o). y.0) (h.only_zero w (Tuple-path o L m x M.zero
+          (IsTuple-ext o m x.0 M.zero.0 (IsTuple-of x) (IsTuple-of M.zero)
+          (λ j j_in. row-sum w j j_in ∙ e j j_in ∙ sym (zero-at j j_in)))) i i_in)
+
     -- the items of the products with a basis element
     module _ (cs : List E) (constants : All (IsElem o) cs) where
       constant-elem : (i j k : ℕ) → IsElem o (constant o m cs i j k)
