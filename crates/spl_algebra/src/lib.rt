@@ -10,6 +10,6 @@ pub mod centre;
 pub mod ideal;
 pub mod identity;
 pub mod laws;
-mod products;
+pub mod products;
 pub mod trace;
 pub mod triple;

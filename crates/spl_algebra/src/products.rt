@@ -153,7 +153,7 @@ pub(crate) fn contracted_item<F: Field>(
 }
 
 /// Whether the lists are the same.
-pub(crate) fn same<F: Field>(f: &F, a: &[F::Elem], b: &[F::Elem]) -> bool
+pub fn same<F: Field>(f: &F, a: &[F::Elem], b: &[F::Elem]) -> bool
     requires left { All (IsElem (F.ops f.now)) a.now }
     requires right { IsTuple (F.ops f.now) (length a.now) b.now }
     ensures { IsTrue result ↔ (a.now ≡ b.now) }

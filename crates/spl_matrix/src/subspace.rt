@@ -40,7 +40,7 @@ impl<F: Field> Model for Subspace<F> {
 }
 
 /// The span of the rows of a matrix with w columns.
-pub(crate) fn span_of<F: Field>(
+pub fn span_of<F: Field>(
     alloc: Global,
     f: &F,
     w: usize,

@@ -4,6 +4,7 @@ pub mod Algebras
 pub mod Traces
 pub mod Split
 pub mod Ramified
+pub mod MultiplierSums
 pub mod Claims
 pub mod Laws
 pub mod Examples

@@ -9,6 +9,7 @@ use Rattle.theory_rings.specs.Sum.{sum_of}
 use Rattle.theory_rings.proofs.Sums.Sums.{sum_eq_single}
 use Rattle.theory_rings.proofs.Rings.Elements.{sum_of-elem, sum_of-elements, sum_of_congr}
 use Rattle.theory_tables.specs.Conditions.{multiplier_at}
+use Rattle.theory_tables.specs.MultiplierSums.{weighted_sum, diagonal_sum}
 use Rattle.theory_tables.proofs.Rows.Terms.{add-zero, zero-mul, add-mul, cond_either}
 use Rattle.theory_tables.proofs.Rows.Sums.{sum_of-add, sum_of_zeros}
 
@@ -28,15 +29,6 @@ module _ {E : Type 0} (o : Ops E) (L : FieldLaws o) where
 
   abbrev blank : Item
   blank = (0, 0, o.zero)
-
-  -- the sum over all pairs of m numbers of the multiplier there times c
-  abbrev pub weighted_sum : ℕ → List Item → (ℕ → ℕ → E) → E
-  weighted_sum m list c =
-      sum_of o m (λ j. sum_of o m (λ k. o.mul (multiplier_at o list (j + 1) (k + 1)) (c j k)))
-
-  -- the sum of the multipliers of the pairs of a number with itself
-  abbrev pub diagonal_sum : ℕ → List Item → E
-  diagonal_sum m list = sum_of o m (λ j. multiplier_at o list (j + 1) (j + 1))
 
   -- the values are elements
   abbrev pub OfElements : List Item → Type 0
@@ -127,7 +119,7 @@ module _ {E : Type 0} (o : Ops E) (L : FieldLaws o) where
     -- one more item adds its product
     pub weighted_sum-more : (list : List Item) → OfElements list → IsAbsent list a b → (c : ℕ → ℕ → E)
         → ((j k : ℕ) → IsElem o (c j k))
-        → weighted_sum m (list ++ (a, b, x) ∷ []) c ≡ o.add (weighted_sum m list c) (o.mul x (c (a - 1) (b - 1)))
+        → weighted_sum o m (list ++ (a, b, x) ∷ []) c ≡ o.add (weighted_sum o m list c) (o.mul x (c (a - 1) (b - 1)))
     weighted_sum-more list h absent c hc =
         sum_of_congr o m (λ j. sum_of o m (λ k. o.mul (new j k) (c j k)))
         (λ j. o.add (sum_of o m (λ k. left j k)) (sum_of o m (λ k. right j k)))
@@ -137,7 +129,7 @@ module _ {E : Type 0} (o : Ops E) (L : FieldLaws o) where
         ∙ sum_of-add o L m (left j) (right j) (left-elem j) (right-elem j))
         ∙ sum_of-add o L m (λ j. sum_of o m (left j)) (λ j. sum_of o m (right j))
         (λ j. sum_of-elem o L m (left j) (λ k _. left-elem j k)) (λ j. sum_of-elem o L m (right j) (λ k _. right-elem j k))
-        ∙ ap (o.add (weighted_sum m list c)) (single_sum c hc)
+        ∙ ap (o.add (weighted_sum o m list c)) (single_sum c hc)
       where
         new : ℕ → ℕ → E
         new j k = multiplier_at o (list ++ (a, b, x) ∷ []) (j + 1) (k + 1)
@@ -168,21 +160,21 @@ module _ {E : Type 0} (o : Ops E) (L : FieldLaws o) where
 
     -- one more item on the diagonal adds its multiplier, another nothing
     pub diagonal_sum-more : (list : List Item) → OfElements list → IsAbsent list a b → a ≡ b
-        → diagonal_sum m (list ++ (a, b, x) ∷ []) ≡ o.add (diagonal_sum m list) x
+        → diagonal_sum o m (list ++ (a, b, x) ∷ []) ≡ o.add (diagonal_sum o m list) x
     diagonal_sum-more list h absent e =
         sum_of_congr o m (λ j. multiplier_at o (list ++ (a, b, x) ∷ []) (j + 1) (j + 1))
         (λ j. o.add (multiplier_at o list (j + 1) (j + 1)) (single a b x (j + 1) (j + 1)))
         (λ j _. multiplier_at-more list a b x h hx absent (j + 1) (j + 1))
         ∙ sum_of-add o L m (λ j. multiplier_at o list (j + 1) (j + 1)) (λ j. single a b x (j + 1) (j + 1))
         (λ j. multiplier_at-elem list h (j + 1) (j + 1)) (λ j. single-elem a b x (j + 1) (j + 1) hx)
-        ∙ ap (o.add (diagonal_sum m list))
+        ∙ ap (o.add (diagonal_sum o m list))
         (sum_of_single m (a - 1) (λ j. single a b x (j + 1) (j + 1)) (λ j. single-elem a b x (j + 1) (j + 1) hx)
         (omega (arith, a_low, a_high))
         (λ j _ d. single-other a b x (j + 1) (j + 1) (λ p _. d (omega (arith, a_low))))
         ∙ single-same a b x (a - 1 + 1) (a - 1 + 1) (omega (arith, a_low)) (omega (arith, a_low, e)))
 
     pub diagonal_sum-other : (list : List Item) → OfElements list → IsAbsent list a b → a ≢ b
-        → diagonal_sum m (list ++ (a, b, x) ∷ []) ≡ diagonal_sum m list
+        → diagonal_sum o m (list ++ (a, b, x) ∷ []) ≡ diagonal_sum o m list
     diagonal_sum-other list h absent d =
         sum_of_congr o m (λ j. multiplier_at o (list ++ (a, b, x) ∷ []) (j + 1) (j + 1))
         (λ j. multiplier_at o list (j + 1) (j + 1))
