@@ -14,17 +14,15 @@ use Rattle.theory_rings.proofs.Polynomials.Degrees.{length-degree_of_ne_zero}
 use Rattle.theory_rings.proofs.Polynomials.Constants.{variable, degree-variable}
 use Rattle.theory_rings.proofs.Polynomials.Bezout.{field_polynomials, coprime_comm}
 use Rattle.theory_rings.proofs.Polynomials.Monic.{divides_self}
-use Rattle.theory_fractions.specs.PolynomialLists.{IsOver, IsDivision}
+use Rattle.theory_fractions.specs.PolynomialLists.{IsOver, IsDivision, IsPolynomialList}
 use Rattle.theory_fractions.specs.Fraction.{IsCoprime}
 use Rattle.theory_fractions.specs.FractionOps.{polynomial_of}
 use Rattle.theory_fractions.proofs.FractionField.{polynomial_of-nil}
 use Rattle.theory_fractions.proofs.LowestTerms.{coprime_lists, coprime_polynomials}
-use Rattle.theory_fractions.proofs.ListPolynomials.{IsPolynomial, has_polynomial_of, length-polynomial_of}
+use Rattle.theory_fractions.proofs.ListPolynomials.{has_polynomial_of, length-polynomial_of}
 use Rattle.theory_fractions.proofs.Reducing.{coprime_of_constant_left}
-use Rattle.theory_remainders.specs.Irreducible.{IsPolynomialList}
 use Rattle.theory_remainders.specs.RemainderLaws.{IsRemainderOf}
 use Rattle.theory_remainders.proofs.Divisions.{congruent_of_remainder_of}
-use Rattle.theory_remainders.proofs.IrreducibleLists.{is_list}
 
 -- polynomials
 module _ {K : Type 0} (F : FieldOn K) where
@@ -64,16 +62,16 @@ module _ {E : Type 0} (o : Ops E) (L : FieldLaws o) where
 
     -- from the remainder
     pub coprime_of_remainder : IsCoprime o b r → IsCoprime o a b
-    coprime_of_remainder h = coprime_lists o L a b (is_list o L a ha) (is_list o L b hb)
+    coprime_of_remainder h = coprime_lists o L a b ha hb
         (coprime_comm F (poly b) (poly a)
         (coprime_of_sum F (poly b) (poly a) (poly r) step.0 step.1
-        (coprime_polynomials o L b r (is_list o L b hb) (is_list o L r hr) h)))
+        (coprime_polynomials o L b r hb hr h)))
 
     -- to the remainder
     pub coprime_remainder : IsCoprime o a b → IsCoprime o b r
-    coprime_remainder h = coprime_lists o L b r (is_list o L b hb) (is_list o L r hr)
+    coprime_remainder h = coprime_lists o L b r hb hr
         (coprime_sum F (poly b) (poly a) (poly r) step.0 step.1
-        (coprime_comm F (poly a) (poly b) (coprime_polynomials o L a b (is_list o L a ha) (is_list o L b hb) h)))
+        (coprime_comm F (poly a) (poly b) (coprime_polynomials o L a b ha hb h)))
 
   -- a polynomial is coprime to 0 where it is a constant other than 0
   pub constant_of_coprime_nil : (a : List E) → IsPolynomialList o a → IsCoprime o a [] → length a ≡ 1
@@ -81,14 +79,14 @@ module _ {E : Type 0} (o : Ops E) (L : FieldLaws o) where
     arith,
     flat,
     length-degree_of_ne_zero F.cring F.zero_test (poly a) nonzero,
-    length-polynomial_of o L a (is_list o L a ha),
+    length-polynomial_of o L a ha,
   )
     where
-      none : IsPolynomial o L []
+      none : IsPolynomialList o []
       none = record { over = All-nil (IsElem o); trimmed = tt }
 
       c : IsCoprimeIn F.cring R (poly a) (poly [])
-      c = coprime_polynomials o L a [] (is_list o L a ha) none h
+      c = coprime_polynomials o L a [] ha none h
 
       null : (g : Poly F.cring) → Divides R g (poly [])
       null g = (R.zero, polynomial_of-nil o L ∙ sym (zero-mul R.ring g))
@@ -106,7 +104,7 @@ module _ {E : Type 0} (o : Ops E) (L : FieldLaws o) where
           )
 
   pub coprime_nil : (a : List E) → IsPolynomialList o a → length a ≡ 1 → IsCoprime o a []
-  coprime_nil a ha e = coprime_of_constant_left o L a [] (is_list o L a ha) e
+  coprime_nil a ha e = coprime_of_constant_left o L a [] ha e
 
   -- x and y are coprime where a and b are, and only there
   pub record HasSameDivisors (a b x y : List E) : Type 0 where

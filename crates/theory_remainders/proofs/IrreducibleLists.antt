@@ -13,13 +13,13 @@ use Rattle.theory_rings.proofs.Polynomials.ElementLists.{values, at-values}
 use Rattle.theory_rings.proofs.Polynomials.Monic.{ne_zero_of_degree, monic_of-monic, monic_of-ne-zero}
 use Rattle.theory_rings.proofs.Polynomials.Monic.{degree-monic_of, irreducible-monic_of, monic_of-divides}
 use Rattle.theory_rings.proofs.Polynomials.Monic.{divides-monic_of}
-use Rattle.theory_fractions.specs.PolynomialLists.{IsProduct}
+use Rattle.theory_fractions.specs.PolynomialLists.{IsProduct, IsPolynomialList}
 use Rattle.theory_fractions.specs.FractionOps.{polynomial_of}
 use Rattle.theory_fractions.proofs.FractionField.{polynomial_of-values}
 use Rattle.theory_fractions.proofs.Lifting.{eq_of_coefficients, coefficients_of_eq, has-mul}
-use Rattle.theory_fractions.proofs.ListPolynomials.{IsPolynomial, IsPolynomial-values, has_polynomial_of}
+use Rattle.theory_fractions.proofs.ListPolynomials.{IsPolynomialList-values, has_polynomial_of}
 use Rattle.theory_fractions.proofs.ListPolynomials.{length-polynomial_of, degree-polynomial_of}
-use Rattle.theory_remainders.specs.Irreducible.{IsPolynomialList, IsIrreducible}
+use Rattle.theory_remainders.specs.Irreducible.{IsIrreducible}
 use Rattle.theory_remainders.specs.RemainderOps.{modulus_of}
 
 module _ {E : Type 0} (o : Ops E) (L : FieldLaws o) where
@@ -32,14 +32,8 @@ module _ {E : Type 0} (o : Ops E) (L : FieldLaws o) where
   abbrev poly : List E → Poly F.cring
   poly = polynomial_of o L
 
-  pub is_list : (a : List E) → IsPolynomialList o a → IsPolynomial o L a
-  is_list a h = record { over = h.over; trimmed = h.trimmed }
-
-  pub values-list : (p : Poly F.cring) → IsPolynomialList o (values o L p.0)
-  values-list p = let h = IsPolynomial-values o L p in record { over = h.over; trimmed = h.trimmed }
-
   pub degree-values : (p : Poly F.cring) → degree (values o L p.0) ≡ degree p.0
-  degree-values p = sym (degree-polynomial_of o L (values o L p.0) (IsPolynomial-values o L p))
+  degree-values p = sym (degree-polynomial_of o L (values o L p.0) (IsPolynomialList-values o L p))
       ∙ ap (λ (t : Poly F.cring). degree t.0) (polynomial_of-values o L p)
 
   pub product_of_polynomials : (a b m : List E) → IsPolynomialList o a → IsPolynomialList o b → IsPolynomialList o m
@@ -53,7 +47,7 @@ module _ {E : Type 0} (o : Ops E) (L : FieldLaws o) where
 
   module _ (m : List E) (hm : IsPolynomialList o m) where
     degree-poly : degree (poly m).0 ≡ degree m
-    degree-poly = degree-polynomial_of o L m (is_list m hm)
+    degree-poly = degree-polynomial_of o L m hm
 
     pub irreducible_polynomial : IsIrreducible o m → IsIrreducibleIn F.cring P (poly m)
     irreducible_polynomial i = let s = i.positive in record {
@@ -62,7 +56,7 @@ module _ {E : Type 0} (o : Ops E) (L : FieldLaws o) where
           let da = degree-values a in
           let db = degree-values b in
           let d = degree-poly in
-          i.no_factors (values o L a.0) (values o L b.0) (values-list a) (values-list b) (omega arith) (omega arith)
+          i.no_factors (values o L a.0) (values o L b.0) (IsPolynomialList-values o L a) (IsPolynomialList-values o L b) (omega arith) (omega arith)
           (coefficients_of_eq o L (poly m) (P.◌⊗◌ a b) (at o m)
           (convolution_of o (at o (values o L a.0)) (at o (values o L b.0)))
           (has_polynomial_of o L m hm.over)
@@ -74,8 +68,8 @@ module _ {E : Type 0} (o : Ops E) (L : FieldLaws o) where
       polynomial = hm;
       positive = omega (arith, degree-poly, s);
       no_factors = λ a b ha hb la lb e.
-          let da = degree-polynomial_of o L a (is_list a ha) in
-          let db = degree-polynomial_of o L b (is_list b hb) in
+          let da = degree-polynomial_of o L a ha in
+          let db = degree-polynomial_of o L b hb in
           let d = degree-poly in
           i.no_factors (poly a) (poly b) (omega arith) (omega arith) (product_of_polynomials a b m ha hb hm e);
     }
@@ -104,14 +98,14 @@ module _ {E : Type 0} (o : Ops E) (L : FieldLaws o) where
     divides_modulus = divides-monic_of F (poly m) polynomial-ne-zero
 
     pub degree-modulus : degree M.0 ≡ degree m
-    degree-modulus = degree-monic_of F (poly m) polynomial-ne-zero ∙ degree-polynomial_of o L m (is_list m i.polynomial)
+    degree-modulus = degree-monic_of F (poly m) polynomial-ne-zero ∙ degree-polynomial_of o L m i.polynomial
 
     pub length-modulus : length M.0 ≡ length m
     length-modulus = omega (
       arith,
       length-degree_of_ne_zero F.cring F.zero_test M (monic_of-ne-zero F (poly m) polynomial-ne-zero),
       length-degree_of_ne_zero F.cring F.zero_test (poly m) polynomial-ne-zero,
-      length-polynomial_of o L m (is_list m i.polynomial),
+      length-polynomial_of o L m i.polynomial,
       degree-monic_of F (poly m) polynomial-ne-zero,
     )
 
@@ -119,6 +113,6 @@ module _ {E : Type 0} (o : Ops E) (L : FieldLaws o) where
     two_le_length = let s = polynomial_irreducible in let p = s.positive in omega (
       arith,
       length-degree_of_ne_zero F.cring F.zero_test (poly m) polynomial-ne-zero,
-      length-polynomial_of o L m (is_list m i.polynomial),
+      length-polynomial_of o L m i.polynomial,
       p,
     )

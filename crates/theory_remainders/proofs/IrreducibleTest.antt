@@ -20,7 +20,7 @@ use Rattle.theory_rings.proofs.Powers.Powers.{power_first, power-power}
 use Rattle.theory_rings.proofs.Polynomials.PolynomialRing.{series_prepend}
 use Rattle.theory_rings.proofs.Polynomials.Constants.{variable, coefficient-variable}
 use Rattle.theory_rings.proofs.Polynomials.Bezout.{field_polynomials}
-use Rattle.theory_fractions.specs.PolynomialLists.{IsOver, IsSum}
+use Rattle.theory_fractions.specs.PolynomialLists.{IsOver, IsSum, IsPolynomialList}
 use Rattle.theory_fractions.specs.Fraction.{IsCoprime}
 use Rattle.theory_fractions.specs.FractionOps.{polynomial_of}
 use Rattle.theory_fractions.proofs.Lifting.{HasCoefficients, eq_of_coefficients, has-add}
@@ -28,10 +28,10 @@ use Rattle.theory_fractions.proofs.ListPolynomials.{has_polynomial_of, has_neg, 
 use Rattle.theory_fractions.proofs.LowestTerms.{coprime_lists, coprime_polynomials}
 use Rattle.theory_factors.specs.FactorLaws.{power_less}
 use Rattle.theory_factors.proofs.Irreducible.{irreducible_of_coprime, coprime_of_irreducible}
-use Rattle.theory_remainders.specs.Irreducible.{IsPolynomialList, IsIrreducible}
+use Rattle.theory_remainders.specs.Irreducible.{IsIrreducible}
 use Rattle.theory_remainders.specs.RemainderLaws.{IsRemainderOf}
 use Rattle.theory_remainders.proofs.Divisions.{congruent_of_remainder_of, power_coefficients, has-power}
-use Rattle.theory_remainders.proofs.IrreducibleLists.{is_list, irreducible_polynomial, irreducible_list}
+use Rattle.theory_remainders.proofs.IrreducibleLists.{irreducible_polynomial, irreducible_list}
 use Rattle.theory_remainders.proofs.CoprimeLists.{coprime_of_sum, coprime_sum}
 
 -- a list of d + 1 coefficients is of degree d
@@ -157,20 +157,20 @@ module _ {E : Type 0} (o : Ops E) (L : FieldLaws o) where
             let e : suc i ≡ j = omega arith in
             subst (λ x. IsCoprimeIn F.cring P A (power_less F P t (N.size ^ x))) e
             (coprime_of_sum F A (power_less F P t n) (poly d) next.0 difference
-            (coprime_polynomials o L a d (is_list o L a ha) (is_list o L d hd) h)))
+            (coprime_polynomials o L a d ha hd h)))
             (cases_lt j (suc i));
       }
 
       pub reducible : (IsCoprime o a d → ⊥) → 2 * suc i ≤ degree a → IsIrreducible o a → ⊥
-      reducible h l irreducible = h (coprime_lists o L a d (is_list o L a ha) (is_list o L d hd)
+      reducible h l irreducible = h (coprime_lists o L a d ha hd
           (coprime_sum F A (power_less F P t n) (poly d) next.0 difference
           (coprime_of_irreducible F N A (irreducible_polynomial o L a ha irreducible) (suc i) (omega arith)
-          (omega (arith, l, degree-polynomial_of o L a (is_list o L a ha))))))
+          (omega (arith, l, degree-polynomial_of o L a ha)))))
 
     -- as many steps as half the degree
     pub irreducible_of_steps : (w : List E) (h : ℕ) → IsPolynomialList o a → 1 ≤ degree a → degree a ≤ suc (2 * h) → AreStepsDone h w
         → IsIrreducible o a
     irreducible_of_steps w h ha pos half done =
-        let d = degree-polynomial_of o L a (is_list o L a ha) in
+        let d = degree-polynomial_of o L a ha in
         irreducible_list o L a ha (irreducible_of_coprime F N A (omega arith)
         (λ j l b. done.coprime j l (omega arith)))

@@ -19,13 +19,13 @@ use Rattle.theory_rings.proofs.Polynomials.Remainders.{remainders-one}
 use Rattle.theory_rings.proofs.Polynomials.Irreducible.{remainder_field}
 use Rattle.theory_fractions.specs.FractionOps.{polynomial_of, is_polynomial}
 use Rattle.theory_fractions.proofs.FractionField.{polynomial_of-values, polynomial_of-nil, polynomial_of-one}
-use Rattle.theory_fractions.proofs.ListPolynomials.{IsPolynomial-values, is_polynomial-from}
+use Rattle.theory_fractions.proofs.ListPolynomials.{IsPolynomialList-values, is_polynomial-from}
 use Rattle.theory_fractions.proofs.ListPolynomials.{is_polynomial-gives, values_back, length-polynomial_of}
 use Rattle.theory_remainders.specs.Irreducible.{IsIrreducible}
 use Rattle.theory_remainders.specs.RemainderLaws.{IsRemainder}
 use Rattle.theory_remainders.specs.RemainderOps.{modulus_of, is_remainder, remainder_of, coefficients_of}
 use Rattle.theory_remainders.specs.RemainderOps.{remainder_ops}
-use Rattle.theory_remainders.proofs.IrreducibleLists.{is_list, modulus_monic, modulus_irreducible, length-modulus}
+use Rattle.theory_remainders.proofs.IrreducibleLists.{modulus_monic, modulus_irreducible, length-modulus}
 use Rattle.theory_remainders.proofs.IrreducibleLists.{two_le_length}
 
 module _ {E : Type 0} (o : Ops E) (L : FieldLaws o) (m : List E) where
@@ -45,7 +45,7 @@ module _ {E : Type 0} (o : Ops E) (L : FieldLaws o) (m : List E) where
   pub test_of_remainder : (a : List E) → IsRemainder o m a → is_remainder o L m a ≡ true
   test_of_remainder a h =
       and_from (is_polynomial o L a) (nat_lt (length a) (length m))
-      (is_polynomial-from o L a (is_list o L a h.polynomial)) (lt-ltb (length a) (length m) h.smaller)
+      (is_polynomial-from o L a h.polynomial) (lt-ltb (length a) (length m) h.smaller)
 
   pub remainder_of_test : (a : List E) → is_remainder o L m a ≡ true → IsRemainder o m a
   remainder_of_test a h =
@@ -72,7 +72,7 @@ module _ {E : Type 0} (o : Ops E) (L : FieldLaws o) (m : List E) where
 
     pub is_remainder-to_list : (x : Remainder F.cring M) → IsRemainder o m (to_list x)
     is_remainder-to_list x =
-        let p = IsPolynomial-values o L x.0 in
+        let p = IsPolynomialList-values o L x.0 in
         record {
           polynomial = record { over = p.over; trimmed = p.trimmed };
           smaller = omega (arith, length-map x.0.0 (λ a. a.0), x.1, length-modulus o L m i);
@@ -82,11 +82,11 @@ module _ {E : Type 0} (o : Ops E) (L : FieldLaws o) (m : List E) where
     pub of_list_eq : (a : List E) (h : IsRemainder o m a) → (of_list a).0 ≡ poly a
     of_list_eq a h =
         ap (λ x. x.0) (remainder_of_small F.cring F.zero_test M monic (poly a)
-        (omega (arith, h.smaller, length-polynomial_of o L a (is_list o L a h.polynomial), length-modulus o L m i)))
+        (omega (arith, h.smaller, length-polynomial_of o L a h.polynomial, length-modulus o L m i)))
 
     pub to_list-of_list : (a : List E) → IsRemainder o m a → to_list (of_list a) ≡ a
     to_list-of_list a h =
-        ap (λ (p : Poly F.cring). values o L p.0) (of_list_eq a h) ∙ values_back o L a (is_list o L a h.polynomial)
+        ap (λ (p : Poly F.cring). values o L p.0) (of_list_eq a h) ∙ values_back o L a h.polynomial
 
     pub of_list-to_list : (x : Remainder F.cring M) → of_list (to_list x) ≡ x
     of_list-to_list x =

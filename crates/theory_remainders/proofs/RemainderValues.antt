@@ -19,17 +19,17 @@ use Rattle.theory_rings.proofs.Polynomials.Bezout.{field_polynomials}
 use Rattle.theory_rings.proofs.Polynomials.ElementLists.{values, at-values}
 use Rattle.theory_rings.proofs.Polynomials.Remainders.{remainder_hom, remainder_eq, congruent_of_remainder}
 use Rattle.theory_rings.proofs.Polynomials.Remainders.{remainders-add_poly, remainders-neg_poly}
-use Rattle.theory_fractions.specs.PolynomialLists.{IsSum, IsProduct}
+use Rattle.theory_fractions.specs.PolynomialLists.{IsSum, IsProduct, IsPolynomialList}
 use Rattle.theory_fractions.specs.FractionOps.{polynomial_of}
 use Rattle.theory_fractions.proofs.Lifting.{HasCoefficients, coefficients_of_eq, has-add}
 use Rattle.theory_fractions.proofs.Lifting.{has-mul}
 use Rattle.theory_fractions.proofs.ListPolynomials.{has_polynomial_of, has_neg, length-polynomial_of}
-use Rattle.theory_remainders.specs.Irreducible.{IsPolynomialList, IsIrreducible}
+use Rattle.theory_remainders.specs.Irreducible.{IsIrreducible}
 use Rattle.theory_remainders.specs.RemainderLaws.{IsRemainder, IsRemainderOf, AreRemainderOps}
 use Rattle.theory_remainders.specs.RemainderOps.{modulus_of, remainder_of, remainder_ops}
 use Rattle.theory_remainders.proofs.Divisions.{congruent_of_remainder_of, remainder_of_congruent, poly-sum, poly-minus}
 use Rattle.theory_remainders.proofs.Divisions.{power_coefficients, has-power}
-use Rattle.theory_remainders.proofs.IrreducibleLists.{is_list, modulus_divides, divides_modulus}
+use Rattle.theory_remainders.proofs.IrreducibleLists.{modulus_divides, divides_modulus}
 use Rattle.theory_remainders.proofs.RemainderField.{monic, Q, of_list, to_list, is_remainder-to_list, of_list_eq}
 use Rattle.theory_remainders.proofs.RemainderField.{of_list-to_list, of_list_injective, to_list_unique}
 use Rattle.theory_remainders.proofs.RemainderField.{of_list-nil, of_list-one, is_remainder-nil, is_remainder-one}
@@ -121,9 +121,9 @@ module _ {E : Type 0} (o : Ops E) (L : FieldLaws o) (m : List E) (i : IsIrreduci
   sum_smaller a b w ha hb hw s = record {
     polynomial = hw;
     smaller =
-        let la = length-polynomial_of o L a (is_list o L a ha.polynomial) in
-        let lb = length-polynomial_of o L b (is_list o L b hb.polynomial) in
-        let lw = length-polynomial_of o L w (is_list o L w hw) in
+        let la = length-polynomial_of o L a ha.polynomial in
+        let lb = length-polynomial_of o L b hb.polynomial in
+        let lw = length-polynomial_of o L w hw in
         let sa = ha.smaller in
         let sb = hb.smaller in
         let e = ap (λ (x : Poly F.cring). length x.0) (sum_eq a b w ha hb hw s) in
@@ -148,8 +148,8 @@ module _ {E : Type 0} (o : Ops E) (L : FieldLaws o) (m : List E) (i : IsIrreduci
   minus_smaller a w ha hw s = record {
     polynomial = hw;
     smaller =
-        let la = length-polynomial_of o L a (is_list o L a ha.polynomial) in
-        let lw = length-polynomial_of o L w (is_list o L w hw) in
+        let la = length-polynomial_of o L a ha.polynomial in
+        let lw = length-polynomial_of o L w hw in
         let sa = ha.smaller in
         let e = ap (λ (x : Poly F.cring). length x.0) (poly-minus o L a w ha.polynomial.over hw.over s) in
         omega (arith, length-neg_le F.cring F.zero_test (poly a) (length a) (omega arith));

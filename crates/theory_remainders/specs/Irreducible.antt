@@ -2,19 +2,14 @@
 -- chapter IV.)
 use Rattle.std.specs.Prelude.{◌<◌, ◌≤◌, List}
 use Rattle.theory_rings.specs.Ops.{Ops}
-use Rattle.theory_rings.specs.Polynomial.{IsTrimmed, degree}
-use Rattle.theory_fractions.specs.PolynomialLists.{IsOver, IsProduct}
+use Rattle.theory_rings.specs.Polynomial.{degree}
+use Rattle.theory_fractions.specs.PolynomialLists.{IsProduct, IsPolynomialList}
 
 module _ {E : Type 0} (o : Ops E) where
-  -- coefficients of a polynomial
-  pub record IsPolynomialList (u : List E) : Type 0 where
-    pub over : IsOver o u
-    pub trimmed : IsTrimmed o.zero u
-
   -- of degree at least 1, and no product of two polynomials of smaller degree
   pub record IsIrreducible (m : List E) : Type 0 where
-    pub polynomial : IsPolynomialList m
+    pub polynomial : IsPolynomialList o m
     pub positive : 1 ≤ degree m
-    pub no_factors : (a b : List E) → IsPolynomialList a → IsPolynomialList b → degree a < degree m
+    pub no_factors : (a b : List E) → IsPolynomialList o a → IsPolynomialList o b → degree a < degree m
         → degree b < degree m
         → IsProduct o a b m → ⊥

@@ -3,8 +3,7 @@ use Rattle.std.specs.Prelude.{◌≡◌, ◌≢◌, ℕ, ◌<◌, ◌↔◌, Lis
 use Rattle.theory_rings.specs.Ops.{Ops, IsElem}
 use Rattle.theory_rings.specs.Sum.{at}
 use Rattle.theory_rings.specs.Polynomial.{convolution_of}
-use Rattle.theory_fractions.specs.PolynomialLists.{IsOver, IsSum, IsDivisionOf}
-use Rattle.theory_remainders.specs.Irreducible.{IsPolynomialList}
+use Rattle.theory_fractions.specs.PolynomialLists.{IsOver, IsSum, IsDivisionOf, IsPolynomialList}
 
 module _ {E : Type 0} (o : Ops E) where
   -- r is the remainder by m of the polynomial with coefficients f

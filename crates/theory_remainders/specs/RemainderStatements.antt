@@ -4,11 +4,12 @@ use Rattle.theory_rings.specs.Ops.{Ops, FieldLaws}
 use Rattle.theory_rings.specs.Elements.{Elem, elements}
 use Rattle.theory_rings.specs.Power.{power_of}
 use Rattle.theory_rings.specs.Enumerated.{Enumerated}
+use Rattle.theory_fractions.specs.PolynomialLists.{IsPolynomialList}
 use Rattle.theory_rings.specs.Polynomial.{IsMonic, degree}
 use Rattle.theory_rings.specs.Division.{IsIrreducible as IsIrreducibleIn}
 use Rattle.theory_rings.proofs.Polynomials.Bezout.{field_polynomials}
 use Rattle.theory_fractions.specs.FractionOps.{polynomial_of}
-use Rattle.theory_remainders.specs.Irreducible.{IsPolynomialList, IsIrreducible}
+use Rattle.theory_remainders.specs.Irreducible.{IsIrreducible}
 use Rattle.theory_remainders.specs.RemainderOps.{modulus_of, remainder_ops}
 use Rattle.theory_remainders.specs.RemainderLaws.{IsRemainder, AreRemainderOps}
 
