@@ -1,9 +1,10 @@
 -- Lists that a loop changes item by item.
 use Rattle.std.specs.Prelude.{◌≡◌, ℕ, ◌+◌, ◌<◌, ◌≤◌, List, length, get_or}
-use Rattle.std.proofs.Common.{refl, sym, ap, ◌∙◌, arith, below_more, get_or-set_same, get_or-set_other}
+use Rattle.std.proofs.Common.{refl, sym, ap, subst, ◌∙◌, arith, below_more, get_or-set_same, get_or-set_other}
 use Rattle.std.proofs.lemmas.List.{length-set, ext_get_or, get_or_default}
 use Rattle.std.proofs.Math.ListN.{set}
-use Rattle.theory_rings.specs.Ops.{Ops}
+use Rattle.std.specs.List.{All}
+use Rattle.theory_rings.specs.Ops.{Ops, IsElem}
 use Rattle.theory_rings.specs.Sum.{table, at}
 use Rattle.theory_rings.proofs.Sums.Lists.{length-table, get_or-table}
 
@@ -48,3 +49,12 @@ ChangedBelow-all d n old new f long a =
 pub read_slice : {E : Type 0} (o : Ops E) (xs ys : List E) (i : ℕ) (x : E) → ys ≡ xs → i < length xs
     → x ≡ get_or ys i x → x ≡ at o xs i
 read_slice o xs ys i x e h r = r ∙ ap (λ zs. get_or zs i x) e ∙ get_or_default xs i x o.zero h
+
+-- it is one of the elements
+pub read-elem : {E : Type 0} (o : Ops E) (xs : List E) (i : ℕ) (x : E) → All (IsElem o) xs → i < length xs
+    → x ≡ get_or xs i x → IsElem o x
+read-elem o xs i x elems h r = subst (IsElem o) (sym r) (elems i x h)
+
+pub slice-elem : {E : Type 0} (o : Ops E) (xs ys : List E) (i : ℕ) (x : E) → All (IsElem o) xs → ys ≡ xs
+    → i < length xs → x ≡ get_or ys i x → IsElem o x
+slice-elem o xs ys i x elems e h r = read-elem o xs i x elems h (r ∙ ap (λ zs. get_or zs i x) e)

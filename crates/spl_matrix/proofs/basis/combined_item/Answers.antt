@@ -1,7 +1,8 @@
-use Rattle.std.proofs.Common.{◌≡◌, [], ap, ap₂, ◌∙◌, arith, ◌<◌, ℕ, List, length}
+use Rattle.std.proofs.Common.{◌≡◌, [], get_or, ap, ap₂, ◌∙◌, arith, ◌<◌, ℕ, List, length}
 use Rattle.theory_rings.specs.Sum.{sum_of, at}
 use Rattle.theory_tables.specs.Matrix.{entry}
 use Rattle.theory_tables.proofs.Rows.Sums.{sum_step, read_at, row_at}
+use Rattle.spl_matrix.proofs.Changes.{read-elem, slice-elem}
 use Rattle.spl_matrix.proofs.basis.combined_item.Goals as goal
 
 pub loop-i-preserved : goal.loop-i-preserved
@@ -36,4 +37,26 @@ returns g c =
       elem = c.loop-i.invariant.elem;
       value = c.loop-i.invariant.value
           ∙ ap (λ (n : ℕ). sum_of o n (λ i. o.mul (at o c.args.c.now i) (entry o rows i c.args.j))) ended;
+    }
+
+pub add_product-requires : goal.add_product-requires
+add_product-requires g c =
+    let o = g.F.Field.ops c.args.f.now in
+    let rows = c.args.rows.now in
+    let cs = c.args.c.now in
+    let i = c.loop-i.i in
+    let j = c.args.j in
+    let i_in = c.loop-i-test.true in
+    let row = c.as_slice.result.now in
+    let read = row_at rows i c.index-rows-i.result row i_in c.index-rows-i.is c.as_slice.ensures in
+    let here = c.requires.shape i [] i_in in
+    let j_in : j < length (get_or rows i []) = omega (arith, here.right_length) in
+    let c_in : i < length cs = omega (arith, c.requires.weights.right_length) in
+    record {
+      zero_elem = c.requires.zero_elem;
+      zero = c.requires.zero;
+      sum = c.loop-i.invariant.elem;
+      left = read-elem o cs i c.index-c-i.result c.requires.weights.of_elements c_in c.index-c-i.is;
+      right = slice-elem o (get_or rows i []) row j c.index-as_slice-j.result here.of_elements read j_in
+          c.index-as_slice-j.is;
     }

@@ -18,7 +18,8 @@ loop-s-preserved g c =
           c.in_ok-push.ensures.ok;
       value = table_step s (λ s. at o v (get_or places s 0)) c.loop-s.items c.push.new.self x
           c.loop-s.invariant.value
-          (c.in_ok-copy.ensures.value ∙ read_at o v (get_or places s 0) c.index-v-places.result p_in c.index-v-places.is)
+          (c.in_ok-copy.ensures.value
+          ∙ read_at o v (get_or places s 0) c.index-v-places.result p_in c.index-v-places.is)
           c.in_ok-push.ensures.ok;
     }
 

@@ -4,7 +4,8 @@ use Rattle.std.proofs.lemmas.List.Elements.{All-set}
 use Rattle.theory_rings.specs.Ops.{IsElem}
 use Rattle.theory_rings.specs.Sum.{at}
 use Rattle.theory_rings.proofs.Rings.Elements.{at-elem}
-use Rattle.spl_matrix.proofs.Changes.{ChangedBelow, ChangedBelow-set, ChangedBelow-skip, ChangedBelow-all, read_slice}
+use Rattle.spl_matrix.proofs.Changes.{ChangedBelow, ChangedBelow-set, ChangedBelow-skip, ChangedBelow-all}
+use Rattle.spl_matrix.proofs.Changes.{read_slice, read-elem, slice-elem}
 use Rattle.theory_tables.proofs.Rows.Sums.{read_at}
 use Rattle.theory_tables.proofs.Rows.Terms.{add-zero, mul-zero}
 use Rattle.spl_matrix.proofs.rows.add_multiple.Goals as goal
@@ -59,3 +60,39 @@ returns g c =
     let f = λ (j : ℕ). o.add (at o old j) (o.mul c.args.c.now (at o c.args.other.now j)) in
     ChangedBelow-all o.zero (length old) old c.loop-j.row f refl
     (subst (λ (k : ℕ). ChangedBelow o.zero k old c.loop-j.row f) (omega arith) c.loop-j.invariant.changed)
+
+pub eq-requires : goal.eq-requires
+eq-requires g c =
+    let o = g.F.Field.ops c.args.f.now in
+    let L = g.met.F.Field.laws c.args.f.now in
+    let other = c.args.other.now in
+    let j = c.loop-j.j in
+    let j_other : j < length other = omega (arith, c.requires.other.right_length) in
+    record {
+      left = read-elem o other j c.index-other-j.result c.requires.other.of_elements j_other c.index-other-j.is;
+      right = subst (IsElem o) (sym c.requires.zero) L.zero-elem;
+    }
+
+pub mul-requires : goal.mul-requires
+mul-requires g c =
+    let o = g.F.Field.ops c.args.f.now in
+    let other = c.args.other.now in
+    let j = c.loop-j.j in
+    let j_other : j < length other = omega (arith, c.requires.other.right_length) in
+    record {
+      left = c.requires.factor;
+      right = read-elem o other j c.index-other-j-then-not-eq.result c.requires.other.of_elements j_other
+          c.index-other-j-then-not-eq.is;
+    }
+
+pub add-requires : goal.add-requires
+add-requires g c =
+    let o = g.F.Field.ops c.args.f.now in
+    let row = c.loop-j.row in
+    let j = c.loop-j.j in
+    let j_in : j < length row = omega arith in
+    record {
+      left = slice-elem o row c.as_slice.result.now j c.index-as_slice-j.result c.loop-j.invariant.elems
+          c.as_slice.ensures j_in c.index-as_slice-j.is;
+      right = c.in_ok-term.ensures.elem;
+    }

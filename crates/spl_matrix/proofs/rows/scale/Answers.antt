@@ -3,7 +3,8 @@ use Rattle.std.proofs.Math.ListN.{set}
 use Rattle.std.proofs.lemmas.List.Elements.{All-set}
 use Rattle.theory_rings.specs.Ops.{IsElem}
 use Rattle.theory_rings.specs.Sum.{at}
-use Rattle.spl_matrix.proofs.Changes.{ChangedBelow, ChangedBelow-set, ChangedBelow-skip, ChangedBelow-all, read_slice}
+use Rattle.spl_matrix.proofs.Changes.{ChangedBelow, ChangedBelow-set, ChangedBelow-skip, ChangedBelow-all}
+use Rattle.spl_matrix.proofs.Changes.{read_slice, slice-elem}
 use Rattle.theory_tables.proofs.Rows.Terms.{mul-zero}
 use Rattle.spl_matrix.proofs.rows.scale.Goals as goal
 use Rattle.spl_matrix.proofs.rows.scale.Goals.{then-not-eq+in_ok-product, else-not-eq}
@@ -49,3 +50,28 @@ returns g c =
     let f = λ (j : ℕ). o.mul c.args.c.now (at o old j) in
     ChangedBelow-all o.zero (length old) old c.loop-j.row f refl
     (subst (λ (k : ℕ). ChangedBelow o.zero k old c.loop-j.row f) (omega arith) c.loop-j.invariant.changed)
+
+pub eq-requires : goal.eq-requires
+eq-requires g c =
+    let o = g.F.Field.ops c.args.f.now in
+    let L = g.met.F.Field.laws c.args.f.now in
+    let row = c.loop-j.row in
+    let j = c.loop-j.j in
+    let j_in : j < length row = omega arith in
+    record {
+      left = slice-elem o row c.as_slice.result.now j c.index-as_slice-j.result c.loop-j.invariant.elems
+          c.as_slice.ensures j_in c.index-as_slice-j.is;
+      right = subst (IsElem o) (sym c.requires.zero) L.zero-elem;
+    }
+
+pub mul-requires : goal.mul-requires
+mul-requires g c =
+    let o = g.F.Field.ops c.args.f.now in
+    let row = c.loop-j.row in
+    let j = c.loop-j.j in
+    let j_in : j < length row = omega arith in
+    record {
+      left = c.requires.factor;
+      right = slice-elem o row c.as_slice.result.now j c.index-as_slice-j.result c.loop-j.invariant.elems
+          c.as_slice.ensures j_in c.index-as_slice-j.is;
+    }

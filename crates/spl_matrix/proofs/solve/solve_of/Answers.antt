@@ -1,7 +1,9 @@
 use Rattle.std.proofs.Common.{◌≡◌, ℕ, ◌<◌, ◌≤◌, List, length, sym, ap, subst, ◌∙◌, arith}
+use Rattle.std.specs.List.{All}
+use Rattle.theory_rings.specs.Ops.{IsElem}
 use Rattle.theory_rings.specs.Sum.{at}
 use Rattle.theory_spaces.specs.Tuples.{IsTuple}
-use Rattle.theory_tables.specs.Matrix.{image}
+use Rattle.theory_tables.specs.Matrix.{image, IsMatrix}
 use Rattle.theory_tables.specs.Solve.{IsScattered}
 use Rattle.theory_rings.proofs.Rings.Elements.{at-elem}
 use Rattle.theory_tables.proofs.Rows.Solves.{solved}
@@ -42,3 +44,39 @@ returns g c =
     (subst P c.as_slice-in-None.ensures (c.in_ok-vector-in-None.ensures.value j j_in)) in
     solved o L h c.args.w a right c.requires.shape c.requires.right e.rows e.pivots e.transform echelon cs v c_is
     (at-elem o L cs c_tuple.of_elements) past c.in_ok-vector-in-None.ensures.elem item
+
+pub image_of-requires : goal.image_of-requires
+image_of-requires g c =
+    let o = g.F.Field.ops c.args.f.now in
+    let e = c.in_ok-e.e in
+    let right = c.args.right.now in
+    let W : ℕ → Type 0 = λ n. IsMatrix o n e.transform in
+    let R : List (List g.row.F-Elem.Denot) → Type 0 = λ m. IsMatrix o (length right) m in
+    record {
+      shape = subst R (sym c.as_slice.ensures)
+          (subst W (sym c.requires.right.right_length) c.in_ok-e.ensures.transform_shape);
+      vector = c.requires.right.of_elements;
+    }
+
+pub find_nonzero-requires : goal.find_nonzero-requires
+find_nonzero-requires g c =
+    let o = g.F.Field.ops c.args.f.now in
+    let Z : List g.row.F-Elem.Denot → Type 0 = λ xs. All (IsElem o) xs in
+    subst Z (sym c.as_slice-2.ensures) c.in_ok-c.ensures.elem.of_elements
+
+pub scattered-requires : goal.scattered-requires
+scattered-requires g c =
+    let o = g.F.Field.ops c.args.f.now in
+    let Z : List g.row.F-Elem.Denot → Type 0 = λ xs. All (IsElem o) xs in
+    record {
+      elems = subst Z (sym c.as_slice-in-None-2.ensures) c.in_ok-c.ensures.elem.of_elements;
+      enough = omega (
+        arith,
+        ap length c.as_slice-in-None.ensures,
+        ap length c.as_slice-in-None-2.ensures,
+        c.in_ok-c.ensures.elem.right_length,
+        ap length c.as_slice.ensures,
+        c.in_ok-e.ensures.transform_height,
+        c.in_ok-e.ensures.reduced.count,
+      );
+    }
