@@ -1,5 +1,4 @@
-use Rattle.std.proofs.Common.{◌≡◌, ◌∙◌, sym, subst, arith, refl, below_more}
-use Rattle.theory_rings.specs.Ops.{IsElem}
+use Rattle.std.proofs.Common.{◌∙◌, sym, arith, refl, below_more}
 use Rattle.theory_tables.proofs.Rows.Sums.{read_at}
 use Rattle.spl_matrix.proofs.Changes.{read-elem}
 use Rattle.spl_matrix.proofs.basis.is_combination.Goals as goal
