@@ -4,3 +4,4 @@ pub mod CommonBasisExists
 pub mod Intersections
 pub mod RationalBases
 pub mod RationalMembers
+pub mod FractionsOfPolynomials

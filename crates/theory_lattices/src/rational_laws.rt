@@ -4,7 +4,6 @@ ghost use Rattle.theory_rings.specs.Ring.{FieldOn};
 ghost use Rattle.theory_rings.specs.Homomorphism.{IsRingHom};
 ghost use Rattle.theory_rings.specs.Enumerated.{Enumerated};
 ghost use Rattle.theory_rings.specs.Fraction.{IsFractionField, IsLowest};
-ghost use Rattle.theory_rings.proofs.Polynomials.Bezout.{field_polynomials};
 ghost use Rattle.theory_spaces.specs.Module.{ModuleOn, AlgebraOn, module_of};
 ghost use Rattle.theory_spaces.specs.Linear.{InSpan, Independent, Coords};
 ghost use Rattle.theory_spaces.specs.Algebra.{Central};
@@ -12,6 +11,7 @@ ghost use Rattle.theory_lattices.specs.Degree.{DegreeOn, IsEuclidean};
 ghost use Rattle.theory_lattices.specs.CommonBasis.{InFinite, InInfinite, CommonBasis};
 ghost use Rattle.theory_lattices.specs.Members.{PolynomialsOf, IntersectionBasis};
 ghost use Rattle.theory_lattices.specs.SelfDual.{ClosedWeights, SelfDualPair, Middle, DualVectors};
+ghost use Rattle.theory_lattices.specs.RationalFunctions.{polynomial_ring, AreFractionsOfPolynomials};
 ghost use Rattle.theory_lattices.specs.RationalFunctions.{IsPolynomialDegree, Rational, IsPolynomial, of_constant};
 ghost use Rattle.theory_lattices.specs.RationalFunctions.{power_of_x, IsRationalDegree};
 
@@ -19,8 +19,14 @@ use theory_rings::structures::FieldStructure;
 
 /// The degree of polynomials over a field is one, and it is Euclidean.
 pub fn degree_of_polynomials<F: FieldStructure>()
-    ensures exists { (W : DegreeOn (field_polynomials F.field).ring) × IsPolynomialDegree F.field W }
-    ensures euclidean { (W : DegreeOn (field_polynomials F.field).ring) → IsPolynomialDegree F.field W → IsEuclidean W }
+    ensures exists { (W : DegreeOn (polynomial_ring F.field).ring) × IsPolynomialDegree F.field W }
+    ensures euclidean { (W : DegreeOn (polynomial_ring F.field).ring) → IsPolynomialDegree F.field W → IsEuclidean W }
+{}
+
+/// The ring of polynomials, the variable, the constants and the fractions u/1 among the rational functions are what
+/// they are named after: sums and products go by coefficients, x has the coefficients 0 and 1, and u/1 has the value u.
+pub fn rational_functions_are_fractions<F: FieldStructure>()
+    ensures { AreFractionsOfPolynomials F.field }
 {}
 
 /// A field of rational functions.
@@ -31,8 +37,8 @@ pub trait RationalFunctions {
 
     ghost field: { FieldOn (Rational constants) };
 
-    ghost fractions: { IsFractionField (field_polynomials constants)
-        (IsLowest constants.cring (field_polynomials constants)) field };
+    ghost fractions: { IsFractionField (polynomial_ring constants)
+        (IsLowest constants.cring (polynomial_ring constants)) field };
 }
 
 /// The degree of the numerator less that of the denominator is a degree of rational functions. By it the polynomials
@@ -55,8 +61,8 @@ pub trait RationalSpace {
 
     ghost field: { FieldOn (Rational constants) };
 
-    ghost fractions: { IsFractionField (field_polynomials constants)
-        (IsLowest constants.cring (field_polynomials constants)) field };
+    ghost fractions: { IsFractionField (polynomial_ring constants)
+        (IsLowest constants.cring (polynomial_ring constants)) field };
 
     ghost degree: { DegreeOn field.ring };
 
@@ -102,8 +108,8 @@ pub trait RationalOrderPair {
 
     ghost field: { FieldOn (Rational constants) };
 
-    ghost fractions: { IsFractionField (field_polynomials constants)
-        (IsLowest constants.cring (field_polynomials constants)) field };
+    ghost fractions: { IsFractionField (polynomial_ring constants)
+        (IsLowest constants.cring (polynomial_ring constants)) field };
 
     ghost degree: { DegreeOn field.ring };
 
@@ -155,8 +161,8 @@ pub trait RationalOrders {
 
     ghost field: { FieldOn (Rational constants) };
 
-    ghost fractions: { IsFractionField (field_polynomials constants)
-        (IsLowest constants.cring (field_polynomials constants)) field };
+    ghost fractions: { IsFractionField (polynomial_ring constants)
+        (IsLowest constants.cring (polynomial_ring constants)) field };
 
     ghost degree: { DegreeOn field.ring };
 

@@ -9,7 +9,7 @@ ghost use Rattle.theory_spaces.specs.Form.{DualBasis, gram, trace_form};
 ghost use Rattle.theory_spaces.specs.Valuation.{ValuationOn};
 ghost use Rattle.theory_rings.specs.Polynomial.{Poly};
 ghost use Rattle.theory_rings.specs.Division.{Divides};
-ghost use Rattle.theory_rings.proofs.Polynomials.Bezout.{field_polynomials};
+ghost use Rattle.theory_lattices.specs.RationalFunctions.{polynomial_ring};
 ghost use Rattle.theory_lattices.specs.RationalFunctions.{IsPolynomial, of_polynomial};
 ghost use Rattle.theory_pairs.specs.PolynomialPlaces.{FinitePlace, FiniteValuations, valuation_at};
 ghost use Rattle.theory_orders.specs.Uniformizer.{IsIntegral, IsUnit};
@@ -108,6 +108,6 @@ pub fn polynomials_at_places<Q: RationalFunctions>()
         → IsIntersection Q.field (IsPolynomial Q.constants) (valuation_at Q.constants Q.field V) }
     ensures units { (V : FiniteValuations Q.constants Q.field) (place : FinitePlace Q.constants)
         (u : Poly Q.constants.cring)
-        → (Divides (field_polynomials Q.constants) place.0 u → ⊥)
+        → (Divides (polynomial_ring Q.constants) place.0 u → ⊥)
         → IsUnit Q.field (valuation_at Q.constants Q.field V place) (of_polynomial Q.constants u) }
 {}

@@ -7,7 +7,7 @@ use Rattle.theory_rings.specs.Elements.{Elem, elements}
 use Rattle.theory_rings.specs.Sum.{at}
 use Rattle.theory_rings.specs.Polynomial.{degree}
 use Rattle.theory_rings.specs.Remainder.{Remainder, IsRemainderRing}
-use Rattle.theory_rings.proofs.Polynomials.Bezout.{field_polynomials}
+use Rattle.theory_lattices.specs.RationalFunctions.{polynomial_ring}
 use Rattle.theory_spaces.specs.Valuation.{ValuationOn}
 use Rattle.theory_orders.specs.Uniformizer.{IsIntegral, UniformizerOn}
 use Rattle.theory_tables.specs.Structure as structures
@@ -80,7 +80,7 @@ module _ {E : Type 0} (o : Ops E) (L : FieldLaws o) (M : FieldLaws (fraction_ops
   abbrev pub FractionFiniteResidues : Type 0
   FractionFiniteResidues = (m : List E) → IsPlace o (Finite m) → (V : FractionPlaceValuation (Finite m))
       → (k : FieldOn (Remainder (elements o L).cring (polynomial_of o L m)))
-      → IsRemainderRing (elements o L).cring (polynomial_of o L m) (field_polynomials (elements o L)) k.cring
+      → IsRemainderRing (elements o L).cring (polynomial_of o L m) (polynomial_ring (elements o L)) k.cring
       → ResidueOn fractions V.valuation (fractions.inv V.p) k
 
   -- that of infinity is the field of the coefficients

@@ -7,17 +7,12 @@ use Rattle.theory_rings.specs.Division.{Divides, Congruent}
 use Rattle.theory_rings.specs.Homomorphism.{IsRingHom}
 use Rattle.theory_rings.specs.Remainder.{Remainder, IsRemainderRing}
 use Rattle.theory_rings.specs.Fraction.{IsLowest, IsValue}
-use Rattle.theory_rings.proofs.Polynomials.Constants.{variable}
-use Rattle.theory_rings.proofs.Polynomials.Bezout.{field_polynomials}
 use Rattle.theory_orders.specs.Uniformizer.{IsIntegral}
+use Rattle.theory_lattices.specs.RationalFunctions.{polynomial_ring, x_polynomial}
 use Rattle.theory_lattices.specs.RationalFunctions.{Rational, IsPolynomial, of_polynomial, of_constant, power_of_x}
 use Rattle.theory_places.specs.Places.{PlaceOf, Finite, Infinite, IsIntegralAt, IsPlace, PlaceValuation}
 use Rattle.theory_places.specs.Valuations.{HasValuation}
 use Rattle.theory_residue.specs.Residue.{ResidueOn}
-
--- the polynomial x
-abbrev pub x_polynomial : {k : Type 0} (F : FieldOn k) → Poly F.cring
-x_polynomial F = variable F.cring F.zero_test
 
 module _ {k : Type 0} (F : FieldOn k) (Q : FieldOn (Rational F)) where
   -- each place has its valuation ring
@@ -28,8 +23,8 @@ module _ {k : Type 0} (F : FieldOn k) (Q : FieldOn (Rational F)) where
   abbrev pub ValuationsByFactors : Type 0
   ValuationsByFactors = (m : Poly F.cring) → IsPlace F (Finite m) → (V : PlaceValuation F Q (Finite m))
       → (x : Rational F) (s t : ℕ) (u v : Poly F.cring)
-      → (Divides (field_polynomials F) m u → ⊥) → (Divides (field_polynomials F) m v → ⊥)
-      → (let P = field_polynomials F in
+      → (Divides (polynomial_ring F) m u → ⊥) → (Divides (polynomial_ring F) m v → ⊥)
+      → (let P = polynomial_ring F in
       IsValue P (IsLowest F.cring P) x (P.◌⊗◌ (power P.ring m s) u) (P.◌⊗◌ (power P.ring m t) v))
       → HasValuation Q V.valuation (of_polynomial F m) (pos s -ℤ pos t) x
 
@@ -40,7 +35,7 @@ module _ {k : Type 0} (F : FieldOn k) (Q : FieldOn (Rational F)) where
 
   -- the polynomials are the fractions with denominator 1, and those that are integral at each polynomial of a place
   pub record PolynomialsAmongFractions : Type 0 where
-    pub denominator_one : (x : Rational F) → IsPolynomial F x ↔ (x.0.1 ≡ (let P = field_polynomials F in P.one))
+    pub denominator_one : (x : Rational F) → IsPolynomial F x ↔ (x.0.1 ≡ (let P = polynomial_ring F in P.one))
     pub integral_at_finite : (x : Rational F) → IsPolynomial F x
         ↔ ((m : Poly F.cring) → IsPlace F (Finite m) → IsIntegralAt F (Finite m) x)
 
@@ -49,11 +44,11 @@ module _ {k : Type 0} (F : FieldOn k) (Q : FieldOn (Rational F)) where
       (E : FieldOn (Remainder F.cring m))
       : Type 0 where
     pub residue : ResidueOn Q V.valuation (Q.inv (of_polynomial F m)) E
-    pub values : (u : Poly F.cring) → Congruent (field_polynomials F) m (residue.res (of_polynomial F u)).0 u
+    pub values : (u : Poly F.cring) → Congruent (polynomial_ring F) m (residue.res (of_polynomial F u)).0 u
 
   abbrev pub FiniteResidueFields : Type 0
   FiniteResidueFields = (m : Poly F.cring) → IsPlace F (Finite m) → (V : PlaceValuation F Q (Finite m))
-      → (E : FieldOn (Remainder F.cring m)) → IsRemainderRing F.cring m (field_polynomials F) E.cring
+      → (E : FieldOn (Remainder F.cring m)) → IsRemainderRing F.cring m (polynomial_ring F) E.cring
       → ResiduesByRemainders m V E
 
   -- that of infinity is the field of constants: u/v in lowest terms, where u has no greater degree than the monic v,

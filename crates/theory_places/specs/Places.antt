@@ -6,9 +6,9 @@ use Rattle.theory_rings.specs.Ring.{FieldOn}
 use Rattle.theory_rings.specs.Polynomial.{Poly, IsMonic, degree}
 use Rattle.theory_rings.specs.Division.{Divides, IsIrreducible}
 use Rattle.theory_rings.specs.Fraction.{IsValue, IsLowest}
-use Rattle.theory_rings.proofs.Polynomials.Bezout.{field_polynomials}
 use Rattle.theory_spaces.specs.Valuation.{ValuationOn}
 use Rattle.theory_orders.specs.Uniformizer.{IsIntegral, UniformizerOn}
+use Rattle.theory_lattices.specs.RationalFunctions.{polynomial_ring}
 use Rattle.theory_lattices.specs.RationalFunctions.{Rational, of_polynomial, power_of_x}
 
 -- a polynomial, or infinity
@@ -20,12 +20,12 @@ module _ {k : Type 0} (F : FieldOn k) where
   -- the same as some u/v where m does not divide v
   abbrev pub IsIntegralOff : Poly F.cring → Rational F → Type 0
   IsIntegralOff m x = (u : Poly F.cring) × (v : Poly F.cring)
-      × IsValue (field_polynomials F) (IsLowest F.cring (field_polynomials F)) x u v
-      × (Divides (field_polynomials F) m v → ⊥)
+      × IsValue (polynomial_ring F) (IsLowest F.cring (polynomial_ring F)) x u v
+      × (Divides (polynomial_ring F) m v → ⊥)
 
   -- u/v in lowest terms, where u is 0 or deg u ≤ deg v
   abbrev pub IsIntegralAtInfinity : Rational F → Type 0
-  IsIntegralAtInfinity x = let P = field_polynomials F in (x.0.0 ≡ P.zero) ⊎ (degree x.0.0.0 ≤ degree x.0.1.0)
+  IsIntegralAtInfinity x = let P = polynomial_ring F in (x.0.0 ≡ P.zero) ⊎ (degree x.0.0.0 ≤ degree x.0.1.0)
 
   -- integral at a polynomial, or at infinity
   abbrev pub IsIntegralAt : PlaceOf (Poly F.cring) → Rational F → Type 0
@@ -34,7 +34,7 @@ module _ {k : Type 0} (F : FieldOn k) where
 
   -- the polynomial of a place is monic and irreducible
   abbrev pub IsPlace : PlaceOf (Poly F.cring) → Type 0
-  IsPlace (Finite m) = IsMonic F.cring m × IsIrreducible F.cring (field_polynomials F) m
+  IsPlace (Finite m) = IsMonic F.cring m × IsIrreducible F.cring (polynomial_ring F) m
   IsPlace Infinite = Unit {0}
 
   -- the polynomial of a place, or 1/x
