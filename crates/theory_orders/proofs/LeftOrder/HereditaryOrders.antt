@@ -9,10 +9,11 @@ use Rattle.theory_rings.proofs.Sums.Sums.{mul-sum, sum-mul}
 use Rattle.theory_spaces.specs.Module.{AlgebraOn}
 use Rattle.theory_orders.specs.Orders.{IsOrder, IsIdeal, SumOf, Product, Around, Generated, Multiple, Inverse}
 use Rattle.theory_orders.specs.Orders.{SimpleByElements, Within}
-use Rattle.theory_orders.proofs.Lattices.SumsOf.{sum_in, SumOf_in, SumOf_map}
+use Rattle.theory_orders.proofs.Lattices.SumsOf.{sum_in, SumOf_in}
 use Rattle.theory_orders.proofs.Lattices.Multiples.{up, up-left, up-right, Multiple-zero, Multiple-add, scale_cancel}
 use Rattle.theory_orders.proofs.Lattices.Multiples.{cancel_scale}
 use Rattle.theory_orders.proofs.Splitting.Chains.{Chain, Chain_first, Chain_in, Chain_last}
+use Rattle.theory_orders.proofs.Ideals.InvertibleIdeals.{MaximalIdeal, left_unit}
 
 module _ {K V : Type 0} {R : RingOn K} (A : AlgebraOn R V) where
   infixl 65 ◌⊕◌
@@ -36,6 +37,9 @@ module _ {K V : Type 0} {R : RingOn K} (A : AlgebraOn R V) where
 
     abbrev I : IsIdeal A L J
     I = H.ideal
+
+    maximal_ideal : MaximalIdeal A p q pq qp L O J
+    maximal_ideal = record { ideal = I; over = H.over; simple = H.simple; left_order = H.left_order }
 
     p-in : (x : V) → L x → L (p • x)
     p-in x l = I.inside (p • x) (H.over x l)
@@ -214,28 +218,8 @@ module _ {K V : Type 0} {R : RingOn K} (A : AlgebraOn R V) where
             one_not_multiple (subst Q (A.one-mul A.one)
             (r A.one A.one (λ x lx. subst Low (sym (A.one-mul x)) lx) O.one_in))
 
-        Colon-L : Within Colon L
-        Colon-L a h = H.left_order a (λ j hj. ⊎_elim (λ w. w)
-            (λ (r : Generated A L J (a ⊗ j) A.one).
-            absurd (no_unit (SumOf_map A (λ x. Around A L (a ⊗ j) x ⊎ J x) (Product A Colon J) (λ x. ⊎_elim
-            (λ (w : Around A L (a ⊗ j) x). (
-              w.0 ⊗ a,
-              j ⊗ w.1,
-              (λ y hy. subst L (sym (A.mul_assoc w.0 a y)) (O.mul_in w.0 (a ⊗ y) w.2 (h y hy))),
-              I.right w.1 j w.3 hj,
-              w.4 ∙ ap (λ z. z ⊗ w.1) (sym (A.mul_assoc w.0 a j)) ∙ A.mul_assoc (w.0 ⊗ a) j w.1,
-            ))
-            (λ (w : J x). (
-              A.one,
-              x,
-              (λ y hy. subst L (sym (A.one-mul y)) (I.inside y hy)),
-              w,
-              sym (A.one-mul x),
-            ))) A.one r)))
-            (H.simple.generates (a ⊗ j) (h j hj)))
-
         nothing : ⊥
-        nothing = larger Colon-L
+        nothing = left_unit A p q pq qp L O J maximal_ideal larger no_unit
 
       -- L is maximal
       pub maximal : (Within G L → ⊥) → ⊥
