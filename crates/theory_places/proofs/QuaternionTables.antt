@@ -3,7 +3,7 @@ use Rattle.std.specs.Prelude.{◌≡◌, ℕ, zero, suc, ◌<◌, IsTrue, List, 
 use Rattle.std.specs.List.{All}
 use Rattle.std.proofs.Common.{refl, sym, ap, arith}
 use Rattle.std.proofs.lemmas.List.Elements.{All-nil, All-cons}
-use mathlib.Core.Equiv.{◌≃◌, Iso, iso_to_equiv}
+use mathlib.Core.Equiv.{Iso}
 use Rattle.theory_rings.specs.Ring.{FieldOn}
 use Rattle.theory_rings.specs.Ops.{Ops, IsElem, FieldLaws}
 use Rattle.theory_rings.specs.Elements.{Elem, Elem-path, elements}
@@ -15,11 +15,9 @@ use Rattle.theory_spaces.specs.Valuation.{ValuationOn}
 use Rattle.theory_spaces.specs.Tuples.{IsTuple, Tuple, product}
 use Rattle.theory_spaces.proofs.Tuples.Tuples.{IsTuple-ext, IsTuple-is_tuple, is_tuple-IsTuple, Tuple-path, tuples}
 use Rattle.theory_spaces.proofs.Tuples.Tuples.{tuples-zero, tuples-add, tuples-neg, tuples-scale}
-use Rattle.theory_spaces.proofs.Tuples.TupleProducts.{IsTuple-product}
-use Rattle.theory_spaces.proofs.Algebras.Carry.{KeptBy, carried, carry}
 use Rattle.theory_orders.specs.Uniformizer.{UniformizerOn}
-use Rattle.theory_orders.specs.Ramified.{IsRamified}
 use Rattle.theory_tables.specs.Ramified.{AreTuples, RamifiedTable}
+use Rattle.theory_tables.proofs.Split.CarriedTables.{carried_ramified}
 use Rattle.theory_places.specs.Quaternions.{tuple4, quaternion_structure, quaternion_order, quaternion_radical}
 use Rattle.theory_places.proofs.QuaternionAlgebra.{ap₄, quaternions, order_vectors, radical_vectors}
 use Rattle.theory_places.proofs.Quaternions.{NoSquareModulo, ramified_quaternions}
@@ -120,13 +118,6 @@ module _ {E : Type 0} (o : Ops E) (L : FieldLaws o) (Z : ValuationOn (elements o
       same v (suc (suc (suc zero))) l = refl
       same v (suc (suc (suc (suc k)))) l = absurd (omega arith)
 
-  abbrev mul : Tuple o 4 → Tuple o 4 → Tuple o 4
-  mul v w = let P = product o 4 cs v.0 w.0 in (
-    P,
-    IsTuple-is_tuple o 4 P
-        (IsTuple-product o L 4 cs constants v.0 w.0 (is_tuple-IsTuple o 4 v.0 v.1) (is_tuple-IsTuple o 4 w.0 w.1)),
-  )
-
   four_product : (x y : X) → (g (A.◌⊗◌ x y)).0 ≡ product o 4 cs (g x).0 (g y).0
   four_product x y =
       let env = x.0 ∷ x.1 ∷ x.2 ∷ x.3 ∷ y.0 ∷ y.1 ∷ y.2 ∷ y.3 ∷ p ∷ b ∷ [] in
@@ -149,26 +140,8 @@ module _ {E : Type 0} (o : Ops E) (L : FieldLaws o) (Z : ValuationOn (elements o
       (entry_ex (row_ex v0 nil nil nil unit) (row_ex v1 nil nil unit nil) (row_ex v2 nil (minus unit) nil nil)
       (row_ex v3 unit nil nil nil)) refl))
 
-  kept : KeptBy A g
-  kept = record {
-    zero = M.zero;
-    one = g A.one;
-    add = M.◌⊕◌;
-    neg = M.neg;
-    scale = M.◌•◌;
-    mul = mul;
-    zero-is = Tuple-path o L 4 (g A.zero) M.zero (sym (tuples-zero o L 4));
-    one-is = refl;
-    add-is = λ x y. Tuple-path o L 4 (g (A.◌⊕◌ x y)) (M.◌⊕◌ (g x) (g y)) (sym (tuples-add o L 4 (g x) (g y)));
-    neg-is = λ x. Tuple-path o L 4 (g (A.neg x)) (M.neg (g x)) (sym (tuples-neg o L 4 (g x)));
-    scale-is = λ c x. Tuple-path o L 4 (g (A.◌•◌ c x)) (M.◌•◌ c (g x)) (sym (tuples-scale o L 4 c (g x)));
-    mul-is = λ x y. Tuple-path o L 4 (g (A.◌⊗◌ x y)) (mul (g x) (g y)) (four_product x y);
-  }
-
-  abbrev e : X ≃ Tuple o 4
-  e = iso_to_equiv bijection
-
-  rows : (x : ℕ → X) → AreTuples o L (quaternion_structure o p.0 b.0) ((g (x 0)).0 ∷ (g (x 1)).0 ∷ (g (x 2)).0 ∷ (g (x 3)).0 ∷ []) (λ i. g (x i))
+  rows : (x : ℕ → X) → AreTuples o L (quaternion_structure o p.0 b.0)
+      ((g (x 0)).0 ∷ (g (x 1)).0 ∷ (g (x 2)).0 ∷ (g (x 3)).0 ∷ []) (λ i. g (x i))
   rows x = record { count = refl; item = item }
     where
       item : (i : ℕ) → i < 4 → (g (x i)).0 ≡ get_or ((g (x 0)).0 ∷ (g (x 1)).0 ∷ (g (x 2)).0 ∷ (g (x 3)).0 ∷ []) i []
@@ -180,24 +153,16 @@ module _ {E : Type 0} (o : Ops E) (L : FieldLaws o) (Z : ValuationOn (elements o
 
   pub ramified_quaternion_table
       : RamifiedTable o L (quaternion_structure o p.0 b.0) Z p (quaternion_order o) (quaternion_radical o p.0)
-  unfolding bijection carried kept
+  unfolding bijection
   ramified_quaternion_table =
       let v = order_vectors K p b in
       let w = radical_vectors K p b in
-      record {
-        algebra = carried A e kept;
-        is_table = record {
-          zero-is = tuples-zero o L 4;
-          add-is = tuples-add o L 4;
-          neg-is = tuples-neg o L 4;
-          scale-is = tuples-scale o L 4;
-          product-is = λ a b. refl;
-        };
-        order = λ i. g (v i);
-        is_order = rows v;
-        radical = λ i. g (w i);
-        is_radical = rows w;
-        ramified = carry A e kept (λ Y C v w. IsRamified K Z p C 4 v w) v w (λ i. g (v i)) (λ i. g (w i)) (λ i. refl)
-            (λ i. refl)
-            (ramified_quaternions K Z p q U strict b b_in no_square);
-      }
+      let path = λ (v w : Tuple o 4). Tuple-path o L 4 v w in
+      carried_ramified o L (quaternion_structure o p.0 b.0) constants A bijection (record {
+        zero-is = path (g A.zero) M.zero (sym (tuples-zero o L 4));
+        add-is = λ x y. path (g (A.◌⊕◌ x y)) (M.◌⊕◌ (g x) (g y)) (sym (tuples-add o L 4 (g x) (g y)));
+        neg-is = λ x. path (g (A.neg x)) (M.neg (g x)) (sym (tuples-neg o L 4 (g x)));
+        scale-is = λ c x. path (g (A.◌•◌ c x)) (M.◌•◌ c (g x)) (sym (tuples-scale o L 4 c (g x)));
+        product-is = four_product;
+      }) Z p v w (quaternion_order o) (quaternion_radical o p.0) (rows v) (rows w)
+      (ramified_quaternions K Z p q U strict b b_in no_square)

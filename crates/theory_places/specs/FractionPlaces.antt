@@ -1,6 +1,6 @@
 -- The places of the fractions over a program's field, where polynomials are lists of coefficients. (Reiner, Maximal
 -- Orders, section 4.)
-use Rattle.std.specs.Prelude.{◌≡◌, ◌*◌, ℕ, ◌<◌, ◌≤◌, IsTrue, ◌⊎◌, ◌↔◌, List, [], ◌∷◌}
+use Rattle.std.specs.Prelude.{◌≡◌, ℕ, ◌<◌, ◌≤◌, IsTrue, ◌⊎◌, ◌↔◌, List, [], ◌∷◌}
 use Rattle.theory_rings.specs.Ring.{FieldOn}
 use Rattle.theory_rings.specs.Ops.{Ops, FieldLaws}
 use Rattle.theory_rings.specs.Elements.{Elem, elements}

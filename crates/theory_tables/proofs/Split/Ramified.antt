@@ -4,7 +4,7 @@ use Rattle.std.specs.Prelude.{◌≡◌, ℕ, zero, suc, ◌<◌, ◌≤◌, ◌
 use Rattle.std.specs.List.{All}
 use Rattle.std.proofs.Common.{refl, sym, ◌∙◌, ap, ap₂, arith}
 use Rattle.std.proofs.lemmas.List.Elements.{All-nil, All-cons}
-use mathlib.Core.Equiv.{◌≃◌, Iso, iso_to_equiv}
+use mathlib.Core.Equiv.{Iso}
 use Rattle.theory_rings.specs.Ring.{FieldOn}
 use Rattle.theory_rings.specs.Ops.{Ops, IsElem, FieldLaws}
 use Rattle.theory_rings.specs.Elements.{Elem, Elem-path, elements}
@@ -21,9 +21,7 @@ use Rattle.theory_spaces.proofs.Matrices.MatrixAlgebra.{matrix_algebra_is}
 use Rattle.theory_spaces.proofs.Tuples.Tables.{space_basis}
 use Rattle.theory_spaces.proofs.Tuples.Tuples.{IsTuple-ext, IsTuple-is_tuple, is_tuple-IsTuple, Tuple-path, tuples}
 use Rattle.theory_spaces.proofs.Tuples.Tuples.{tuples-zero, tuples-add, tuples-neg, tuples-scale}
-use Rattle.theory_spaces.proofs.Tuples.TupleProducts.{IsTuple-product}
 use Rattle.theory_orders.specs.Uniformizer.{UniformizerOn}
-use Rattle.theory_orders.specs.Ramified.{IsRamified}
 use Rattle.theory_orders.proofs.Splitting.Example.{root_algebra, order_vectors, radical_vectors, ramified_example}
 use Rattle.theory_orders.proofs.Splitting.Ramified.{not_isomorphic}
 use Rattle.theory_orders.proofs.Splitting.TableClaims.{table_space}
@@ -36,7 +34,7 @@ use Rattle.theory_tables.specs.Examples.{pair, root_structure, root_order, root_
 use Rattle.theory_tables.proofs.Algebras.Bridge.{algebra_is}
 use Rattle.theory_tables.proofs.Split.Splittings.{split_one, split_one_is, split_associative, split_algebra, rep}
 use Rattle.theory_tables.proofs.Split.Splittings.{split_isomorphism, B}
-use Rattle.theory_spaces.proofs.Algebras.Carry.{KeptBy, carried, carry}
+use Rattle.theory_tables.proofs.Split.CarriedTables.{carried_ramified}
 
 -- each algebra of a split table is isomorphic to that of the matrices
 module _ {E : Type 0} (o : Ops E) (L : FieldLaws o) (Y : Structure E) (constants : All (IsElem o) Y.constants) (n : ℕ)
@@ -50,7 +48,8 @@ module _ {E : Type 0} (o : Ops E) (L : FieldLaws o) (Y : Structure E) (constants
       let f = rep o L Y constants n S.maps S.by in
       let i = split_isomorphism o L Y constants n S.maps S.by in
       let mul : (x y : Tuple o Y.dim) → f (A.◌⊗◌ x y) ≡ _ = λ x y.
-      ap f (Tuple-path o L Y.dim (A.◌⊗◌ x y) (C.◌⊗◌ x y) (T.product-is x y ∙ sym (U.product-is x y))) ∙ i.hom.map-mul x y in
+      ap f (Tuple-path o L Y.dim (A.◌⊗◌ x y) (C.◌⊗◌ x y) (T.product-is x y ∙ sym (U.product-is x y)))
+      ∙ i.hom.map-mul x y in
       record {
         hom = record {
           map-one = map-one_of_surjective A (B o L Y constants n S.maps S.by) f mul i.surjective;
@@ -146,13 +145,6 @@ module _ {E : Type 0} (o : Ops E) (L : FieldLaws o) (Z : ValuationOn (elements o
       same v (suc zero) l = refl
       same v (suc (suc k)) l = absurd (omega arith)
 
-  abbrev mul : Tuple o 2 → Tuple o 2 → Tuple o 2
-  mul v w = let P = product o 2 cs v.0 w.0 in (
-    P,
-    IsTuple-is_tuple o 2 P
-        (IsTuple-product o L 2 cs constants v.0 w.0 (is_tuple-IsTuple o 2 v.0 v.1) (is_tuple-IsTuple o 2 w.0 w.1)),
-  )
-
   pair_product : (x y : X) → (g (A.◌⊗◌ x y)).0 ≡ product o 2 cs (g x).0 (g y).0
   pair_product x y =
       let env = x.0 ∷ (x.1 ∷ (y.0 ∷ (y.1 ∷ (p ∷ [])))) in
@@ -161,25 +153,6 @@ module _ {E : Type 0} (o : Ops E) (L : FieldLaws o) (Z : ValuationOn (elements o
       (nil ⊞ (nil ⊞ v0 ⊠ v2 ⊠ unit ⊞ v0 ⊠ v3 ⊠ nil) ⊞ (nil ⊞ v1 ⊠ v2 ⊠ nil ⊞ v1 ⊠ v3 ⊠ v4)) refl))
       (ap (λ (c : Elem o). c.0) (by_sorted K.cring env (v0 ⊠ v3 ⊞ v1 ⊠ v2)
       (nil ⊞ (nil ⊞ v0 ⊠ v2 ⊠ nil ⊞ v0 ⊠ v3 ⊠ unit) ⊞ (nil ⊞ v1 ⊠ v2 ⊠ unit ⊞ v1 ⊠ v3 ⊠ nil)) refl))
-
-  kept : KeptBy A g
-  kept = record {
-    zero = M.zero;
-    one = g A.one;
-    add = M.◌⊕◌;
-    neg = M.neg;
-    scale = M.◌•◌;
-    mul = mul;
-    zero-is = Tuple-path o L 2 (g A.zero) M.zero (sym (tuples-zero o L 2));
-    one-is = refl;
-    add-is = λ x y. Tuple-path o L 2 (g (A.◌⊕◌ x y)) (M.◌⊕◌ (g x) (g y)) (sym (tuples-add o L 2 (g x) (g y)));
-    neg-is = λ x. Tuple-path o L 2 (g (A.neg x)) (M.neg (g x)) (sym (tuples-neg o L 2 (g x)));
-    scale-is = λ c x. Tuple-path o L 2 (g (A.◌•◌ c x)) (M.◌•◌ c (g x)) (sym (tuples-scale o L 2 c (g x)));
-    mul-is = λ x y. Tuple-path o L 2 (g (A.◌⊗◌ x y)) (mul (g x) (g y)) (pair_product x y);
-  }
-
-  abbrev e : X ≃ Tuple o 2
-  e = iso_to_equiv bijection
 
   rows : (x : ℕ → X) → AreTuples o L (root_structure o p.0) ((g (x 0)).0 ∷ ((g (x 1)).0 ∷ [])) (λ i. g (x i))
   rows x = record { count = refl; item = item }
@@ -190,23 +163,15 @@ module _ {E : Type 0} (o : Ops E) (L : FieldLaws o) (Z : ValuationOn (elements o
       item (suc (suc i)) l = absurd (omega arith)
 
   pub ramified_table : RamifiedTable o L (root_structure o p.0) Z p (root_order o p.0) (root_radical o p.0)
-  unfolding bijection carried kept
+  unfolding bijection
   ramified_table =
       let v = order_vectors K Z p q U strict in
       let w = radical_vectors K Z p q U strict in
-      record {
-        algebra = carried A e kept;
-        is_table = record {
-          zero-is = tuples-zero o L 2;
-          add-is = tuples-add o L 2;
-          neg-is = tuples-neg o L 2;
-          scale-is = tuples-scale o L 2;
-          product-is = λ a b. refl;
-        };
-        order = λ i. g (v i);
-        is_order = rows v;
-        radical = λ i. g (w i);
-        is_radical = rows w;
-        ramified = carry A e kept (λ Y C v w. IsRamified K Z p C 2 v w) v w (λ i. g (v i)) (λ i. g (w i)) (λ i. refl)
-            (λ i. refl) (ramified_example K Z p q U strict);
-      }
+      let path = λ (v w : Tuple o 2). Tuple-path o L 2 v w in
+      carried_ramified o L (root_structure o p.0) constants A bijection (record {
+        zero-is = path (g A.zero) M.zero (sym (tuples-zero o L 2));
+        add-is = λ x y. path (g (A.◌⊕◌ x y)) (M.◌⊕◌ (g x) (g y)) (sym (tuples-add o L 2 (g x) (g y)));
+        neg-is = λ x. path (g (A.neg x)) (M.neg (g x)) (sym (tuples-neg o L 2 (g x)));
+        scale-is = λ c x. path (g (A.◌•◌ c x)) (M.◌•◌ c (g x)) (sym (tuples-scale o L 2 c (g x)));
+        product-is = pair_product;
+      }) Z p v w (root_order o p.0) (root_radical o p.0) (rows v) (rows w) (ramified_example K Z p q U strict)
