@@ -8,10 +8,6 @@ use Rattle.theory_spaces.specs.Lattice.{InSpanWith, LatticeOver}
 use Rattle.theory_lattices.specs.Degree.{DegreeOn, DegreeBelow}
 
 module _ {K V : Type 0} (F : FieldOn K) (W : DegreeOn F.ring) (M : ModuleOn F.ring V) (P : K → Type 0) (n : ℕ) where
-  -- the span with weights in P
-  abbrev pub InFinite : (ℕ → V) → V → Type 0
-  InFinite v = LatticeOver M P n v
-
   -- the span with weights of degree at most 0
   abbrev pub InInfinite : (ℕ → V) → V → Type 0
   InInfinite v = LatticeOver M (DegreeBelow W (pos 1)) n v
@@ -24,7 +20,7 @@ module _ {K V : Type 0} (F : FieldOn K) (W : DegreeOn F.ring) (M : ModuleOn F.ri
   -- at most a i at i
   pub record CommonBasis (finite infinite : V → Type 0) (b : ℕ → V) (a : ℕ → ℤ) : Type 0 where
     pub free : Independent M n b
-    pub finite_in : (x : V) → finite x → InFinite b x
-    pub finite_back : (x : V) → InFinite b x → finite x
+    pub finite_in : (x : V) → finite x → LatticeOver M P n b x
+    pub finite_back : (x : V) → LatticeOver M P n b x → finite x
     pub infinite_in : (x : V) → infinite x → InSpanWith M n (λ i c. DegreeBelow W (a i +ℤ pos 1) c) b x
     pub infinite_back : (x : V) → InSpanWith M n (λ i c. DegreeBelow W (a i +ℤ pos 1) c) b x → infinite x

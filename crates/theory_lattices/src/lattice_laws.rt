@@ -10,7 +10,7 @@ ghost use Rattle.theory_spaces.specs.Algebra.{InCorner, Central, CentralSimple};
 ghost use Rattle.theory_lattices.specs.Degree.{DegreeOn};
 ghost use Rattle.theory_lattices.specs.ReducedRows.{Reduced};
 ghost use Rattle.theory_spaces.specs.Lattice.{LatticeOver};
-ghost use Rattle.theory_lattices.specs.CommonBasis.{InFinite, InInfinite, InBoth, CommonBasis};
+ghost use Rattle.theory_lattices.specs.CommonBasis.{InInfinite, InBoth, CommonBasis};
 ghost use Rattle.theory_lattices.specs.Members.{PolynomialsOf, IntersectionBasis};
 
 use theory_spaces::algebra_laws::BasedAlgebra;
@@ -40,7 +40,7 @@ pub fn common_basis<S: DegreeSpace>()
     ensures { (e : ℕ → S.Vector) → Independent S.space S.size e → ((x : S.Vector) → InSpan S.space S.size e x)
         → (rows : ℕ → ℕ → S.Scalar) (red : Reduced S.degree S.size S.size rows)
         → CommonBasis S.field S.degree S.space S.Weight S.size
-        (InFinite S.field S.degree S.space S.Weight S.size (λ i. comb S.space S.size (rows i) e))
+        (LatticeOver S.space S.Weight S.size (λ i. comb S.space S.size (rows i) e))
         (InInfinite S.field S.degree S.space S.Weight S.size e) (λ i. comb S.space S.size (rows i) e)
         (λ i. neg_ℤ (red.degree i)) }
 {}

@@ -7,8 +7,9 @@ ghost use Rattle.theory_rings.specs.Fraction.{IsFractionField, IsLowest};
 ghost use Rattle.theory_spaces.specs.Module.{ModuleOn, AlgebraOn, module_of};
 ghost use Rattle.theory_spaces.specs.Linear.{InSpan, Independent, Coords};
 ghost use Rattle.theory_spaces.specs.Algebra.{Central};
+ghost use Rattle.theory_spaces.specs.Lattice.{LatticeOver};
 ghost use Rattle.theory_lattices.specs.Degree.{DegreeOn, IsEuclidean};
-ghost use Rattle.theory_lattices.specs.CommonBasis.{InFinite, InInfinite, CommonBasis};
+ghost use Rattle.theory_lattices.specs.CommonBasis.{InInfinite, CommonBasis};
 ghost use Rattle.theory_lattices.specs.Members.{PolynomialsOf, IntersectionBasis};
 ghost use Rattle.theory_lattices.specs.SelfDual.{ClosedWeights, SelfDualPair, Middle, DualVectors};
 ghost use Rattle.theory_lattices.specs.RationalFunctions.{polynomial_ring, AreFractionsOfPolynomials};
@@ -85,15 +86,15 @@ pub fn rational_common_basis<S: RationalSpace>()
         → ((x : S.Vector) → InSpan S.space S.size e x)
         → (b : ℕ → S.Vector) × (a : ℕ → ℤ)
         × CommonBasis S.field S.degree S.space (IsPolynomial S.constants) S.size
-        (InFinite S.field S.degree S.space (IsPolynomial S.constants) S.size f)
+        (LatticeOver S.space (IsPolynomial S.constants) S.size f)
         (InInfinite S.field S.degree S.space (IsPolynomial S.constants) S.size e) b a }
     ensures intersection { (f e b : ℕ → S.Vector) (a : ℕ → ℤ)
         → CommonBasis S.field S.degree S.space (IsPolynomial S.constants) S.size
-        (InFinite S.field S.degree S.space (IsPolynomial S.constants) S.size f)
+        (LatticeOver S.space (IsPolynomial S.constants) S.size f)
         (InInfinite S.field S.degree S.space (IsPolynomial S.constants) S.size e) b a
         → IntersectionBasis S.field S.degree (IsPolynomial S.constants) S.constants.ring (of_constant S.constants)
         (power_of_x S.constants) S.space S.size b a
-        (InFinite S.field S.degree S.space (IsPolynomial S.constants) S.size f)
+        (LatticeOver S.space (IsPolynomial S.constants) S.size f)
         (InInfinite S.field S.degree S.space (IsPolynomial S.constants) S.size e) }
 {}
 
@@ -187,17 +188,17 @@ pub trait RationalOrders {
     ghost trace: { Vector → Rational constants };
 
     ghost pair: { SelfDualPair field degree algebra (IsPolynomial constants)
-        (InFinite field degree (module_of algebra) (IsPolynomial constants) size finite)
+        (LatticeOver (module_of algebra) (IsPolynomial constants) size finite)
         (InInfinite field degree (module_of algebra) (IsPolynomial constants) size infinite) trace };
 }
 
 /// Where two such orders are their own duals for a trace, hold one, and the algebra has the rational functions as its
 /// centre and a dimension of 2 to 36, they hold an element that is neither nilpotent nor a unit.
 pub fn self_dual_orders<O: RationalOrders>()
-    ensures { InFinite O.field O.degree (module_of O.algebra) (IsPolynomial O.constants) O.size O.finite O.algebra.one
+    ensures { LatticeOver (module_of O.algebra) (IsPolynomial O.constants) O.size O.finite O.algebra.one
         → InInfinite O.field O.degree (module_of O.algebra) (IsPolynomial O.constants) O.size O.infinite O.algebra.one
         → Central O.algebra → 2 ≤ O.size → O.size ≤ 36
         → (w : O.Vector) × Middle O.field O.degree O.algebra (IsPolynomial O.constants)
-        (InFinite O.field O.degree (module_of O.algebra) (IsPolynomial O.constants) O.size O.finite)
+        (LatticeOver (module_of O.algebra) (IsPolynomial O.constants) O.size O.finite)
         (InInfinite O.field O.degree (module_of O.algebra) (IsPolynomial O.constants) O.size O.infinite) w }
 {}

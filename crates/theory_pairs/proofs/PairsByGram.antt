@@ -9,7 +9,7 @@ use Rattle.theory_spaces.specs.Linear.{Basis}
 use Rattle.theory_spaces.specs.Form.{IsBilinear}
 use Rattle.theory_lattices.specs.Degree.{DegreeOn, DegreeBelow}
 use Rattle.theory_spaces.specs.Lattice.{IsSubring, LatticeOver, IsOwnDual}
-use Rattle.theory_lattices.specs.CommonBasis.{InFinite, InInfinite}
+use Rattle.theory_lattices.specs.CommonBasis.{InInfinite}
 use Rattle.theory_lattices.specs.SelfDual.{SelfDualPair, IntegralTrace}
 use Rattle.theory_lattices.proofs.Degree.Degrees.{below-mul, below-neg, below_of_degree}
 use Rattle.theory_lattices.proofs.Degree.PowersOfDegreeOne.{has_degree-one}
@@ -53,12 +53,12 @@ module _ {K V : Type 0} (F : FieldOn K) (A : AlgebraOn F.ring V) (tr : V → K) 
 
     pub pair_by_gram : (W : DegreeOn F.ring) (P : K → Type 0) → IsSubring F.ring P → (f e : Basis M n)
         → UnimodularGram M form P n f.vec → UnimodularGram M form (λ c. DegreeBelow W (pos 1) c) n e.vec
-        → ((i j : ℕ) → i < n → j < n → InFinite F W M P n f.vec (f.vec i ⊗ f.vec j))
+        → ((i j : ℕ) → i < n → j < n → LatticeOver M P n f.vec (f.vec i ⊗ f.vec j))
         → ((i j : ℕ) → i < n → j < n → InInfinite F W M P n e.vec (e.vec i ⊗ e.vec j))
-        → SelfDualPair F W A P (InFinite F W M P n f.vec) (InInfinite F W M P n e.vec) tr
+        → SelfDualPair F W A P (LatticeOver M P n f.vec) (InInfinite F W M P n e.vec) tr
     pair_by_gram W P closed f e u v p q =
         let Q : K → Type 0 = λ c. DegreeBelow W (pos 1) c in
-        let a : IsOwnDual form P (InFinite F W M P n f.vec) = own_dual P closed f u in
+        let a : IsOwnDual form P (LatticeOver M P n f.vec) = own_dual P closed f u in
         let b : IsOwnDual form Q (InInfinite F W M P n e.vec) = own_dual Q (below_subring F W) e v in
         record {
           finite-mul = span_mul F P closed A n f.vec p;
@@ -73,11 +73,11 @@ module _ {K V : Type 0} (F : FieldOn K) (A : AlgebraOn F.ring V) (tr : V → K) 
 
     pub trace_by_gram : (W : DegreeOn F.ring) (P : K → Type 0) → IsSubring F.ring P → (f e : Basis M n)
         → UnimodularGram M form P n f.vec → UnimodularGram M form (λ c. DegreeBelow W (pos 1) c) n e.vec
-        → InFinite F W M P n f.vec A.one → InInfinite F W M P n e.vec A.one
-        → IntegralTrace F W A P (InFinite F W M P n f.vec) (InInfinite F W M P n e.vec) tr
+        → LatticeOver M P n f.vec A.one → InInfinite F W M P n e.vec A.one
+        → IntegralTrace F W A P (LatticeOver M P n f.vec) (InInfinite F W M P n e.vec) tr
     trace_by_gram W P closed f e u v p q =
         let Q : K → Type 0 = λ c. DegreeBelow W (pos 1) c in
-        let a : IsOwnDual form P (InFinite F W M P n f.vec) = own_dual P closed f u in
+        let a : IsOwnDual form P (LatticeOver M P n f.vec) = own_dual P closed f u in
         let b : IsOwnDual form Q (InInfinite F W M P n e.vec) = own_dual Q (below_subring F W) e v in
         record {
           finite_trace = λ x h. subst P (ap tr (A.one-mul x)) (a.1 x h A.one p);

@@ -12,8 +12,9 @@ use Rattle.theory_rings.specs.Sum.{at}
 use Rattle.theory_spaces.specs.Module.{ModuleOn, AlgebraOn, module_of}
 use Rattle.theory_spaces.specs.Linear.{InSpan, Independent, Coords}
 use Rattle.theory_spaces.specs.Algebra.{Central}
+use Rattle.theory_spaces.specs.Lattice.{LatticeOver}
 use Rattle.theory_lattices.specs.Degree.{DegreeOn}
-use Rattle.theory_lattices.specs.CommonBasis.{InFinite, InInfinite, CommonBasis}
+use Rattle.theory_lattices.specs.CommonBasis.{InInfinite, CommonBasis}
 use Rattle.theory_lattices.specs.Members.{PolynomialsOf, IntersectionBasis}
 use Rattle.theory_lattices.specs.SelfDual.{ClosedWeights, SelfDualPair, Middle, DualVectors}
 use Rattle.theory_fractions.specs.FractionOps.{fraction_ops}
@@ -47,7 +48,7 @@ module _ {E : Type 0} (o : Ops E) (L : FieldLaws o) (M : FieldLaws (fraction_ops
     module _ {V : Type 0} (n : ℕ) where
       -- the combinations of f with weights that are polynomials
       abbrev pub PolynomialLattice : ModuleOn (fractions o L M).ring V → (ℕ → V) → V → Type 0
-      PolynomialLattice N f = InFinite (fractions o L M) W N IsPolynomialFraction n f
+      PolynomialLattice N f = LatticeOver N IsPolynomialFraction n f
 
       -- the combinations of e with weights of degree at most 0
       abbrev pub LatticeAtInfinity : ModuleOn (fractions o L M).ring V → (ℕ → V) → V → Type 0

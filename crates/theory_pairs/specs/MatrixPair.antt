@@ -7,8 +7,9 @@ use Rattle.theory_spaces.specs.Matrix.{Mat, mat_trace}
 use Rattle.theory_spaces.specs.Algebra.{Central}
 use Rattle.theory_spaces.specs.MatrixAlgebra.{MatrixUnits}
 use Rattle.theory_spaces.specs.MinimalIdempotent.{IsMinimalIdempotent}
+use Rattle.theory_spaces.specs.Lattice.{LatticeOver}
 use Rattle.theory_lattices.specs.Degree.{DegreeOn}
-use Rattle.theory_lattices.specs.CommonBasis.{InFinite, InInfinite}
+use Rattle.theory_lattices.specs.CommonBasis.{InInfinite}
 use Rattle.theory_lattices.specs.SelfDual.{SelfDualPair, IntegralTrace}
 use Rattle.theory_pairs.specs.OwnDual.{UnimodularGram}
 
@@ -23,9 +24,9 @@ module _ {K : Type 0} (F : FieldOn K) (W : DegreeOn F.ring) (P : K → Type 0) (
   pub record MatrixPair : Type 0 where
     pub units : MatrixUnits F.ring n A
     pub unimodular : UnimodularGram (module_of A) (λ x y. matrix_trace (A.◌⊗◌ x y)) P (n * n) units.basis.vec
-    pub pair : SelfDualPair F W A P (InFinite F W (module_of A) P (n * n) units.basis.vec)
+    pub pair : SelfDualPair F W A P (LatticeOver (module_of A) P (n * n) units.basis.vec)
         (InInfinite F W (module_of A) P (n * n) units.basis.vec) matrix_trace
-    pub integral : IntegralTrace F W A P (InFinite F W (module_of A) P (n * n) units.basis.vec)
+    pub integral : IntegralTrace F W A P (LatticeOver (module_of A) P (n * n) units.basis.vec)
         (InInfinite F W (module_of A) P (n * n) units.basis.vec) matrix_trace
     pub idempotent : 0 < n → IsMinimalIdempotent A (units.unit 0 0)
     pub central : Central A

@@ -12,7 +12,7 @@ ghost use Rattle.theory_orders.specs.Orders.{Same};
 ghost use Rattle.theory_orders.specs.Lattices.{Lattice};
 ghost use Rattle.theory_lattices.specs.Degree.{DegreeOn, DegreeBelow};
 ghost use Rattle.theory_spaces.specs.Lattice.{IsSubring, LatticeOver, DualOf, IsOwnDual};
-ghost use Rattle.theory_lattices.specs.CommonBasis.{InFinite, InInfinite};
+ghost use Rattle.theory_lattices.specs.CommonBasis.{InInfinite};
 ghost use Rattle.theory_lattices.specs.RationalFunctions.{IsPolynomial};
 ghost use Rattle.theory_lattices.specs.SelfDual.{SelfDualPair, IntegralTrace};
 ghost use Rattle.theory_pairs.specs.Subring.{HasFractions};
@@ -132,21 +132,21 @@ pub fn self_dual_pair_by_gram<T: TwoBases>()
         → UnimodularGram (module_of T.algebra) (λ x y. T.trace (T.algebra.◌⊗◌ x y))
         (λ c. DegreeBelow T.degree (pos 1) c) T.dimension T.infinite.vec
         → ((i j : ℕ) → i < T.dimension → j < T.dimension
-        → InFinite T.field T.degree (module_of T.algebra) T.Weight T.dimension T.finite.vec
+        → LatticeOver (module_of T.algebra) T.Weight T.dimension T.finite.vec
         (T.algebra.◌⊗◌ (T.finite.vec i) (T.finite.vec j)))
         → ((i j : ℕ) → i < T.dimension → j < T.dimension
         → InInfinite T.field T.degree (module_of T.algebra) T.Weight T.dimension T.infinite.vec
         (T.algebra.◌⊗◌ (T.infinite.vec i) (T.infinite.vec j)))
         → SelfDualPair T.field T.degree T.algebra T.Weight
-        (InFinite T.field T.degree (module_of T.algebra) T.Weight T.dimension T.finite.vec)
+        (LatticeOver (module_of T.algebra) T.Weight T.dimension T.finite.vec)
         (InInfinite T.field T.degree (module_of T.algebra) T.Weight T.dimension T.infinite.vec) T.trace }
     ensures integral { UnimodularGram (module_of T.algebra)
         (λ x y. T.trace (T.algebra.◌⊗◌ x y)) T.Weight T.dimension T.finite.vec
         → UnimodularGram (module_of T.algebra) (λ x y. T.trace (T.algebra.◌⊗◌ x y))
         (λ c. DegreeBelow T.degree (pos 1) c) T.dimension T.infinite.vec
-        → InFinite T.field T.degree (module_of T.algebra) T.Weight T.dimension T.finite.vec T.algebra.one
+        → LatticeOver (module_of T.algebra) T.Weight T.dimension T.finite.vec T.algebra.one
         → InInfinite T.field T.degree (module_of T.algebra) T.Weight T.dimension T.infinite.vec T.algebra.one
         → IntegralTrace T.field T.degree T.algebra T.Weight
-        (InFinite T.field T.degree (module_of T.algebra) T.Weight T.dimension T.finite.vec)
+        (LatticeOver (module_of T.algebra) T.Weight T.dimension T.finite.vec)
         (InInfinite T.field T.degree (module_of T.algebra) T.Weight T.dimension T.infinite.vec) T.trace }
 {}

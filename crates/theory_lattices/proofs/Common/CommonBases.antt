@@ -6,11 +6,12 @@ use Rattle.std.proofs.lemmas.Int.{ints}
 use Rattle.theory_rings.specs.Ring.{FieldOn}
 use Rattle.theory_spaces.specs.Module.{ModuleOn}
 use Rattle.theory_spaces.specs.Linear.{comb, InSpan, Independent, Coords}
+use Rattle.theory_spaces.specs.Lattice.{LatticeOver}
 use Rattle.theory_spaces.proofs.Linear.Modules.{comb-comb, comb_injective}
 use Rattle.theory_spaces.proofs.Linear.Spaces.{full_span}
 use Rattle.theory_lattices.specs.Degree.{DegreeOn, DegreeBelow}
 use Rattle.theory_lattices.specs.ReducedRows.{Reduced, row_sum}
-use Rattle.theory_lattices.specs.CommonBasis.{InFinite, InInfinite, InBoth, CommonBasis}
+use Rattle.theory_lattices.specs.CommonBasis.{InInfinite, InBoth, CommonBasis}
 use Rattle.theory_lattices.proofs.Rows.PredictableDegrees.{weights_below, only_zero, sum_below}
 
 module _ {K V : Type 0} (F : FieldOn K) (W : DegreeOn F.ring) (M : ModuleOn F.ring V) (P : K → Type 0) (n : ℕ) where
@@ -53,7 +54,7 @@ module _ {K V : Type 0} (F : FieldOn K) (W : DegreeOn F.ring) (M : ModuleOn F.ri
     }
 
     -- rows that lead apart, over a basis of the infinite lattice, are a common basis of their own span and of it
-    pub common_basis : CommonBasis F W M P n (InFinite F W M P n b) (InInfinite F W M P n e) b
+    pub common_basis : CommonBasis F W M P n (LatticeOver M P n b) (InInfinite F W M P n e) b
         (λ i. neg_ℤ (red.degree i))
     common_basis = record {
       free = b_free;

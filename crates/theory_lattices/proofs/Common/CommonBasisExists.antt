@@ -20,7 +20,7 @@ use Rattle.theory_spaces.proofs.Linear.Dimension.{exchange}
 use Rattle.theory_lattices.specs.Degree.{DegreeOn, HasDegree, IsEuclidean}
 use Rattle.theory_lattices.specs.ReducedRows.{Reduced, InRows, SameRows, Shifts}
 use Rattle.theory_spaces.specs.Lattice.{LatticeOver}
-use Rattle.theory_lattices.specs.CommonBasis.{InFinite, InInfinite, CommonBasis}
+use Rattle.theory_lattices.specs.CommonBasis.{InInfinite, CommonBasis}
 use Rattle.theory_lattices.proofs.Degree.PowersOfDegreeOne.{has_degree-inv}
 use Rattle.theory_lattices.proofs.Rows.ReductionStep.{reduced_shift}
 use Rattle.theory_lattices.proofs.Rows.ReducedBases.{reduced_basis}
@@ -180,7 +180,7 @@ module _ {D K V : Type 0} {R : RingOn D} (X : DegreeOn R) (euclid : IsEuclidean 
     (M : ModuleOn F.ring V) (n : ℕ) (C : Coords M n) (f e : ℕ → V) (f_free : Independent M n f)
     (e_free : Independent M n e) (e_spans : (x : V) → InSpan M n e x) where
   abbrev Result : Type 0
-  Result = (b : ℕ → V) × (a : ℕ → ℤ) × CommonBasis F W M P n (InFinite F W M P n f) (InInfinite F W M P n e) b a
+  Result = (b : ℕ → V) × (a : ℕ → ℤ) × CommonBasis F W M P n (LatticeOver M P n f) (InInfinite F W M P n e) b a
 
   -- the coordinates, a common denominator and the numerators
   module _ (v : D) (nv : v ≡ R.zero → ⊥) (B : ℕ → ℕ → D)

@@ -13,8 +13,9 @@ use Rattle.theory_rings.proofs.Fractions.Fractions.{fraction_of_value}
 use Rattle.theory_rings.proofs.Fractions.Lowest.{polynomial_reduction}
 use Rattle.theory_spaces.specs.Module.{ModuleOn}
 use Rattle.theory_spaces.specs.Linear.{InSpan, Independent, Coords}
+use Rattle.theory_spaces.specs.Lattice.{LatticeOver}
 use Rattle.theory_lattices.specs.Degree.{DegreeOn}
-use Rattle.theory_lattices.specs.CommonBasis.{InFinite, InInfinite, CommonBasis}
+use Rattle.theory_lattices.specs.CommonBasis.{InInfinite, CommonBasis}
 use Rattle.theory_lattices.specs.RationalFunctions.{Rational, IsPolynomial, of_polynomial, IsRationalDegree}
 use Rattle.theory_lattices.proofs.Degree.FractionDegrees.{polynomial_degree, polynomial_degree-is, eq_of_value, of_hom}
 use Rattle.theory_lattices.proofs.Degree.FractionDegrees.{of-zero, of-ne-zero}
@@ -62,7 +63,7 @@ module _ {k : Type 0} (F : FieldOn k) (Q : FieldOn (Rational F))
       → Independent M n f → Independent M n e
       → ((x : V) → InSpan M n e x)
       → (b : ℕ → V) × (a : ℕ → ℤ)
-      × CommonBasis Q W M (IsPolynomial F) n (InFinite Q W M (IsPolynomial F) n f)
+      × CommonBasis Q W M (IsPolynomial F) n (LatticeOver M (IsPolynomial F) n f)
       (InInfinite Q W M (IsPolynomial F) n e) b a
   rational_common_basis M n C f e f_free e_free e_spans =
       common_basis_exists (polynomial_degree F)

@@ -16,11 +16,12 @@ use Rattle.theory_spaces.specs.Module.{ModuleOn, AlgebraOn, module_of}
 use Rattle.theory_spaces.specs.Linear.{InSpan, Independent, Basis}
 use Rattle.theory_spaces.specs.Algebra.{Central}
 use Rattle.theory_spaces.specs.Form.{IsNondegenerate}
+use Rattle.theory_spaces.specs.Lattice.{LatticeOver}
 use Rattle.theory_spaces.proofs.Linear.Modules.{comb-scale, comb_zero, comb_injective}
 use Rattle.theory_spaces.proofs.Linear.Spaces.{basis_of, coords_of, full_span}
 use Rattle.theory_spaces.proofs.Forms.Forms.{dual_basis}
 use Rattle.theory_lattices.specs.Degree.{DegreeOn, HasDegree}
-use Rattle.theory_lattices.specs.CommonBasis.{InFinite, InInfinite, CommonBasis}
+use Rattle.theory_lattices.specs.CommonBasis.{InInfinite, CommonBasis}
 use Rattle.theory_lattices.specs.Members.{PolynomialsOf}
 use Rattle.theory_lattices.specs.SelfDual.{PowersOf, SelfDualPair, Middle, DualVectors}
 use Rattle.theory_lattices.specs.RationalFunctions.{Rational, IsPolynomial, of_constant, power_of_x, IsRationalDegree}
@@ -110,7 +111,7 @@ module _ {k V : Type 0} (F : FieldOn k) (E : Enumerated k) (Q : FieldOn (Rationa
   N = module_of A
 
   abbrev Finite : V → Type 0
-  Finite = InFinite Q W N (IsPolynomial F) n f
+  Finite = LatticeOver N (IsPolynomial F) n f
 
   abbrev Infinite : V → Type 0
   Infinite = InInfinite Q W N (IsPolynomial F) n e
