@@ -6,11 +6,11 @@ use Rattle.std.specs.List.{AllByRecursion, flat_map}
 use Rattle.std.proofs.lemmas.Bool.{cases_lt, cases_order}
 use Rattle.std.proofs.lemmas.List.{append_cancel_right}
 use Rattle.std.proofs.lemmas.Slice.Eq.{bytes_eq-Decides}
-use Rattle.spl_text.specs.Text.{Lacks, IsNumber, FractionText, IsFractionText, fraction_text, line}
+use Rattle.spl_text.specs.Text.{Lacks, IsNumber, FractionText, IsFractionText, fraction_text, line, lists_of}
 use Rattle.spl_text.specs.Decided.{SpellsOrNot}
 use Rattle.spl_text.proofs.Words.{after-shorter}
 use Rattle.spl_text.proofs.Decisions.{Cut, cut_or_lacks, HasNumber, has_number, fraction_decided}
-use Rattle.spl_table.specs.TableText.{Entry, Head, entry_line, end_line, size_of, dimension_of, IsEntry, lists_of}
+use Rattle.spl_table.specs.TableText.{Entry, Head, entry_line, end_line, size_of, dimension_of, IsEntry}
 use Rattle.spl_table.specs.TableText.{IsInRange, IsAfter, IsOverZero, HasSmallDegrees, IsRightEntry}
 use Rattle.spl_table.specs.TableText.{AreRightEntries}
 use Rattle.spl_table.specs.Refusal.{LineFault, last_of}
