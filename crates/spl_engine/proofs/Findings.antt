@@ -35,11 +35,11 @@ module _ (table : Table) where
   over : IsOver o A
   over = record { right_length = table.count; of_elements = table.over }
 
-  exclude : ClaimsExclude o A.dim A.constants
-  exclude = claims_exclude o L A.dim A.constants over
+  exclude : ClaimsExclude o A
+  exclude = claims_exclude o L A over
 
   -- what evidence claims excludes that the algebra is central simple
-  excludes : (e : Evidence) → Claim o A e → IsCentralSimple o A.dim A.constants → ⊥
+  excludes : (e : Evidence) → Claim o A e → IsCentralSimple o A → ⊥
   excludes (TripleEvidence i j k) c s = exclude.triple i j k c s.associative
   excludes (NoIdentity left right) c s = let z = s.centre in
       exclude.no_identity left right c (record { one = z.one; is_one = z.is_one })
@@ -51,28 +51,23 @@ module _ (table : Table) where
     kind = kind;
     claim = claim;
     not_central_simple = excludes e claim;
-    not_split = λ n some s. excludes e claim (split_is_central_simple o L A.dim A.constants over n some s);
+    not_split = λ n some s. excludes e claim (split_is_central_simple o L A over n some s);
   }
 
   pub of_triple : (t : Triple) → IsFirstFailed o A t → IsEvidence o A (TripleEvidence t.i t.j t.k)
   of_triple t h = evidence (TripleEvidence t.i t.j t.k) h record {
-    i_low = h.i_low;
-    i_high = h.i_high;
-    j_low = h.j_low;
-    j_high = h.j_high;
-    k_low = h.k_low;
-    k_high = h.k_high;
+    fits = ((h.i_low, h.i_high), (h.j_low, h.j_high), (h.k_low, h.k_high));
     differ = h.fails;
   }
 
   pub of_no_identity : (left right : List (ℕ × ℕ × Pair ℕ)) → IsAssociative o A
-      → NoIdentityClaim o A.dim A.constants left right
+      → NoIdentityClaim o A left right
       → IsEvidence o A (NoIdentity left right)
   of_no_identity left right associative claim =
       evidence (NoIdentity left right) (associative, exclude.no_identity left right claim) claim
 
-  pub of_central : (tuple : List (Pair ℕ)) → IsAssociative o A → HasIdentity o A.dim A.constants
-      → CentralClaim o A.dim A.constants tuple
+  pub of_central : (tuple : List (Pair ℕ)) → IsAssociative o A → HasIdentity o A
+      → CentralClaim o A tuple
       → IsEvidence o A (Central tuple)
   of_central tuple associative identity claim =
       evidence (Central tuple) record {
@@ -82,7 +77,7 @@ module _ (table : Table) where
             exclude.central tuple claim;
       } claim
 
-  pub of_ideal : (tuples : List (List (Pair ℕ))) → IsAssociative o A → HasSmallCentre o A.dim A.constants
+  pub of_ideal : (tuples : List (List (Pair ℕ))) → IsAssociative o A → HasSmallCentre o A
       → IsTraceIdeal o A tuples
       → IsEvidence o A (Ideal tuples)
   of_ideal tuples associative centre h =
@@ -90,15 +85,15 @@ module _ (table : Table) where
         associative = associative;
         centre = centre;
         degenerate = λ n. exclude.ideal tuples h.claim
-            (central_simple_by_trace_form o L A.dim A.constants over associative centre n);
+            (central_simple_by_trace_form o L A over associative centre n);
         radical = h.spans;
       } h.claim
 
-  pub of_none : IsAssociative o A → HasSmallCentre o A.dim A.constants → IsNondegenerate o A.dim A.constants
+  pub of_none : IsAssociative o A → HasSmallCentre o A → IsNondegenerate o A
       → HasNoFault o A
   of_none associative centre nondegenerate = record {
     associative = associative;
     centre = centre;
     nondegenerate = nondegenerate;
-    central_simple = central_simple_by_trace_form o L A.dim A.constants over associative centre nondegenerate;
+    central_simple = central_simple_by_trace_form o L A over associative centre nondegenerate;
   }

@@ -18,22 +18,22 @@ module _ (o : Ops (Pair ℕ)) (A : Structure (Pair ℕ)) where
   -- an associative algebra with identity whose centre is larger than the multiples of it
   pub record HasLargeCentre : Type 0 where
     pub associative : IsAssociative o A
-    pub identity : HasIdentity o A.dim A.constants
-    pub large : HasSmallCentre o A.dim A.constants → ⊥
+    pub identity : HasIdentity o A
+    pub large : HasSmallCentre o A → ⊥
 
   -- an associative algebra with identity and a small centre, whose trace form has the combinations of the tuples as its
   -- radical, and not 0 alone
   pub record HasDegenerateForm (tuples : List (List (Pair ℕ))) : Type 0 where
     pub associative : IsAssociative o A
-    pub centre : HasSmallCentre o A.dim A.constants
-    pub degenerate : IsNondegenerate o A.dim A.constants → ⊥
+    pub centre : HasSmallCentre o A
+    pub degenerate : IsNondegenerate o A → ⊥
     pub radical : (a : List (Pair ℕ)) → IsTuple o A.dim a
-        → (InSpan o A.dim tuples a ↔ InTraceRadical o A.dim A.constants a)
+        → (InSpan o A.dim tuples a ↔ InTraceRadical o A a)
 
   -- the evidence is of the kind that the algebra has
   abbrev pub IsOfKind : Evidence → Type 0
   IsOfKind (Triple i j k) = IsFirstFailed o A (record { i = i; j = j; k = k })
-  IsOfKind (NoIdentity left right) = IsAssociative o A × (HasIdentity o A.dim A.constants → ⊥)
+  IsOfKind (NoIdentity left right) = IsAssociative o A × (HasIdentity o A → ⊥)
   IsOfKind (Central tuple) = HasLargeCentre
   IsOfKind (Ideal tuples) = HasDegenerateForm tuples
 
@@ -42,12 +42,12 @@ module _ (o : Ops (Pair ℕ)) (A : Structure (Pair ℕ)) where
   pub record IsEvidence (e : Evidence) : Type 0 where
     pub kind : IsOfKind e
     pub claim : Claim o A e
-    pub not_central_simple : IsCentralSimple o A.dim A.constants → ⊥
-    pub not_split : (n : ℕ) → 1 ≤ n → IsSplit o A.dim A.constants n → ⊥
+    pub not_central_simple : IsCentralSimple o A → ⊥
+    pub not_split : (n : ℕ) → 1 ≤ n → IsSplit o A n → ⊥
 
   -- no kind fits, so that the algebra is central simple
   pub record HasNoFault : Type 0 where
     pub associative : IsAssociative o A
-    pub centre : HasSmallCentre o A.dim A.constants
-    pub nondegenerate : IsNondegenerate o A.dim A.constants
-    pub central_simple : IsCentralSimple o A.dim A.constants
+    pub centre : HasSmallCentre o A
+    pub nondegenerate : IsNondegenerate o A
+    pub central_simple : IsCentralSimple o A

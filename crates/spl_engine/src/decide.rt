@@ -17,7 +17,7 @@ use std::alloc::Global;
 /// Of an associative algebra with an identity and a small centre: the trace form alone is left.
 fn of_small_centre(alloc: Global, table: &Table) -> Result<Option<Evidence>, NoMemory>
     requires associative { IsAssociative (ops_of table.now) (algebra_of table.now) }
-    requires centre { HasSmallCentre (ops_of table.now) (algebra_of table.now).dim (algebra_of table.now).constants }
+    requires centre { HasSmallCentre (ops_of table.now) (algebra_of table.now) }
     ensures { IfOk result (λ r. MatchOption r (HasNoFault (ops_of table.now) (algebra_of table.now))
         (IsEvidence (ops_of table.now) (algebra_of table.now))) }
 {

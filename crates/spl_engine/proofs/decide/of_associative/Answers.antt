@@ -12,5 +12,5 @@ pub returns-in-Refuted : goal.returns-in-Refuted
 returns-in-Refuted c =
     of_no_identity c.args.table.now c.in-Refuted.left c.in-Refuted.right c.requires
     (subst₂ (λ (f : Fractions) (A : Structure (Pair ℕ)). NoIdentityClaim
-    (fractions_over (field_of f)) A.dim A.constants c.in-Refuted.left c.in-Refuted.right)
+    (fractions_over (field_of f)) A c.in-Refuted.left c.in-Refuted.right)
     c.fractions.ensures c.algebra.ensures.algebra (rw c.in-Refuted.is at c.in_ok-left.ensures.value))

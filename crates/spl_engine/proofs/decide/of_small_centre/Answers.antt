@@ -28,5 +28,5 @@ pub returns-in-None : goal.returns-in-None
 returns-in-None c =
     of_none c.args.table.now c.requires.associative c.requires.centre
     (subst₂ (λ (f : Fractions) (A : Structure (Pair ℕ)). IsNondegenerate
-    (fractions_over (field_of f)) A.dim A.constants)
+    (fractions_over (field_of f)) A)
     c.fractions.ensures c.algebra.ensures.algebra (rw c.in-None.is at c.in_ok-tuples.ensures))

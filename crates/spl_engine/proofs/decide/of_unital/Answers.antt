@@ -13,5 +13,5 @@ returns-in-Some c =
     of_central c.args.table.now c.in-Some.tuple c.requires.associative
     (record { one = c.args.one.now; is_one = c.requires.one })
     (subst₂ (λ (f : Fractions) (A : Structure (Pair ℕ)). CentralClaim
-    (fractions_over (field_of f)) A.dim A.constants c.in-Some.tuple)
+    (fractions_over (field_of f)) A c.in-Some.tuple)
     c.fractions.ensures c.algebra.ensures.algebra (rw c.in-Some.is at c.in_ok-tuple.ensures))
