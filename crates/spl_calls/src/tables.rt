@@ -80,7 +80,7 @@ fn contents(alloc: Global, table: &Table, out: &mut Vec<u8>) -> Result<(), Fault
 /// The dimension of the radical of the trace form, or `none`.
 fn radical(alloc: Global, table: &Table, out: &mut Vec<u8>) -> Result<(), Fault>
     requires associative { IsAssociative (ops_of table.now) (algebra_of table.now) }
-    requires identity { HasIdentity (ops_of table.now) (algebra_of table.now).dim (algebra_of table.now).constants }
+    requires identity { HasIdentity (ops_of table.now) (algebra_of table.now) }
 {
     match trace_ideal(alloc, table.fractions(), table.algebra())? {
         Some(tuples) => Ok(show::count(out, tuples.len())?),
@@ -91,7 +91,7 @@ fn radical(alloc: Global, table: &Table, out: &mut Vec<u8>) -> Result<(), Fault>
 /// Whether the centre is larger than the multiples of the identity, and the dimension of the radical of the trace form.
 fn faults_with_identity(alloc: Global, table: &Table, out: &mut Vec<u8>) -> Result<(), Fault>
     requires associative { IsAssociative (ops_of table.now) (algebra_of table.now) }
-    requires identity { HasIdentity (ops_of table.now) (algebra_of table.now).dim (algebra_of table.now).constants }
+    requires identity { HasIdentity (ops_of table.now) (algebra_of table.now) }
 {
     let central = centre_fault(alloc, table.fractions(), table.algebra())?;
     show::word(out, if central.is_some() { "central" } else { "none" })?;
