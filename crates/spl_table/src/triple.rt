@@ -15,7 +15,6 @@ pub fn first_failed_triple(alloc: Global, table: &Table) -> Result<Option<Triple
     ensures { IfOk result (λ r. MatchOption r (IsAssociative (ops_of table.now) (algebra_of table.now))
         (IsFirstFailed (ops_of table.now) (algebra_of table.now))) }
 {
-    table
-        .algebra()
-        .first_failed_triple(alloc, table.fractions())
+    let algebra = table.algebra();
+    algebra.first_failed_triple(alloc, table.fractions())
 }

@@ -20,4 +20,4 @@ returns c =
     (subst (λ (A : Structure (Pair ℕ)). IfOk c.first_failed_triple.result
     (λ r. MatchOption r (IsAssociative (fractions_over (field_of c.fractions.result.now)) A)
     (IsFirstFailed (fractions_over (field_of c.fractions.result.now)) A)))
-    c.algebra.ensures.algebra c.first_failed_triple.ensures)
+    c.algebra-algebra.ensures.algebra c.first_failed_triple.ensures)
