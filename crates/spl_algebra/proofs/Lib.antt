@@ -1,5 +1,6 @@
 pub mod Terms
 pub mod Steps
+pub mod UnitRows
 pub mod Rows
 pub mod BasisRows
 pub mod Multipliers

@@ -3,10 +3,11 @@ ghost use Rattle.std.specs.Prelude.{◌≡◌, ℕ, ◌*◌, ◌+◌, ◌^◌, �
 ghost use Rattle.theory_rings.specs.Ops.{Ops, IsElem};
 ghost use Rattle.theory_tables.specs.Structure.{Structure, IsOver, IsElement, AssociatesAt, basis_of, product_of};
 
-use crate::basis::{associates, coordinates, row_of};
+use crate::basis::{associates, row_of};
 use crate::products::product_of_slices;
 use spl_field::field::{Field, NoMemory};
 use spl_field::list::Vector;
+use spl_matrix::rows::identity_row;
 use std::alloc::Global;
 use std::marker::Model;
 
@@ -119,7 +120,7 @@ impl<F: Field> Algebra<F> {
         ensures elem { IfOk result (IsElement (F.ops f.now) self.now) }
         ensures value { IfOk result (λ r. r ≡ basis_of (F.ops f.now) self.now i) }
     {
-        coordinates(alloc, f, self.dim, i)
+        identity_row(alloc, f, self.dim(), i)
     }
 
     /// The product of the basis elements i and j. It takes no memory, since it is a row of the constants.

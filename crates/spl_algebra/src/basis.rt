@@ -1,37 +1,11 @@
 // Basis elements and their products, by structure constants.
-ghost use Rattle.std.specs.Prelude.{◌≡◌, ◌≢◌, ◌+◌, ◌*◌, ◌^◌, ◌<◌, ◌↔◌, ◌==◌, if◌then◌else◌, IfOk, IsTrue};
-ghost use Rattle.theory_rings.specs.Ops.{IsElem};
+ghost use Rattle.std.specs.Prelude.{◌≡◌, ◌≢◌, ◌+◌, ◌*◌, ◌^◌, ◌<◌, ◌↔◌, IfOk, IsTrue};
 ghost use Rattle.theory_spaces.specs.Tuples.{IsTuple, basis, product};
 
 use crate::products::{combination, contracted_item, same};
 use spl_field::field::{Field, NoMemory};
-use spl_field::list::{List, Vector};
+use spl_field::list::Vector;
 use std::alloc::Global;
-
-/// 1 where k is i, and else 0.
-fn unit_item<F: Field>(alloc: Global, f: &F, k: usize, i: usize) -> Result<F::Elem, NoMemory>
-    ensures elem { IfOk result (IsElem (F.ops f.now)) }
-    ensures value { IfOk result (λ r. r ≡ (if k == i then (F.ops f.now).one else (F.ops f.now).zero)) }
-{
-    if k == i { f.one(alloc) } else { f.zero(alloc) }
-}
-
-/// The coordinates of the basis element i, of m.
-pub(crate) fn coordinates<F: Field>(
-    alloc: Global,
-    f: &F,
-    m: usize,
-    i: usize,
-) -> Result<Vector<F>, NoMemory>
-    ensures elem { IfOk result (IsTuple (F.ops f.now) m) }
-    ensures value { IfOk result (λ r. r ≡ basis (F.ops f.now) m i) }
-{
-    let mut items = List::new(alloc);
-    for k in 0..m {
-        items.push(unit_item(alloc, f, k, i)?)?;
-    }
-    Ok(items)
-}
 
 /// The place of the constant for the basis elements i, j and k.
 pub(crate) fn place(m: usize, i: usize, j: usize, k: usize) -> usize
@@ -97,6 +71,46 @@ fn first_items_differ<F: Field>(
     Ok(!f.eq(&left, &right))
 }
 
+/// The product b_i·a, for the basis element b_i.
+pub(crate) fn left_multiple<F: Field>(
+    alloc: Global,
+    f: &F,
+    m: usize,
+    constants: &[F::Elem],
+    i: usize,
+    a: &[F::Elem],
+) -> Result<Vector<F>, NoMemory>
+    requires fits { m * m * m < 2 ^ 64 }
+    requires over { IsTuple (F.ops f.now) (m * m * m) constants.now }
+    requires index { i < m }
+    requires element { IsTuple (F.ops f.now) m a.now }
+    ensures elem { IfOk result (IsTuple (F.ops f.now) m) }
+    ensures value { IfOk result (λ r. r ≡ product (F.ops f.now) m constants.now (basis (F.ops f.now) m i) a.now) }
+{
+    let items = combination(alloc, f, m, a, &constants[i * m * m..], m)?;
+    Ok(items)
+}
+
+/// The product a·b_i.
+pub(crate) fn right_multiple<F: Field>(
+    alloc: Global,
+    f: &F,
+    m: usize,
+    constants: &[F::Elem],
+    i: usize,
+    a: &[F::Elem],
+) -> Result<Vector<F>, NoMemory>
+    requires fits { m * m * m < 2 ^ 64 }
+    requires over { IsTuple (F.ops f.now) (m * m * m) constants.now }
+    requires index { i < m }
+    requires element { IsTuple (F.ops f.now) m a.now }
+    ensures elem { IfOk result (IsTuple (F.ops f.now) m) }
+    ensures value { IfOk result (λ r. r ≡ product (F.ops f.now) m constants.now a.now (basis (F.ops f.now) m i)) }
+{
+    let items = combination(alloc, f, m, a, &constants[i * m..], m * m)?;
+    Ok(items)
+}
+
 /// The same, by all items.
 fn all_items_agree<F: Field>(
     alloc: Global,
@@ -120,22 +134,8 @@ fn all_items_agree<F: Field>(
         (basis (F.ops f.now) m i)
         (product (F.ops f.now) m constants.now (basis (F.ops f.now) m j) (basis (F.ops f.now) m k)))) }
 {
-    let left = combination(
-        alloc,
-        f,
-        m,
-        row_of(f, m, constants, i, j),
-        &constants[k * m..],
-        m * m,
-    )?;
-    let right = combination(
-        alloc,
-        f,
-        m,
-        row_of(f, m, constants, j, k),
-        &constants[i * m * m..],
-        m,
-    )?;
+    let left = right_multiple(alloc, f, m, constants, k, row_of(f, m, constants, i, j))?;
+    let right = left_multiple(alloc, f, m, constants, i, row_of(f, m, constants, j, k))?;
     Ok(same(f, left.as_slice(), right.as_slice()))
 }
 

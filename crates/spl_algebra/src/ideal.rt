@@ -8,52 +8,11 @@ ghost use Rattle.spl_algebra.specs.Multiples.{AddsMultiples, HoldsMultiples};
 ghost use Rattle.spl_algebra.specs.Subspaces.{GeneratesIdeal};
 
 use crate::algebra::Algebra;
-use crate::products::combination;
+use crate::basis::{left_multiple, right_multiple};
 use spl_field::field::{Field, NoMemory};
-use spl_field::list::Vector;
 use spl_matrix::matrix::Matrix;
 use spl_matrix::subspace::Subspace;
 use std::alloc::Global;
-
-/// The product b_i·a, for the basis element b_i.
-fn left_multiple<F: Field>(
-    alloc: Global,
-    f: &F,
-    m: usize,
-    constants: &[F::Elem],
-    i: usize,
-    a: &[F::Elem],
-) -> Result<Vector<F>, NoMemory>
-    requires fits { m * m * m < 2 ^ 64 }
-    requires over { IsTuple (F.ops f.now) (m * m * m) constants.now }
-    requires index { i < m }
-    requires element { IsTuple (F.ops f.now) m a.now }
-    ensures elem { IfOk result (IsTuple (F.ops f.now) m) }
-    ensures value { IfOk result (λ r. r ≡ product (F.ops f.now) m constants.now (basis (F.ops f.now) m i) a.now) }
-{
-    let items = combination(alloc, f, m, a, &constants[i * m * m..], m)?;
-    Ok(items)
-}
-
-/// The product a·b_i.
-fn right_multiple<F: Field>(
-    alloc: Global,
-    f: &F,
-    m: usize,
-    constants: &[F::Elem],
-    i: usize,
-    a: &[F::Elem],
-) -> Result<Vector<F>, NoMemory>
-    requires fits { m * m * m < 2 ^ 64 }
-    requires over { IsTuple (F.ops f.now) (m * m * m) constants.now }
-    requires index { i < m }
-    requires element { IsTuple (F.ops f.now) m a.now }
-    ensures elem { IfOk result (IsTuple (F.ops f.now) m) }
-    ensures value { IfOk result (λ r. r ≡ product (F.ops f.now) m constants.now a.now (basis (F.ops f.now) m i)) }
-{
-    let items = combination(alloc, f, m, a, &constants[i * m..], m * m)?;
-    Ok(items)
-}
 
 /// Appends b_i·a and a·b_i for each basis element b_i.
 fn push_multiples<F: Field>(

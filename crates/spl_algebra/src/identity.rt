@@ -10,11 +10,11 @@ ghost use Rattle.spl_algebra.specs.IdentitySystem.{constant_place, constant_row,
 ghost use Rattle.spl_algebra.specs.IdentitySystem.{IsIdentitySystem, ListsMultipliers};
 
 use crate::algebra::Algebra;
-use crate::basis::coordinates;
 use spl_field::field::{Field, NoMemory};
 use spl_field::list::{List, Vector};
 use spl_matrix::lists::Multipliers;
 use spl_matrix::matrix::Matrix;
+use spl_matrix::rows::identity_row;
 use spl_matrix::solve::Solution;
 use std::alloc::Global;
 
@@ -174,7 +174,7 @@ fn one_of<F: Field>(
     ensures { IfOk result (IsOne (F.ops f.now) (record { dim = m; constants = constants.now })) }
 {
     let rows = system(alloc, f, m, constants)?;
-    let right = coordinates(alloc, f, m + 1, m)?;
+    let right = identity_row(alloc, f, m + 1, m)?;
     match rows.solve(alloc, f, right.as_slice())? {
         Solution::Solved { vector } => {
             let (left, right) = vector.as_slice().split_at(m * m);

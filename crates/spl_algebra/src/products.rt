@@ -7,8 +7,8 @@ ghost use Rattle.spl_algebra.specs.Products.{AddsEach, scaled_rows, sum_of_rows}
 ghost use Rattle.spl_algebra.specs.Contractions.{contracted};
 
 use spl_field::field::{Field, NoMemory};
-use spl_field::list::{List, Vector};
-use spl_matrix::rows::{add_multiple, add_product};
+use spl_field::list::Vector;
+use spl_matrix::rows::{add_multiple, add_product, zeros};
 use std::alloc::Global;
 
 /// Adds x·c times the row to the sums. A zero c costs nothing.
@@ -67,18 +67,6 @@ fn add_rows<F: Field>(
         add_row(alloc, f, zero, sums, x, &b[l], &rows[start..start + m])?;
     }
     Ok(())
-}
-
-/// A list of m zeros.
-fn zeros<F: Field>(alloc: Global, f: &F, m: usize) -> Result<Vector<F>, NoMemory>
-    ensures elem { IfOk result (IsTuple (F.ops f.now) m) }
-    ensures value { IfOk result (λ v. v ≡ table m (λ _. (F.ops f.now).zero)) }
-{
-    let mut zeros = List::new(alloc);
-    for _ in 0..m {
-        zeros.push(f.zero(alloc)?)?;
-    }
-    Ok(zeros)
 }
 
 /// The product of a and b in the algebra of dimension m with these constants.

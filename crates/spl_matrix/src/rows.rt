@@ -90,7 +90,7 @@ pub(crate) fn unit_item<F: Field>(
 }
 
 /// The row of n items with 1 at place i, and else 0.
-pub(crate) fn identity_row<F: Field>(
+pub fn identity_row<F: Field>(
     alloc: Global,
     f: &F,
     n: usize,
@@ -106,7 +106,7 @@ pub(crate) fn identity_row<F: Field>(
 }
 
 /// The row of n zeros.
-pub(crate) fn zeros<F: Field>(alloc: Global, f: &F, n: usize) -> Result<Vector<F>, NoMemory>
+pub fn zeros<F: Field>(alloc: Global, f: &F, n: usize) -> Result<Vector<F>, NoMemory>
     ensures { IfOk result (λ r. r ≡ table n (λ _. (F.ops f.now).zero)) }
 {
     let mut items = List::new(alloc);

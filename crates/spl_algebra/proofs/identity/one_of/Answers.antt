@@ -1,12 +1,22 @@
-use Rattle.std.proofs.Common.{◌∙◌, ◌*◌, ap, subst, take, drop, length}
+use Rattle.std.proofs.Common.{ℕ, sym, ◌+◌, ◌∙◌, ◌*◌, ap, subst, take, drop, length}
 use Rattle.theory_tables.specs.Matrix.{width_of}
 use Rattle.theory_tables.specs.Solve.{IsSolved, IsRefuted}
 use Rattle.spl_algebra.specs.IdentitySystem.{ListsMultipliers}
 use Rattle.spl_algebra.proofs.IdentityRows.{refutes_identity, opposite_is_one, columns-fit}
+use Rattle.theory_spaces.specs.Tuples.{IsTuple}
+use Rattle.spl_algebra.proofs.UnitRows.{IsTuple-of_basis}
 use Rattle.spl_algebra.proofs.identity.one_of.Goals as goal
 
 pub system-requires-clause-columns : goal.system-requires-clause-columns
 system-requires-clause-columns g c = columns-fit c.args.m c.requires.positive c.requires.fits
+
+pub solve-requires-clause-right : goal.solve-requires-clause-right
+solve-requires-clause-right g c =
+    let o = g.F.Field.ops c.args.f.now in
+    let m = c.args.m in
+    let right = IsTuple-of_basis o (g.met.F.Field.laws c.args.f.now) (m + 1) m c.as_slice.result.now
+    (c.as_slice.ensures ∙ c.in_ok-right.ensures) in
+    subst (λ (n : ℕ). IsTuple o n c.as_slice.result.now) (sym c.in_ok-rows.ensures.height) right
 
 pub returns-in-Solved : goal.returns-in-Solved
 returns-in-Solved g c =
@@ -15,7 +25,7 @@ returns-in-Solved g c =
     let rows = c.in_ok-rows.rows in
     let solution = rw c.in-Solved.is at c.in_ok-vector.ensures in
     let solved = subst (λ right. IsSolved o (length rows) (width_of rows) rows right c.in-Solved.vector)
-    (c.as_slice.ensures ∙ c.in_ok-right.ensures.value) solution in
+    (c.as_slice.ensures ∙ c.in_ok-right.ensures) solution in
     let front = subst (λ xs. ListsMultipliers o m xs c.in_ok-left-in-Solved.left)
     (c.split_at.ensures.front ∙ ap (take (m * m)) c.as_slice-in-Solved.ensures) c.in_ok-left-in-Solved.ensures in
     let back = subst (λ xs. ListsMultipliers o m xs c.in_ok-right-in-Solved.right)
@@ -32,7 +42,7 @@ returns g c =
     let rows = c.in_ok-rows.rows in
     let solution = rw c.in-Refuted.is at c.in_ok-vector.ensures in
     let refuted = subst (λ right. IsRefuted o (length rows) (width_of rows) rows right c.in-Refuted.multipliers)
-    (c.as_slice.ensures ∙ c.in_ok-right.ensures.value) solution in
+    (c.as_slice.ensures ∙ c.in_ok-right.ensures) solution in
     rw (c.in_ok-tuple-in-Refuted.ensures.value, c.as_slice-in-Refuted.ensures)
     (opposite_is_one o
     (g.met.F.Field.laws c.args.f.now) m cs c.requires.over.of_elements rows c.in_ok-rows.ensures

@@ -4,7 +4,7 @@ use Rattle.theory_rings.specs.Sum.{table}
 use Rattle.spl_algebra.specs.Products.{sum_of_rows}
 use Rattle.spl_algebra.proofs.Rows.{row_end-le_rest}
 use Rattle.spl_algebra.proofs.BasisRows.{basis-product}
-use Rattle.spl_algebra.proofs.ideal.left_multiple.Goals as goal
+use Rattle.spl_algebra.proofs.basis.left_multiple.Goals as goal
 
 pub combination-requires-clause-within : goal.combination-requires-clause-within
 combination-requires-clause-within g c =

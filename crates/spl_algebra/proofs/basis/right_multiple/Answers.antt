@@ -4,7 +4,7 @@ use Rattle.theory_rings.specs.Sum.{table}
 use Rattle.spl_algebra.specs.Products.{sum_of_rows}
 use Rattle.spl_algebra.proofs.Rows.{column_end-le_rest}
 use Rattle.spl_algebra.proofs.BasisRows.{product-basis}
-use Rattle.spl_algebra.proofs.ideal.right_multiple.Goals as goal
+use Rattle.spl_algebra.proofs.basis.right_multiple.Goals as goal
 
 pub combination-requires-clause-within : goal.combination-requires-clause-within
 combination-requires-clause-within g c =
