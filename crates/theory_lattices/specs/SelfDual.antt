@@ -5,6 +5,8 @@ use Rattle.theory_rings.specs.Ring.{FieldOn}
 use Rattle.theory_spaces.specs.Module.{AlgebraOn}
 use Rattle.theory_spaces.specs.Orthogonal.{AreDual}
 use Rattle.theory_spaces.specs.Algebra.{IsNilpotent}
+use Rattle.theory_spaces.specs.Sets.{Within}
+use Rattle.theory_spaces.specs.Lattice.{DualOf}
 use Rattle.theory_lattices.specs.Degree.{DegreeOn, DegreeBelow, HasDegree}
 
 -- powers of every degree of an element of degree 1
@@ -26,8 +28,8 @@ module _ {K V : Type 0} (F : FieldOn K) (W : DegreeOn F.ring) (A : AlgebraOn F.r
   pub record SelfDualPair (finite infinite : V → Type 0) (tr : V → K) : Type 0 where
     pub finite-mul : (x y : V) → finite x → finite y → finite (A.◌⊗◌ x y)
     pub infinite-mul : (x y : V) → infinite x → infinite y → infinite (A.◌⊗◌ x y)
-    pub finite_dual : (x : V) → ((y : V) → finite y → P (tr (A.◌⊗◌ y x))) → finite x
-    pub infinite_dual : (x : V) → ((y : V) → infinite y → DegreeBelow W (pos 1) (tr (A.◌⊗◌ y x))) → infinite x
+    pub finite_dual : Within (DualOf (λ x y. tr (A.◌⊗◌ x y)) P finite) finite
+    pub infinite_dual : Within (DualOf (λ x y. tr (A.◌⊗◌ x y)) (DegreeBelow W (pos 1)) infinite) infinite
     pub tr-add : (x y : V) → tr (A.◌⊕◌ x y) ≡ F.◌⊕◌ (tr x) (tr y)
     pub tr-scale : (c : K) (x : V) → tr (A.◌•◌ c x) ≡ F.◌⊗◌ c (tr x)
     pub tr_comm : (x y : V) → tr (A.◌⊗◌ x y) ≡ tr (A.◌⊗◌ y x)
