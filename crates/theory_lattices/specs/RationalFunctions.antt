@@ -6,7 +6,7 @@ use Rattle.std.specs.Prelude.{◌≡◌, ℕ, pos, ◌-ℤ◌}
 use Rattle.theory_rings.specs.Ring.{CommRingOn, FieldOn}
 use Rattle.theory_rings.specs.Power.{power}
 use Rattle.theory_rings.specs.Polynomial.{Poly, IsPolynomialRing, IsConstant, IsVariable, degree}
-use Rattle.theory_rings.specs.Fraction.{Fraction, IsValue, IsLowest}
+use Rattle.theory_rings.specs.Fraction.{Fraction, IsValue, IsFractionField, IsLowest}
 use Rattle.theory_rings.proofs.Polynomials.Bezout.{field_polynomials}
 use Rattle.theory_rings.proofs.Polynomials.PolynomialRing.{constant}
 use Rattle.theory_rings.proofs.Polynomials.Constants.{variable}
@@ -31,6 +31,10 @@ module _ {k : Type 0} (F : FieldOn k) where
   -- numerator and denominator in lowest terms
   abbrev pub Rational : Type 0
   Rational = Fraction (IsLowest F.cring (polynomial_ring F))
+
+  -- the operations are those of fractions
+  abbrev pub IsRationalField : FieldOn Rational → Type 0
+  IsRationalField = IsFractionField (polynomial_ring F) (IsLowest F.cring (polynomial_ring F))
 
   -- x is u / 1 for a polynomial u
   abbrev pub IsPolynomial : Rational → Type 0

@@ -3,7 +3,6 @@ ghost use Rattle.std.specs.Prelude.{◌≡◌, ℕ, ◌≤◌, ℤ};
 ghost use Rattle.theory_rings.specs.Ring.{FieldOn};
 ghost use Rattle.theory_rings.specs.Homomorphism.{IsRingHom};
 ghost use Rattle.theory_rings.specs.Enumerated.{Enumerated};
-ghost use Rattle.theory_rings.specs.Fraction.{IsFractionField, IsLowest};
 ghost use Rattle.theory_spaces.specs.Module.{ModuleOn, AlgebraOn, module_of};
 ghost use Rattle.theory_spaces.specs.Linear.{InSpan, Independent, Coords};
 ghost use Rattle.theory_spaces.specs.Algebra.{Central};
@@ -12,7 +11,7 @@ ghost use Rattle.theory_lattices.specs.Degree.{DegreeOn, IsEuclidean};
 ghost use Rattle.theory_lattices.specs.CommonBasis.{InInfinite, CommonBasis};
 ghost use Rattle.theory_lattices.specs.Members.{PolynomialsOf, IntersectionBasis};
 ghost use Rattle.theory_lattices.specs.SelfDual.{ClosedWeights, SelfDualPair, Middle, DualVectors};
-ghost use Rattle.theory_lattices.specs.RationalFunctions.{polynomial_ring, AreFractionsOfPolynomials};
+ghost use Rattle.theory_lattices.specs.RationalFunctions.{polynomial_ring, AreFractionsOfPolynomials, IsRationalField};
 ghost use Rattle.theory_lattices.specs.RationalFunctions.{IsPolynomialDegree, Rational, IsPolynomial, of_constant};
 ghost use Rattle.theory_lattices.specs.RationalFunctions.{power_of_x, IsRationalDegree};
 
@@ -38,8 +37,7 @@ pub trait RationalFunctions {
 
     ghost field: { FieldOn (Rational constants) };
 
-    ghost fractions: { IsFractionField (polynomial_ring constants)
-        (IsLowest constants.cring (polynomial_ring constants)) field };
+    ghost fractions: { IsRationalField constants field };
 }
 
 /// The degree of the numerator less that of the denominator is a degree of rational functions. By it the polynomials
@@ -62,8 +60,7 @@ pub trait RationalSpace {
 
     ghost field: { FieldOn (Rational constants) };
 
-    ghost fractions: { IsFractionField (polynomial_ring constants)
-        (IsLowest constants.cring (polynomial_ring constants)) field };
+    ghost fractions: { IsRationalField constants field };
 
     ghost degree: { DegreeOn field.ring };
 
@@ -109,8 +106,7 @@ pub trait RationalOrderPair {
 
     ghost field: { FieldOn (Rational constants) };
 
-    ghost fractions: { IsFractionField (polynomial_ring constants)
-        (IsLowest constants.cring (polynomial_ring constants)) field };
+    ghost fractions: { IsRationalField constants field };
 
     ghost degree: { DegreeOn field.ring };
 
@@ -162,8 +158,7 @@ pub trait RationalOrders {
 
     ghost field: { FieldOn (Rational constants) };
 
-    ghost fractions: { IsFractionField (polynomial_ring constants)
-        (IsLowest constants.cring (polynomial_ring constants)) field };
+    ghost fractions: { IsRationalField constants field };
 
     ghost degree: { DegreeOn field.ring };
 
