@@ -9,7 +9,8 @@ ghost use Rattle.theory_spaces.specs.Form.{IsBilinear};
 ghost use Rattle.theory_spaces.specs.Algebra.{InCorner, Central, CentralSimple};
 ghost use Rattle.theory_lattices.specs.Degree.{DegreeOn};
 ghost use Rattle.theory_lattices.specs.ReducedRows.{Reduced};
-ghost use Rattle.theory_spaces.specs.Lattice.{LatticeOver};
+ghost use Rattle.theory_spaces.specs.Sets.{Within};
+ghost use Rattle.theory_spaces.specs.Lattice.{LatticeOver, DualOf};
 ghost use Rattle.theory_lattices.specs.CommonBasis.{InInfinite, InBoth, CommonBasis};
 ghost use Rattle.theory_lattices.specs.Members.{PolynomialsOf, IntersectionBasis};
 
@@ -115,11 +116,10 @@ pub trait FormWithWeights {
 pub fn self_dual_lattice<B: FormWithWeights>()
     ensures { (n : ℕ) (f g : ℕ → B.Vector) → ((i j : ℕ) → i < n → j < n → B.form (f i) (g j) ≡ delta B.field.ring i j)
         → ((x : B.Vector) → InSpan B.space n f x)
-        → ((x : B.Vector) → LatticeOver B.space B.Weight n f x → LatticeOver B.space B.Weight n g x)
-        → ((x : B.Vector) → LatticeOver B.space B.Weight n g x → LatticeOver B.space B.Weight n f x)
+        → Within (LatticeOver B.space B.Weight n f) (LatticeOver B.space B.Weight n g)
+        → Within (LatticeOver B.space B.Weight n g) (LatticeOver B.space B.Weight n f)
         → ((i : ℕ) → i < n → LatticeOver B.space B.Weight n f (f i))
-        → (x : B.Vector) → ((y : B.Vector) → LatticeOver B.space B.Weight n f y → B.Weight (B.form y x))
-        → LatticeOver B.space B.Weight n f x }
+        → Within (DualOf B.form B.Weight (LatticeOver B.space B.Weight n f)) (LatticeOver B.space B.Weight n f) }
 {}
 
 /// An idempotent of an algebra, a map to the scalars, a set of elements and one of scalars.
@@ -148,7 +148,7 @@ pub trait IdempotentWithLattice {
 pub fn corner_is_self_dual<E: IdempotentWithLattice>()
     ensures { ((x y : E.Vector) → E.trace (E.algebra.◌⊗◌ x y) ≡ E.trace (E.algebra.◌⊗◌ y x))
         → ((x y : E.Vector) → E.Lattice x → E.Lattice y → E.Lattice (E.algebra.◌⊗◌ x y)) → E.Lattice E.idempotent
-        → ((x : E.Vector) → ((y : E.Vector) → E.Lattice y → E.Weight (E.trace (E.algebra.◌⊗◌ y x))) → E.Lattice x)
+        → Within (DualOf (λ x y. E.trace (E.algebra.◌⊗◌ x y)) E.Weight E.Lattice) E.Lattice
         → (x : E.Vector) → InCorner E.algebra E.idempotent x
         → ((y : E.Vector) → InCorner E.algebra E.idempotent y → E.Lattice y → E.Weight (E.trace (E.algebra.◌⊗◌ y x)))
         → E.Lattice x }
