@@ -1,7 +1,7 @@
 -- What `decide` answers to the text of a table.
 use Rattle.std.specs.Prelude.{◌≡◌, ℕ, ◌*◌, List, []}
 use Rattle.std.proofs.Common.{inl, inr, sym, ◌∙◌, ap, subst}
-use Rattle.spl_table.specs.TableText.{TableText}
+use Rattle.spl_table.specs.TableText.{TableText, line_of_end}
 use Rattle.spl_table.specs.Table.{algebra_of, ops_of, IsTableOf}
 use Rattle.spl_table.specs.Refusal.{whole, IsTableText, IsRefusal}
 use Rattle.spl_table.specs.declared.table.Table.{Table}
@@ -17,15 +17,16 @@ use Rattle.spl_engine.specs.Kind.{IsEvidence, HasNoFault}
 use Rattle.spl_cli.specs.declared.status.Status.{Status}
 use Rattle.spl_cli.specs.declared.status.Status.TheVariants.{Done, Refused}
 use Rattle.spl_cli.specs.Forms.{IsDecide}
-use Rattle.spl_cli.specs.Report.{refusal_text, line_of_end, ShowsEvidence}
+use Rattle.spl_cli.specs.Report.{refusal_text, ShowsEvidence}
 use Rattle.spl_cli.specs.Run.{SinkState}
 use Rattle.spl_cli.specs.Finish.{Finishes, Answers}
 
 module _ (words : List (List ℕ)) (input : List ℕ) (sink sink' : SinkState) (status : Status) (form : IsDecide words)
-    (table : Table) (read : (t : TableText) × IsTableText whole input t [] × IsTableOf t table) (bytes : List ℕ) where
+    (table : Table) (last : ℕ) (read : (t : TableText) × IsTableText whole input t [] × IsTableOf t table
+    × (last ≡ line_of_end t)) (bytes : List ℕ) where
   -- a table without a fault is refused at its last line
   pub Answers-undecided : (refusal : Refusal) → HasNoFault (ops_of table) (algebra_of table)
-      → refusal.line ≡ line_of_end input → refusal.kind ≡ NotBuilt → bytes ≡ refusal_text refusal
+      → refusal.line ≡ last → refusal.kind ≡ NotBuilt → bytes ≡ refusal_text refusal
       → Finishes Refused bytes sink sink' status → Answers words input sink sink' status
   Answers-undecided refusal no_fault line kind report finishes = record {
     ends = inr (
@@ -39,7 +40,7 @@ module _ (words : List (List ℕ)) (input : List ℕ) (sink sink' : SinkState) (
             table = table;
             stands = record { text = read.0; is_text = read.1; is_table = read.2 };
             no_fault = no_fault;
-            line = line;
+            line = line ∙ read.3;
             kind = kind;
           });
           report = report;

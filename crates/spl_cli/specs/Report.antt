@@ -1,6 +1,6 @@
 -- What a run reports: the status, and all the bytes that are written.
-use Rattle.std.specs.Prelude.{◌≡◌, ◌⊎◌, ℕ, ◌==◌, List, [], ◌++◌, codes, decimal, count_by}
-use Rattle.spl_table.specs.TableText.{TableText}
+use Rattle.std.specs.Prelude.{◌≡◌, ◌⊎◌, ℕ, List, [], ◌++◌, codes, decimal}
+use Rattle.spl_table.specs.TableText.{TableText, line_of_end}
 use Rattle.spl_table.specs.Table.{algebra_of, ops_of, IsTableOf}
 use Rattle.spl_table.specs.Refusal.{whole, IsTableText, IsRefusal}
 use Rattle.spl_table.specs.declared.table.Table.{Table}
@@ -44,10 +44,6 @@ abbrev pub refusal_text : Refusal → List ℕ
 refusal_text r =
     codes "refused " ++ decimal r.line ++ codes " " ++ kind_name r.kind ++ element_text r.kind ++ codes "\n"
 
--- the line of `end`, the last one of a table text
-abbrev pub line_of_end : List ℕ → ℕ
-line_of_end input = count_by (λ byte. byte == 10) input
-
 -- the input is the text of a table, and this is the table
 pub record Stands (input : List ℕ) (table : Table) : Type 0 where
   pub text : TableText
@@ -60,7 +56,7 @@ pub record IsUndecided (input : List ℕ) (refusal : Refusal) : Type 0 where
   pub table : Table
   pub stands : Stands input table
   pub no_fault : HasNoFault (ops_of table) (algebra_of table)
-  pub line : refusal.line ≡ line_of_end input
+  pub line : refusal.line ≡ line_of_end stands.text
   pub kind : refusal.kind ≡ NotBuilt
 
 -- the bytes are the text of evidence that the table's algebra isn't central simple

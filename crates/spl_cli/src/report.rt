@@ -1,6 +1,6 @@
 // The texts of reports.
-ghost use Rattle.std.specs.Prelude.{◌≡◌, ℕ, ◌+◌, ◌<◌, ◌≤◌, ◌^◌, ◌==◌, ◌++◌, length, count_by, codes, decimal, IfOk};
-ghost use Rattle.spl_cli.specs.Report.{kind_name, element_text, refusal_text, line_of_end};
+ghost use Rattle.std.specs.Prelude.{◌≡◌, ℕ, ◌+◌, ◌<◌, ◌≤◌, ◌^◌, ◌++◌, length, codes, decimal, IfOk};
+ghost use Rattle.spl_cli.specs.Report.{kind_name, element_text, refusal_text};
 
 use arrayvec::ArrayString;
 use itoa::Buffer;
@@ -10,13 +10,6 @@ use std::alloc::Global;
 
 /// The usage text: the built forms, one a line.
 pub(crate) const USAGE: &[u8] = b"usage: spl decide\n";
-
-/// The line of `end` in a table text, which is its last.
-pub(crate) fn end_line(input: &[u8]) -> usize
-    ensures { result ≡ line_of_end input.now }
-{
-    input.iter().filter(|byte| **byte == b'\n').count()
-}
 
 /// The name of a kind of refusal.
 fn name_of(kind: Kind) -> &'static str

@@ -8,10 +8,10 @@ ghost use Rattle.spl_cli.specs.Finish.{source_state, sink_state, Finishes, Answe
 ghost use Rattle.spl_cli.specs.Forms.{IsDecide};
 
 use crate::input::{InputFault, read_input};
-use crate::report::{USAGE, end_line, refusal_line};
+use crate::report::{USAGE, refusal_line};
 use crate::status::Status;
 use crate::words::Words;
-use spl_engine::decide::decide as find_evidence;
+use spl_engine::decide::decide;
 use spl_evidence::writing::write_evidence;
 use spl_field::field::NoMemory;
 use spl_outside::outside::{Failed, Sink, Source};
@@ -43,7 +43,7 @@ fn evidence_on(alloc: Global, table: &Table) -> Result<Option<Vec<u8>>, NoMemory
     ensures { IfOk result (λ r. MatchOption r (HasNoFault (ops_of table.now) (algebra_of table.now))
         (λ text. ShowsEvidence table.now text.items)) }
 {
-    match find_evidence(alloc, table)? {
+    match decide(alloc, table)? {
         None => Ok(None),
         Some(evidence) => {
             let text = write_evidence(alloc, table.fractions(), table.degree(), &evidence)?;
@@ -52,8 +52,8 @@ fn evidence_on(alloc: Global, table: &Table) -> Result<Option<Vec<u8>>, NoMemory
     }
 }
 
-/// Writes the report on the input of `decide`.
-fn decide<K: Sink>(alloc: Global, input: &[u8], sink: &mut K) -> Status
+/// Writes the report on the input of the word `decide`.
+fn report_on<K: Sink>(alloc: Global, input: &[u8], sink: &mut K) -> Status
     ensures { (words : List (List ℕ)) → IsDecide words → Answers words input.now
         (sink_state K.written K.faults K.steady sink.old) (sink_state K.written K.faults K.steady sink.new) result }
 {
@@ -64,11 +64,11 @@ fn decide<K: Sink>(alloc: Global, input: &[u8], sink: &mut K) -> Status
             refusal_line(refusal).as_str().as_bytes(),
             Status::Refused,
         ),
-        Ok(table) => match evidence_on(alloc, &table) {
+        Ok((table, last)) => match evidence_on(alloc, &table) {
             Err(_) => Status::Memory,
             Ok(None) => {
                 let refusal = Refusal {
-                    line: end_line(input) as u32,
+                    line: last,
                     kind: Kind::NotBuilt,
                 };
                 finish(
@@ -95,6 +95,6 @@ pub fn run<S: Source, K: Sink>(alloc: Global, words: &Words, source: &mut S, sin
     match read_input(alloc, source, DECIDE_LIMIT, PIECE) {
         Err(InputFault::Read) => Status::ReadFault,
         Err(InputFault::Memory) => Status::Memory,
-        Ok(input) => decide(alloc, input.as_slice(), sink),
+        Ok(input) => report_on(alloc, input.as_slice(), sink),
     }
 }

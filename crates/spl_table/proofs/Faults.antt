@@ -1,7 +1,7 @@
 -- From the faults of single lines to those of a text.
 use Rattle.std.proofs.Common.{◌≡◌, ◌≢◌, ℕ, ◌+◌, ◌*◌, ◌%◌, ◌≤◌, List, [], ◌∷◌, ◌++◌, length, None, refl, sym, ap, subst}
 use Rattle.std.proofs.Common.{◌∙◌, inl, inr, append_assoc, append-nil, arith}
-use Rattle.std.specs.Prelude.{Result, Err, IfErr}
+use Rattle.std.specs.Prelude.{Result, Ok, Err, IfOk, IfErr}
 use Rattle.std.proofs.lemmas.Result.{IfErr-at_err}
 use Rattle.std.specs.List.{flat_map}
 use Rattle.theory_rings.specs.Ops.{Ops}
@@ -15,9 +15,10 @@ use Rattle.theory_fractions.specs.Fraction.{Pair}
 use Rattle.spl_fraction.specs.Fractions.{field_of as base_of}
 use Rattle.spl_fraction.specs.declared.field.Fractions.{Fractions}
 use Rattle.spl_table.specs.TableText.{Entry, Head, first_line, field_line, degree_line, head_lines, entry_line}
-use Rattle.spl_table.specs.TableText.{end_line, lines_before_end, spelling, IsRightHead, IsWellFormed}
-use Rattle.spl_table.specs.Refusal.{Extent, whole, Begins, LacksLine, LineFault, last_of, IsAfterEnd, IsFaultOfLines}
-use Rattle.spl_table.specs.Refusal.{IsFirstFault, IsRefusal, IsNoTextAt, IsWithinLimit, table_limit}
+use Rattle.spl_table.specs.TableText.{TableText, end_line, lines_before_end, spelling, line_of_end, IsRightHead}
+use Rattle.spl_table.specs.TableText.{IsWellFormed}
+use Rattle.spl_table.specs.Refusal.{Extent, whole, Begins, HasField, LacksLine, LineFault, last_of, IsAfterEnd, IsFaultOfLines}
+use Rattle.spl_table.specs.Refusal.{IsTableText, IsFirstFault, IsRefusal, IsNoTextAt, IsWithinLimit, table_limit}
 use Rattle.spl_table.specs.Table.{fractions_of, degree_of, algebra_of, AreConstants, IsTableOf}
 use Rattle.spl_table.specs.declared.table.Table.{Table}
 use Rattle.spl_table.specs.Reading.{IfRefused, head_of, field_text, degree_text, IsFieldFault, IsDegreeFault}
@@ -30,6 +31,7 @@ use Rattle.spl_table.specs.declared.refusal.Refusal.{Refusal}
 use Rattle.spl_table.specs.declared.refusal.TableFault.{TableFault}
 use Rattle.spl_table.specs.declared.refusal.TableFault.TheVariants.{Refused, Memory}
 use Rattle.spl_table.proofs.Spellings.{Lacks-field, Lacks-degree}
+use Rattle.spl_table.proofs.TextLaws.{fits_number, fits_numbers}
 
 -- a line in front of others
 cut_line : (text rest : List ℕ) → line text ++ rest ≡ text ++ 10 ∷ rest
@@ -55,6 +57,21 @@ module _ (x : Extent) (bytes rest : List ℕ) (first : bytes ≡ first_line ++ r
         first ∙ ap (λ t. first_line ++ t)
         (cut ∙ ap (λ t. t ++ 10 ∷ rest') spelled ∙ sym (cut_line (field_text p m) rest'))
         ∙ sym (append_assoc first_line (field_line p m) rest')
+
+    -- the line says a field
+    pub has_admitted : (p : ℕ) (m : List ℕ) → second ≡ field_text p m → IsAdmitted p m
+        → (p : ℕ) × (m : List ℕ) × HasField bytes p m × IsAdmitted p m
+    has_admitted p m spelled admitted = (
+      p,
+      m,
+      record {
+        rest = rest';
+        characteristic = fits_number p m admitted.fits;
+        modulus = fits_numbers p m admitted.fits;
+        spelled = spelled_field p m spelled;
+      },
+      admitted,
+    )
 
     pub second_fault : (kind : Kind) → IsFieldFault second kind → IsFaultOfLines x bytes 2 kind
     second_fault Header none = inr (inl (
@@ -357,12 +374,30 @@ is_first_fault x bytes within text at AfterEnd w = (within, text, w)
 is_first_fault x bytes within text at NotBuilt w = (within, text, w)
 
 module _ (bytes : List ℕ) (within : length bytes ≤ table_limit) where
-  pub refused_lines : IsText bytes → (r : Result Table TableFault)
+  pub refused_lines : {T : Type 0} → IsText bytes → (r : Result T TableFault)
       → IfErr r (λ e. IfRefused e (IsFaultOfLines whole bytes)) → (refusal : Refusal) → r ≡ Err (Refused refusal)
       → IsRefusal whole bytes refusal
   refused_lines text r faults refusal is =
       is_first_fault whole bytes within text refusal.line refusal.kind
       (IfErr-at_err (λ e. IfRefused e (IsFaultOfLines whole bytes)) is faults)
+
+  pub whole_text : IsText bytes → (r : Result (Table × ℕ) TableFault)
+      → IfOk r (λ x. (t : TableText) × IsWellFormed t × (bytes ≡ spelling t) × IsTableOf t x.0
+      × (x.1 ≡ line_of_end t))
+      → IfOk r (λ x. (t : TableText) × IsTableText whole bytes t [] × IsTableOf t x.0 × (x.1 ≡ line_of_end t))
+  whole_text text (Err e) w = tt
+  whole_text text (Ok x) w = (
+    w.0,
+    record {
+      within = within;
+      text = text;
+      well_formed = w.1;
+      spelled = w.2 ∙ sym (append-nil (spelling w.0));
+      follows = refl;
+    },
+    w.3,
+    w.4,
+  )
 
   pub refused_bytes : (e : TableFault) → IfRefused e (λ at kind. (kind ≡ NotText) × IsNoTextAt bytes at)
       → (refusal : Refusal) → e ≡ Refused refusal → IsRefusal whole bytes refusal

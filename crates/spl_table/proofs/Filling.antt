@@ -16,11 +16,12 @@ use Rattle.spl_table.specs.TableText.{Entry, Head, entry_line, dimension_of, con
 use Rattle.spl_table.specs.TableText.{AreRightEntries}
 use Rattle.spl_table.specs.Refusal.{last_of, LineFault}
 use Rattle.spl_table.specs.Table.{IsConstant}
-use Rattle.spl_table.specs.Reading.{IfRefused, entry_text, place_of, IsPrevious, AreEntries, IsFaultAfter}
+use Rattle.spl_table.specs.Reading.{IfRefused, entry_text, place, place_of, IsPrevious, Fills, SoFar, AreEntries}
+use Rattle.spl_table.specs.Reading.{IsFaultAfter}
 use Rattle.spl_table.specs.declared.refusal.Kind.{Kind}
 use Rattle.spl_table.specs.declared.refusal.TableFault.{TableFault}
 use Rattle.spl_table.specs.declared.refusal.TableFault.TheVariants.{Refused, Memory}
-use Rattle.spl_table.proofs.Places.{place, place-lt, place_of-lt, place_injective, after_next}
+use Rattle.spl_table.proofs.Places.{place-lt, place_of-lt, place_injective, after_next}
 
 pub length_push : {X : Type 0} (xs : List X) (x : X) (new : List X) → new ≡ xs ++ x ∷ [] → length new ≡ length xs + 1
 length_push xs x new e = ap length e ∙ omega (arith, length-append xs (x ∷ []))
@@ -75,24 +76,14 @@ constant_at-push_other (f ∷ es) e i j k other =
     ap (cond (names f i j k) (Some f.value)) (constant_at-push_other es e i j k other)
 
 module _ (o : Ops ℕ) (h : Head) where
-  -- the first places have the constants of the entries, and no entry has a later place
-  pub record Fills (entries : List Entry) (constants : List (Pair ℕ)) : Type 0 where
-    pub at : (i j k : ℕ) → i < dimension_of h → j < dimension_of h → k < dimension_of h
-        → place (dimension_of h) i j k < length constants
-        → IsConstant o (constant_at entries (i + 1) (j + 1) (k + 1))
-        (get_or constants (place (dimension_of h) i j k) ([], []))
-    pub later : (i j k : ℕ) → i < dimension_of h → j < dimension_of h → k < dimension_of h
-        → length constants ≤ place (dimension_of h) i j k
-        → constant_at entries (i + 1) (j + 1) (k + 1) ≡ None
-
-  Fills-none : Fills [] []
+  Fills-none : Fills o h [] []
   Fills-none = record { at = λ i j k il jl kl below. absurd (omega arith); later = λ i j k il jl kl past. refl }
 
   zeros : ℕ → List (Pair ℕ)
   zeros n = replicate n ([], 1 ∷ [])
 
-  Fills-zeros : (entries : List Entry) (constants : List (Pair ℕ)) (n : ℕ) → Fills entries constants
-      → Fills entries (constants ++ zeros n)
+  Fills-zeros : (entries : List Entry) (constants : List (Pair ℕ)) (n : ℕ) → Fills o h entries constants
+      → Fills o h entries (constants ++ zeros n)
   unfolding zeros
   Fills-zeros entries constants n fills = record {
     at = λ i j k il jl kl below. elim (cases_lt (place (dimension_of h) i j k) (length constants)) [
@@ -147,7 +138,7 @@ module _ (o : Ops ℕ) (h : Head) where
 
   Fills-push : (entries : List Entry) (constants : List (Pair ℕ)) (e : Entry) (w : Pair ℕ) → IsInRange h e
       → place_of (dimension_of h) e ≡ length constants → IsConstant o (Some e.value) w
-      → Fills entries constants → Fills (entries ++ e ∷ []) (constants ++ w ∷ [])
+      → Fills o h entries constants → Fills o h (entries ++ e ∷ []) (constants ++ w ∷ [])
   Fills-push entries constants e w range at_end is fills = record {
     at = λ i j k il jl kl below. elim (cases_lt (place (dimension_of h) i j k) (length constants)) [
       | inl before ↦
@@ -187,17 +178,7 @@ module _ (o : Ops ℕ) (h : Head) where
   last-push previous [] e = refl
   last-push previous (f ∷ es) e = last-push (Some f) es e
 
-  pub record SoFar (bytes rest : List ℕ) (number : ℕ) (constants : List (Pair ℕ)) : Type 0 where
-    pub entries : List Entry
-    pub right : AreRightEntries h None entries
-    pub spelled : bytes ≡ flat_map entry_line entries ++ rest
-    pub line_number : number ≡ 4 + length entries
-    pub previous : IsPrevious h (length constants) (last_of None entries)
-    pub few : length entries ≤ length constants
-    pub within : length constants ≤ dimension_of h * dimension_of h * dimension_of h
-    pub fills : Fills entries constants
-
-  pub SoFar-none : (bytes : List ℕ) → SoFar bytes bytes 4 []
+  pub SoFar-none : (bytes : List ℕ) → SoFar o h bytes bytes 4 []
   SoFar-none bytes = record {
     entries = [];
     right = tt;
@@ -210,7 +191,13 @@ module _ (o : Ops ℕ) (h : Head) where
   }
 
   module _ (bytes rest : List ℕ) (number : ℕ) (constants : List (Pair ℕ))
-      (so_far : SoFar bytes rest number constants) where
+      (so_far : SoFar o h bytes rest number constants) where
+    -- where the rest begins with a line, it is that line and what follows
+    pub SoFar-cut : (text after : List ℕ) → rest ≡ text ++ 10 ∷ after
+        → SoFar o h bytes (line text ++ after) number constants
+    SoFar-cut text after cut =
+        subst (λ r. SoFar o h bytes r number constants) (cut ∙ sym (append_assoc text (10 ∷ []) after)) so_far
+
     -- an entry stands at a place that is free
     pub is_free : (e : Entry) → IsRightEntry h (last_of None so_far.entries) e
         → length constants ≤ place_of (dimension_of h) e
@@ -219,7 +206,7 @@ module _ (o : Ops ℕ) (h : Head) where
 
     pub SoFar-push : (text after : List ℕ) (e : Entry) (w : Pair ℕ) → rest ≡ text ++ 10 ∷ after → text ≡ entry_text e
         → IsRightEntry h (last_of None so_far.entries) e → IsConstant o (Some e.value) w
-        → SoFar bytes after (number + 1)
+        → SoFar o h bytes after (number + 1)
         (constants ++ replicate (place_of (dimension_of h) e - length constants) ([], 1 ∷ []) ++ w ∷ [])
     unfolding zeros
     SoFar-push text after e w cut spelled right is =

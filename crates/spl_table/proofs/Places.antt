@@ -7,11 +7,7 @@ use Rattle.std.proofs.lemmas.Nat.{mul-add-lt, div-mul-add, mod-mul-add}
 use Rattle.std.proofs.Math.Nat.{mul_comm}
 use Rattle.theory_rings.specs.Triples.{ComesBefore}
 use Rattle.spl_table.specs.TableText.{Entry, Head, IsInRange, IsAfter, dimension_of}
-use Rattle.spl_table.specs.Reading.{place_of, next_of, IsPrevious}
-
--- the place of the triple (i, j, k), counted from 0
-abbrev pub place : ℕ → ℕ → ℕ → ℕ → ℕ
-place m i j k = (i * m + j) * m + k
+use Rattle.spl_table.specs.Reading.{place, place_of, next_of, IsPrevious}
 
 pub place-lt : (m i j k : ℕ) → i < m → j < m → k < m → place m i j k < m * m * m
 place-lt m i j k i_below j_below k_below =

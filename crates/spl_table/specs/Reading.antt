@@ -1,19 +1,19 @@
 -- What the parts of the reader answer. Contracts of private functions alone cite it; what a text says to a caller is in
 -- TableText and Refusal.
-use Rattle.std.specs.Prelude.{◌≡◌, ◌≢◌, ℕ, ◌+◌, ◌-◌, ◌*◌, ◌%◌, ◌≤◌, List, ◌++◌, length, codes, decimal, Option, Some}
-use Rattle.std.specs.Prelude.{None, IfSome}
+use Rattle.std.specs.Prelude.{◌≡◌, ◌≢◌, ◌⊎◌, ℕ, ◌+◌, ◌-◌, ◌*◌, ◌%◌, ◌<◌, ◌≤◌, Bool, true, false, List, ◌++◌, length}
+use Rattle.std.specs.Prelude.{[], slice_index, slice_index_or, codes, decimal, Option, Some, None, IfSome}
 use Rattle.std.specs.List.{flat_map}
 use Rattle.theory_rings.specs.Ops.{Ops}
 use Rattle.theory_fractions.specs.Fraction.{Pair}
-use Rattle.spl_field.specs.FieldByDigits.{FitsField, IsFirstWithoutInverse}
+use Rattle.spl_field.specs.FieldByDigits.{FitsField, IsAdmitted, IsFirstWithoutInverse}
 use Rattle.spl_field.specs.SmallField.{characteristic, modulus_of}
 use Rattle.spl_field.specs.declared.small.SmallField.{SmallField}
 use Rattle.spl_text.specs.FractionWords.{text_of}
 use Rattle.spl_text.specs.Text.{IsNumber, AreNumbers, numbers_text, fraction_text}
 use Rattle.spl_table.specs.TableText.{Entry, Head, entry_line, end_line, dimension_of, AreRightEntries, IsInRange}
-use Rattle.spl_table.specs.TableText.{IsAfter, IsOverZero, HasSmallDegrees}
+use Rattle.spl_table.specs.TableText.{IsAfter, IsOverZero, HasSmallDegrees, constant_at}
 use Rattle.spl_table.specs.Refusal.{LineFault, last_of}
-use Rattle.spl_table.specs.Table.{AreConstants}
+use Rattle.spl_table.specs.Table.{IsConstant, AreConstants}
 use Rattle.spl_table.specs.declared.reader.entry.EntryWords.{EntryWords}
 use Rattle.spl_table.specs.declared.refusal.Kind.{Kind}
 use Rattle.spl_table.specs.declared.refusal.Kind.TheVariants.{Header, FieldSize, FieldLaw, Degree, Characteristic}
@@ -38,6 +38,26 @@ abbrev pub entry_text : Entry → List ℕ
 entry_text e = decimal e.i ++ codes " " ++ decimal e.j ++ codes " " ++ decimal e.k ++ codes " " ++ fraction_text e.value
 
 -- ---- faults of a line
+
+-- the numbers are these bytes; or they are too many or too high for a field
+abbrev pub AreBytes : List ℕ → Bool → List ℕ → Type 0
+AreBytes m true bytes = bytes ≡ m
+AreBytes m false bytes = (8 < length m) ⊎ ((k : ℕ) × (k < length m) × (256 ≤ slice_index m k))
+
+-- the line says P and M, and these are the bytes of M
+pub record AreFieldWords (text : List ℕ) (p : ℕ) (small : Bool) (bytes : List ℕ) : Type 0 where
+  pub m : List ℕ
+  pub characteristic : IsNumber p
+  pub modulus : AreNumbers m
+  pub spelled : text ≡ field_text p m
+  pub are_bytes : AreBytes m small bytes
+
+-- the line says P and M, which give a field
+pub record SaysAdmitted (text : List ℕ) : Type 0 where
+  pub p : ℕ
+  pub m : List ℕ
+  pub spelled : text ≡ field_text p m
+  pub admitted : IsAdmitted p m
 
 -- these numbers give no field
 abbrev pub IsNoField : ℕ → List ℕ → Kind → Type 0
@@ -87,7 +107,11 @@ entry_of w = record { i = w.i; j = w.j; k = w.k; value = text_of w.value }
 abbrev pub head_of : SmallField → ℕ → Head
 head_of f n = record { characteristic = characteristic f; modulus = modulus_of f; degree = n }
 
--- where the constant of an entry stands among the m³
+-- where the constant of the triple (i, j, k), counted from 0, stands among the m³
+abbrev pub place : ℕ → ℕ → ℕ → ℕ → ℕ
+place m i j k = (i * m + j) * m + k
+
+-- where that of an entry stands
 abbrev pub place_of : ℕ → Entry → ℕ
 place_of m e = ((e.i - 1) * m + (e.j - 1)) * m + (e.k - 1)
 
@@ -111,6 +135,28 @@ IsEntryFaultOf h previous e PolyDegree = IsInRange h e × IsAfter previous e × 
 IsEntryFaultOf h previous e _ = ⊥
 
 -- ---- the entries
+
+-- the first places have the constants of the entries, and no entry has a later place
+pub record Fills (o : Ops ℕ) (h : Head) (entries : List Entry) (constants : List (Pair ℕ)) : Type 0 where
+  pub at : (i j k : ℕ) → i < dimension_of h → j < dimension_of h → k < dimension_of h
+      → place (dimension_of h) i j k < length constants
+      → IsConstant o (constant_at entries (i + 1) (j + 1) (k + 1))
+      (slice_index_or constants (place (dimension_of h) i j k) ([], []))
+  pub later : (i j k : ℕ) → i < dimension_of h → j < dimension_of h → k < dimension_of h
+      → length constants ≤ place (dimension_of h) i j k
+      → constant_at entries (i + 1) (j + 1) (k + 1) ≡ None
+
+-- right entries stand before the rest, which begins at the line of this number, and have their constants
+pub record SoFar (o : Ops ℕ) (h : Head) (bytes rest : List ℕ) (number : ℕ) (constants : List (Pair ℕ))
+    : Type 0 where
+  pub entries : List Entry
+  pub right : AreRightEntries h None entries
+  pub spelled : bytes ≡ flat_map entry_line entries ++ rest
+  pub line_number : number ≡ 4 + length entries
+  pub previous : IsPrevious h (length constants) (last_of None entries)
+  pub few : length entries ≤ length constants
+  pub within : length constants ≤ dimension_of h * dimension_of h * dimension_of h
+  pub fills : Fills o h entries constants
 
 -- the bytes are right entries and the line `end`, and the rest follows; the constants are those of the entries
 pub record AreEntries (o : Ops ℕ) (h : Head) (bytes rest : List ℕ) (number : ℕ)

@@ -176,6 +176,15 @@ IsFirstFault extent bytes at kind = IsWithinLimit extent bytes × IsText bytes �
 abbrev pub IsRefusal : Extent → List ℕ → Refusal → Type 0
 IsRefusal extent bytes r = IsFirstFault extent bytes r.line r.kind
 
+-- nothing is wrong with the input up to its second line, and its numbers give a field: no memory is taken before that
+pub record IsRightToField (extent : Extent) (bytes : List ℕ) : Type 0 where
+  pub within : IsWithinLimit extent bytes
+  pub text : IsText bytes
+  pub p : ℕ
+  pub m : List ℕ
+  pub field : HasField bytes p m
+  pub admitted : IsAdmitted p m
+
 -- ---- each text has one or the other
 
 -- the bytes are the text of this table and of no other, and have no refusal

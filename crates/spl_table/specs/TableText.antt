@@ -1,6 +1,6 @@
 -- The text of a table: what such a text says, how it is spelled, and which texts are well formed. Each text says one
 -- thing, since a number has one spelling.
-use Rattle.std.specs.Prelude.{◌≡◌, ◌≢◌, ℕ, ◌*◌, ◌^◌, ◌%◌, ◌<◌, ◌≤◌, ◌==◌, ◌&&◌, if◌then◌else◌, List, [], ◌∷◌, ◌++◌}
+use Rattle.std.specs.Prelude.{◌≡◌, ◌≢◌, ℕ, ◌+◌, ◌*◌, ◌^◌, ◌%◌, ◌<◌, ◌≤◌, ◌==◌, ◌&&◌, if◌then◌else◌, List, [], ◌∷◌, ◌++◌}
 use Rattle.std.specs.Prelude.{length, codes, decimal, Option, Some, None}
 use Rattle.std.specs.List.{flat_map, AllByRecursion}
 use Rattle.theory_rings.specs.Triples.{ComesBefore}
@@ -52,6 +52,10 @@ lines_before_end h es = head_lines h ++ flat_map entry_line es
 
 abbrev pub spelling : TableText → List ℕ
 spelling t = lines_before_end t.head t.entries ++ end_line
+
+-- the line `end`, counted from 1
+abbrev pub line_of_end : TableText → ℕ
+line_of_end t = 4 + length t.entries
 
 -- ---- which heads and entries are right
 

@@ -1,16 +1,16 @@
 // The entries of a table text, up to the line `end`.
-ghost use Rattle.std.specs.Prelude.{◌≡◌, ℕ, ◌≤◌, ◌-◌, ◌*◌, ◌++◌, ◌∷◌, [], length, replicate, All, IfOk, IfErr, Some};
-ghost use Rattle.std.specs.Prelude.{OnOk};
+ghost use Rattle.std.specs.Prelude.{◌≡◌, ◌≢◌, ℕ, ◌+◌, ◌≤◌, ◌-◌, ◌*◌, ◌++◌, ◌∷◌, [], List, length, replicate, codes, All};
+ghost use Rattle.std.specs.Prelude.{IfOk, IfErr, OnOk, Some};
 ghost use Rattle.theory_rings.specs.Ops.{IsElem};
 ghost use Rattle.spl_field.specs.SmallField.{small_ops};
-ghost use Rattle.spl_text.specs.Text.{IsFractionText};
+ghost use Rattle.spl_text.specs.Text.{Lacks, line, IsFractionText};
 ghost use Rattle.spl_text.specs.FractionWords.{text_of};
 ghost use Rattle.theory_fractions.specs.Fraction.{Pair};
 ghost use Rattle.spl_fraction.specs.Fractions.{field_of};
 ghost use Rattle.spl_fraction.specs.FractionsOver.{fractions_over};
 ghost use Rattle.spl_table.specs.TableText.{IsInRange, IsOverZero};
 ghost use Rattle.spl_table.specs.Table.{IsConstant};
-ghost use Rattle.spl_table.specs.Reading.{IfRefused, entry_of, place_of, head_of, AreEntries, IsFaultAfter};
+ghost use Rattle.spl_table.specs.Reading.{IfRefused, entry_of, place_of, head_of, AreEntries, IsFaultAfter, SoFar};
 
 use crate::reader::constants::{constant_of, push_zeros};
 use crate::reader::entry::{EntryWords, read_entry};
@@ -55,6 +55,35 @@ fn push_entry(
     Ok(())
 }
 
+/// Reads the entry of a finished line other than `end`, and appends its constant behind those of the entries before it.
+fn read_line(
+    alloc: Global,
+    k: &Fractions,
+    n: usize,
+    constants: &mut Constants<Fractions>,
+    text: &[u8],
+    number: u32,
+) -> Result<(), TableFault>
+    requires small { n ≤ 5 }
+    requires one_line { Lacks 10 text.now }
+    requires no_end { text.now ≢ codes "end" }
+    requires so_far { (bytes : List ℕ) × (rest : List ℕ)
+        × SoFar (small_ops (field_of k.now)) (head_of (field_of k.now) n) bytes rest number constants.old }
+    ensures read { (bytes after : List ℕ)
+        → SoFar (small_ops (field_of k.now)) (head_of (field_of k.now) n) bytes (line text.now ++ after) number
+        constants.old → OnOk result
+        (SoFar (small_ops (field_of k.now)) (head_of (field_of k.now) n) bytes after (number + 1) constants.new) }
+    ensures over { All (IsElem (fractions_over (field_of k.now))) constants.old
+        → OnOk result (All (IsElem (fractions_over (field_of k.now))) constants.new) }
+    ensures fault { (bytes after : List ℕ)
+        → SoFar (small_ops (field_of k.now)) (head_of (field_of k.now) n) bytes (line text.now ++ after) number
+        constants.old → IfErr result (λ e. IfRefused e (IsFaultAfter (head_of (field_of k.now) n) bytes)) }
+{
+    let entry = read_entry(alloc, k.field(), n, constants.len(), text, number)?;
+    push_entry(alloc, k, n, constants, entry)?;
+    Ok(())
+}
+
 /// The constants of the lines up to the line `end`, of which the first is line 4.
 pub fn read_entries<'a>(
     alloc: Global,
@@ -82,8 +111,7 @@ pub fn read_entries<'a>(
                 rest: after,
             });
         }
-        let entry = read_entry(alloc, k.field(), n, constants.len(), text, number)?;
-        push_entry(alloc, k, n, &mut constants, entry)?;
+        read_line(alloc, k, n, &mut constants, text, number)?;
         rest = after;
         number += 1;
     }

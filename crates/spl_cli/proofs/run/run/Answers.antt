@@ -12,7 +12,7 @@ returns-in-Ok g c =
     let form = c.is_decide.ensures.0 c.if-not-is_decide.false in
     let sinks = sink_state g.K.Sink.written g.K.Sink.faults g.K.Sink.steady in
     let P : List ℕ → Type 0 = λ read.
-    Answers c.args.words.now read (sinks c.args.sink.now) (sinks c.decide.new.sink) c.decide.result in
+    Answers c.args.words.now read (sinks c.args.sink.now) (sinks c.report_on.new.sink) c.report_on.result in
     IsRun-answered _ _ _ _ _ _ c.in-Ok.input.items form
     (record {
       taken = c.in-Ok.ensures.taken;
@@ -21,4 +21,4 @@ returns-in-Ok g c =
       no_fault = c.in-Ok.ensures.no_fault;
       stands = record { faults = c.in-Ok.ensures.faults; told = c.in-Ok.ensures.told; steady = c.in-Ok.ensures.steady };
     })
-    (subst P c.as_slice.ensures.value (c.decide.ensures c.args.words.now form))
+    (subst P c.as_slice.ensures.value (c.report_on.ensures c.args.words.now form))

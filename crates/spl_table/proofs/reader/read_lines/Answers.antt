@@ -5,7 +5,7 @@ use Rattle.spl_field.specs.SmallField.{characteristic, modulus_of, small_ops}
 use Rattle.spl_fraction.specs.Fractions.{field_of}
 use Rattle.spl_table.specs.Refusal.{whole}
 use Rattle.spl_table.specs.Reading.{IfRefused, IsDegreeFault, head_of}
-use Rattle.spl_table.proofs.Faults.{no_second, second_refused, no_third_line, third_refused, spelled_head}
+use Rattle.spl_table.proofs.Faults.{no_second, second_refused, no_third_line, third_refused, spelled_head, has_admitted}
 use Rattle.spl_table.proofs.Faults.{entries_refused, bytes_after_end, well_formed, spelled_whole, right_head}
 use Rattle.spl_table.proofs.Faults.{table_read}
 use Rattle.spl_table.proofs.reader.read_lines.Goals as goal
@@ -100,12 +100,46 @@ returns-clause-ok c =
     let entries = c.in_ok-entries.entries in
     let read = c.in_ok-entries.ensures.entries in
     let none : length entries.rest.now ≡ 0 = eqb-true _ _ (sym c.if-not-is_empty.ensures) in
-    let table = c.in_ok-of.ensures in (
+    let table = c.in_ok-table.ensures in (
       record { head = head_of k n.n; entries = read.entries },
       well_formed whole c.args.bytes.now t.rest.now (head_of k n.n) right spelled
           (small_ops k) entries.rest.now entries.number entries.constants read,
       spelled_whole whole c.args.bytes.now t.rest.now (head_of k n.n) right spelled
           (small_ops k) entries.rest.now entries.number entries.constants read none,
-      table_read c.in_ok-of.field-0 c.in_ok-fractions.fractions n.n read.entries entries.constants table.fractions
+      table_read c.in_ok-table.table c.in_ok-fractions.fractions n.n read.entries entries.constants table.fractions
           table.degree table.algebra read.values,
+      read.line_number,
     )
+
+pub returns-in_err-fractions-clause-memory : goal.returns-in_err-fractions-clause-memory
+returns-in_err-fractions-clause-memory c =
+    let s = c.in-Some-split_once in
+    let p = err_from_is_err_and c.from_residual.result c.from_residual.ensures.1 in
+    λ e.
+    let w = c.in_err-fractions.ensures.memory (cc (p.1, p.2, e)) in
+    has_admitted whole c.args.bytes.now c.in-Some.rest.now c.in-Some.ensures s.second.now s.rest.now s.ensures.0
+    s.ensures.1 w.p w.m w.spelled w.admitted
+
+pub returns-in_err-n-clause-memory : goal.returns-in_err-n-clause-memory
+returns-in_err-n-clause-memory c = λ e.
+    let s = c.in-Some-split_once in
+    let f = c.in_ok-fractions.ensures in
+    let k = field_of c.in_ok-fractions.fractions in
+    has_admitted whole c.args.bytes.now c.in-Some.rest.now c.in-Some.ensures s.second.now s.rest.now s.ensures.0
+    s.ensures.1 (characteristic k) (modulus_of k) f.spelled f.admitted
+
+pub returns-in_err-entries-clause-memory : goal.returns-in_err-entries-clause-memory
+returns-in_err-entries-clause-memory c = λ e.
+    let s = c.in-Some-split_once in
+    let f = c.in_ok-fractions.ensures in
+    let k = field_of c.in_ok-fractions.fractions in
+    has_admitted whole c.args.bytes.now c.in-Some.rest.now c.in-Some.ensures s.second.now s.rest.now s.ensures.0
+    s.ensures.1 (characteristic k) (modulus_of k) f.spelled f.admitted
+
+pub returns-in_err-table-clause-memory : goal.returns-in_err-table-clause-memory
+returns-in_err-table-clause-memory c = λ e.
+    let s = c.in-Some-split_once in
+    let f = c.in_ok-fractions.ensures in
+    let k = field_of c.in_ok-fractions.fractions in
+    has_admitted whole c.args.bytes.now c.in-Some.rest.now c.in-Some.ensures s.second.now s.rest.now s.ensures.0
+    s.ensures.1 (characteristic k) (modulus_of k) f.spelled f.admitted

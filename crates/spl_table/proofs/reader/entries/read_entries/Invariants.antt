@@ -4,8 +4,7 @@ use Rattle.theory_rings.specs.Ops.{IsElem}
 use Rattle.spl_field.specs.SmallField.{small_ops}
 use Rattle.spl_fraction.specs.Fractions.{field_of}
 use Rattle.spl_fraction.specs.FractionsOver.{fractions_over}
-use Rattle.spl_table.specs.Reading.{head_of}
-use Rattle.spl_table.proofs.Filling.{SoFar}
+use Rattle.spl_table.specs.Reading.{head_of, SoFar}
 use Rattle.spl_table.proofs.reader.entries.read_entries.Given as goal
 
 -- right entries stand before the rest, and have their constants

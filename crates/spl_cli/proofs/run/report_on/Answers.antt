@@ -3,20 +3,20 @@ use Rattle.std.proofs.Common.{◌∙◌, Err, refl, sym, ap, subst}
 use Rattle.spl_cli.specs.Report.{refusal_text, ShowsEvidence}
 use Rattle.spl_table.specs.declared.refusal.Kind.TheVariants.{NotBuilt}
 use Rattle.spl_cli.proofs.Answering.{Answers-undecided, Answers-found, Answers-refused}
-use Rattle.spl_cli.proofs.run.decide.Goals as goal
+use Rattle.spl_cli.proofs.run.report_on.Goals as goal
 
 pub returns-in-Ok-None : goal.returns-in-Ok-None
 returns-in-Ok-None g c = λ words form.
-    Answers-undecided words _ _ _ _ form c.in-Ok.table c.in-Ok.ensures.ok c.as_bytes-in-Ok-None.result.now
-    (record { line = c.end_line.result; kind = NotBuilt })
-    (rw c.in-Ok-None.field-0-is at c.in-Ok-None.ensures) c.end_line.ensures refl
+    Answers-undecided words _ _ _ _ form c.in-Ok.table c.in-Ok.last c.in-Ok.ensures.ok c.as_bytes-in-Ok-None.result.now
+    (record { line = c.in-Ok.last; kind = NotBuilt })
+    (rw c.in-Ok-None.field-0-is at c.in-Ok-None.ensures) refl refl
     (c.as_bytes-in-Ok-None.ensures.value ∙ c.as_str-in-Ok-None.ensures.value
     ∙ c.refusal_line-in-Ok-None.ensures) c.finish-in-Ok-None.ensures
 
 pub returns : goal.returns
 returns g c = λ words form.
     let P : List ℕ → Type 0 = ShowsEvidence c.in-Ok.table in
-    Answers-found words _ _ _ _ form c.in-Ok.table c.in-Ok.ensures.ok c.as_slice.result.now
+    Answers-found words _ _ _ _ form c.in-Ok.table c.in-Ok.last c.in-Ok.ensures.ok c.as_slice.result.now
     (subst P (sym c.as_slice.ensures.value)
     (rw c.in-Ok-Some.field-0-is at c.in-Ok-Some.ensures)) c.finish-in-Ok-Some.ensures
 
