@@ -11,3 +11,4 @@ mod Admitted
 mod FieldDecisions
 mod EntryDecisions
 pub mod TableOrFault
+pub mod Agreement

@@ -1,6 +1,8 @@
 // What holds of table texts whoever reads them.
 ghost use Rattle.std.specs.Prelude.{◌≡◌, ℕ, List};
-ghost use Rattle.spl_table.specs.TableText.{TableText};
+ghost use Rattle.spl_table.specs.TableText.{TableText, IsWellFormed};
+ghost use Rattle.spl_table.specs.Table.{IsTableOf, HasSameAlgebra};
+ghost use Rattle.spl_table.specs.declared.table.Table.{Table};
 ghost use Rattle.spl_table.specs.Refusal.{Extent, IsTableText, IsRefusal, EachIsTextOrRefused};
 ghost use Rattle.spl_table.specs.declared.refusal.Refusal.{Refusal};
 
@@ -25,4 +27,11 @@ pub fn one_refusal_a_text()
 /// Each byte string is the text of exactly one table, or has exactly one refusal.
 pub fn each_text_has_a_table_or_a_refusal()
     ensures { (extent : Extent) → EachIsTextOrRefused extent }
+{}
+
+/// Two tables of one text have the same field, degree and constants, and over the fractions of both the algebra is
+/// central simple, or over neither.
+pub fn tables_of_one_text_agree()
+    ensures { (text : TableText) → IsWellFormed text → (t u : Table) → IsTableOf text t → IsTableOf text u
+        → HasSameAlgebra t u }
 {}
