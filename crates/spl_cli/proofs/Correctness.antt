@@ -1,5 +1,5 @@
 -- What a run of `decide` on a told input comes to, and what a run over streams that don't fail.
-use Rattle.std.specs.Prelude.{◌≡◌, ℕ, ◌+◌, ◌<◌, ◌≤◌, Bool, IsTrue, List, [], ◌∷◌, ◌++◌, length, take, codes, Option}
+use Rattle.std.specs.Prelude.{◌≡◌, ◌⊎◌, ℕ, ◌+◌, ◌<◌, ◌≤◌, Bool, IsTrue, List, [], ◌∷◌, ◌++◌, length, take, codes, Option}
 use Rattle.std.specs.Prelude.{Some, None, IfSome, refl}
 use Rattle.std.proofs.Common.{inl, inr, ⊎_elim, sym, ◌∙◌, ap, subst, arith, length-append}
 use Rattle.std.proofs.lemmas.Bool.{cases_lt}
@@ -10,13 +10,18 @@ use Rattle.spl_outside.specs.Prefix.{AppendsPart}
 use Rattle.spl_outside.specs.Room.{HasRoom}
 use Rattle.spl_table.specs.Refusal.{whole, IsRefusal}
 use Rattle.spl_table.proofs.OneRefusal.{refusal_unique}
-use Rattle.spl_table.proofs.TextLaws.{no_table_fault}
+use Rattle.spl_table.proofs.TextLaws.{table_unique, no_table_fault}
+use Rattle.spl_table.proofs.Agreement.Tables.{tables_agree}
+use Rattle.spl_table.specs.TableText.{TableText, line_of_end}
+use Rattle.spl_table.specs.Table.{IsTableOf}
+use Rattle.spl_table.specs.declared.table.Table.{Table}
+use Rattle.spl_table.specs.declared.refusal.Refusal.{Refusal}
 use Rattle.spl_cli.specs.declared.status.Status.{Status}
 use Rattle.spl_cli.specs.declared.status.Status.TheVariants.{Done, No, Usage, Refused, ReadFault, WriteFault, Memory}
-use Rattle.spl_cli.specs.Report.{Report, refusal_text, IsUndecided}
+use Rattle.spl_cli.specs.Report.{Report, refusal_text, Stands, IsDecided, IsUndecided, IsRefused}
 use Rattle.spl_cli.specs.Run.{IsAnswer}
 use Rattle.spl_cli.specs.Finish.{source_state, sink_state}
-use Rattle.spl_cli.specs.Correct.{RunsWell, DecidesInput, RunDecides, RunIsQuiet}
+use Rattle.spl_cli.specs.Correct.{RunsWell, DecidesInput, OneReport, RunDecides, RunIsQuiet}
 
 -- known bytes that grew, where both are told
 grown : (before : List ℕ) (old new : Option (List ℕ)) (bytes : List ℕ) → old ≡ Some before → Appends old new bytes
@@ -31,14 +36,32 @@ told_input : (left : Option (List ℕ)) (input other : List ℕ) → left ≡ So
 told_input None input other e t = absurd (cc)
 told_input (Some xs) input other e t = let same : xs ≡ input = cc in sym t ∙ same
 
+-- an input is not both decided and undecided: its tables have the same algebra
+exclusive : (input bytes : List ℕ) (refusal : Refusal) → IsDecided input bytes → IsUndecided input refusal → ⊥
+exclusive input bytes refusal d u =
+    let a = u.stands in
+    let b = d.stands in
+    let same = (table_unique whole input b.text a.text [] [] b.is_text a.is_text).0 in
+    let right = let is = a.is_text in is.well_formed in
+    let agree = tables_agree a.text right u.table d.table a.is_table
+    (subst (λ (t : TableText). IsTableOf t d.table) same b.is_table) in
+    let shows = d.shows in
+    let holds = shows.holds in
+    let none = u.no_fault in
+    holds.not_central_simple (agree.central_simple none.central_simple)
+
+-- a text with a refusal is not one of a table
+no_table : (input : List ℕ) (refusal : Refusal) (table : Table) → IsRefusal whole input refusal → Stands input table
+    → ⊥
+no_table input refusal table cause t = no_table_fault whole input t.text [] t.is_text refusal cause
+
 -- what a report of `decide` says of its input
 decides : (input bytes : List ℕ) (status : Status) → Report (codes "decide" ∷ []) input status bytes
     → DecidesInput input bytes status
 decides input bytes Usage r = absurd (r.0 refl)
-decides input bytes Done r = record {
-  refused = λ f refusal. absurd (let d = r.1 in let t = d.stands in
-      no_table_fault whole input t.text [] t.is_text f refusal);
-  decided = λ t text. inl (refl, r.1);
+decides input bytes Done r = let d = r.1 in record {
+  refused = λ f refusal. absurd (no_table input f d.table refusal d.stands);
+  decided = λ t text. inl (refl, d, λ f u. exclusive input bytes f d u);
 }
 decides input bytes Refused r = let d = r.1 in ⊎_elim
     (λ (cause : IsRefusal whole input d.refusal). record {
@@ -46,15 +69,74 @@ decides input bytes Refused r = let d = r.1 in ⊎_elim
       decided = λ t text. absurd (no_table_fault whole input t [] text d.refusal cause);
     })
     (λ (undecided : IsUndecided input d.refusal). record {
-      refused = λ f refusal.
-          absurd (let t = undecided.stands in no_table_fault whole input t.text [] t.is_text f refusal);
-      decided = λ t text. inr (refl, record { refusal = d.refusal; undecided = undecided; report = d.report });
+      refused = λ f refusal. absurd (no_table input f undecided.table refusal undecided.stands);
+      decided = λ t text. inr (
+          refl,
+          record { refusal = d.refusal; undecided = undecided; report = d.report },
+          λ other e. exclusive input other d.refusal e undecided,
+          );
     })
     d.cause
 decides input bytes No r = absurd r
 decides input bytes ReadFault r = absurd r
 decides input bytes WriteFault r = absurd r
 decides input bytes Memory r = absurd r
+
+-- ---- one report
+
+-- a decided input is not refused
+done_or_refused : (input bytes bytes' : List ℕ) → IsDecided input bytes → IsRefused input bytes' → ⊥
+done_or_refused input bytes bytes' d r = ⊎_elim
+    (λ (cause : IsRefusal whole input r.refusal). no_table input r.refusal d.table cause d.stands)
+    (λ (u : IsUndecided input r.refusal). exclusive input bytes r.refusal d u)
+    r.cause
+
+-- two undecided tables have one line of `end`
+one_line : (input : List ℕ) (f g : Refusal) → IsUndecided input f → IsUndecided input g → f ≡ g
+one_line input f g u v =
+    let a = u.stands in
+    let b = v.stands in
+    let same = (table_unique whole input a.text b.text [] [] a.is_text b.is_text).0 in
+    let line : f.line ≡ g.line = u.line ∙ ap line_of_end same ∙ sym v.line in
+    let kind : f.kind ≡ g.kind = u.kind ∙ sym v.kind in
+    λ i. record { line = line i; kind = kind i }
+
+one_refusal : (input bytes bytes' : List ℕ) → IsRefused input bytes → IsRefused input bytes' → bytes ≡ bytes'
+one_refusal input bytes bytes' r s = r.report ∙ ap refusal_text (go r.cause s.cause) ∙ sym s.report
+  where
+    go : IsRefusal whole input r.refusal ⊎ IsUndecided input r.refusal
+        → IsRefusal whole input s.refusal ⊎ IsUndecided input s.refusal → r.refusal ≡ s.refusal
+    go (inl a) (inl b) = refusal_unique input whole r.refusal s.refusal a b
+    go (inl a) (inr b) = absurd (no_table input r.refusal b.table a b.stands)
+    go (inr a) (inl b) = absurd (no_table input s.refusal a.table b a.stands)
+    go (inr a) (inr b) = one_line input r.refusal s.refusal a b
+
+pub one_report : OneReport
+one_report words input Usage Usage bytes bytes' r s = (refl, λ _. r.1 ∙ sym s.1)
+one_report words input Usage Done bytes bytes' r s = absurd (r.0 s.0)
+one_report words input Usage Refused bytes bytes' r s = absurd (r.0 s.0)
+one_report words input Done Usage bytes bytes' r s = absurd (s.0 r.0)
+one_report words input Done Done bytes bytes' r s = (refl, λ other. absurd (other refl))
+one_report words input Done Refused bytes bytes' r s = absurd (done_or_refused input bytes bytes' r.1 s.1)
+one_report words input Refused Usage bytes bytes' r s = absurd (s.0 r.0)
+one_report words input Refused Done bytes bytes' r s = absurd (done_or_refused input bytes' bytes s.1 r.1)
+one_report words input Refused Refused bytes bytes' r s = (refl, λ _. one_refusal input bytes bytes' r.1 s.1)
+one_report words input No status' bytes bytes' r s = absurd r
+one_report words input ReadFault status' bytes bytes' r s = absurd r
+one_report words input WriteFault status' bytes bytes' r s = absurd r
+one_report words input Memory status' bytes bytes' r s = absurd r
+one_report words input Usage No bytes bytes' r s = absurd s
+one_report words input Usage ReadFault bytes bytes' r s = absurd s
+one_report words input Usage WriteFault bytes bytes' r s = absurd s
+one_report words input Usage Memory bytes bytes' r s = absurd s
+one_report words input Done No bytes bytes' r s = absurd s
+one_report words input Done ReadFault bytes bytes' r s = absurd s
+one_report words input Done WriteFault bytes bytes' r s = absurd s
+one_report words input Done Memory bytes bytes' r s = absurd s
+one_report words input Refused No bytes bytes' r s = absurd s
+one_report words input Refused ReadFault bytes bytes' r s = absurd s
+one_report words input Refused WriteFault bytes bytes' r s = absurd s
+one_report words input Refused Memory bytes bytes' r s = absurd s
 
 -- a status is one with which a report is written, or a fault or want of memory
 answer : (status : Status) → RunsWell status → IsAnswer status

@@ -26,9 +26,11 @@ pub record DecidesInput (input bytes : List ℕ) (status : Status) : Type 0 wher
   -- an input that is no table text is refused with its first fault
   pub refused : (r : Refusal) → IsRefusal whole input r → (status ≡ Refused) × (bytes ≡ refusal_text r)
   -- for a table text evidence is written: its claim holds, it is of the first kind that fits, the table's algebra isn't
-  -- central simple, and no matrices split it; or no kind fits, and the table's algebra is central simple
+  -- central simple, and no matrices split it; or no kind fits, and the table's algebra is central simple. No input has
+  -- both
   pub decided : (t : TableText) → IsTableText whole input t []
-      → ((status ≡ Done) × IsDecided input bytes) ⊎ ((status ≡ Refused) × IsNotBuilt input bytes)
+      → ((status ≡ Done) × IsDecided input bytes × ((r : Refusal) → IsUndecided input r → ⊥))
+      ⊎ ((status ≡ Refused) × IsNotBuilt input bytes × ((other : List ℕ) → IsDecided input other → ⊥))
 
 -- a run of `decide` on a told input, into a sink that tells what is written
 abbrev pub RunDecides : Type 0
@@ -36,6 +38,12 @@ RunDecides = (source source' : SourceState) (sink sink' : SinkState) (status : S
     → IsRun (codes "decide" ∷ []) source source' sink sink' status
     → source.left ≡ Some input → sink.written ≡ Some before → RunsWell status
     → (bytes : List ℕ) × (sink'.written ≡ Some (before ++ bytes)) × DecidesInput input bytes status
+
+-- words and an input have one status, and one text but for the evidence that is written
+abbrev pub OneReport : Type 0
+OneReport = (words : List (List ℕ)) (input : List ℕ) (status status' : Status) (bytes bytes' : List ℕ)
+    → Report words input status bytes → Report words input status' bytes'
+    → (status ≡ status') × ((status ≢ Done) → bytes ≡ bytes')
 
 -- some report on the source's input is longer than what is left of the room after the bytes that are there before
 pub record HasLongReport (words : List (List ℕ)) (source : SourceState) (before : List ℕ) (room : ℕ) : Type 0 where

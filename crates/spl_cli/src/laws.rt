@@ -1,5 +1,5 @@
 // What the contract of `run` comes to.
-ghost use Rattle.spl_cli.specs.Correct.{RunDecides, RunIsQuiet};
+ghost use Rattle.spl_cli.specs.Correct.{OneReport, RunDecides, RunIsQuiet};
 ghost use Rattle.spl_cli.specs.Finish.{source_state, sink_state};
 
 use spl_outside::outside::{Sink, Source};
@@ -9,6 +9,12 @@ use spl_outside::outside::{Sink, Source};
 /// its first one.
 pub fn run_decides()
     ensures { RunDecides }
+{}
+
+/// Words and an input have one status, and one text but for the evidence that is written: so no table text is both
+/// decided and undecided.
+pub fn one_report()
+    ensures { OneReport }
 {}
 
 /// Over a source no call of which fails there is no read fault, and over a sink with room for each report, and no call
