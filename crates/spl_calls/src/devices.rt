@@ -1,10 +1,10 @@
 // Calls of sources and sinks.
-use crate::fault::Fault;
-use crate::{args, show, texts};
 use spl_outside::memory::{MemSink, MemSource};
 use spl_outside::outside::{Sink, Source};
 use spl_outside::streams::{StdSink, StdSource};
 use spl_outside::write::write_whole;
+use spl_words::fault::Fault;
+use spl_words::{args, show, texts};
 use std::alloc::Global;
 
 /// The most bytes of a sink's room, and of what moves at a call.

@@ -5,8 +5,6 @@ ghost use Rattle.spl_fraction.specs.Fractions.{field_of};
 ghost use Rattle.spl_fraction.specs.FractionsOver.{fractions_over};
 ghost use Rattle.theory_tables.specs.Claims.{AreMultipliers};
 
-use crate::fault::Fault;
-use crate::{args, lists, show};
 use spl_evidence::evidence::Evidence;
 use spl_evidence::writing::write_evidence;
 use spl_field::field::Field;
@@ -14,6 +12,8 @@ use spl_field::list::List;
 use spl_fraction::field::Fractions;
 use spl_fraction::tuples::Tuples;
 use spl_matrix::lists::Multipliers;
+use spl_words::fault::Fault;
+use spl_words::{args, lists, show};
 use std::alloc::Global;
 
 /// The tuples, joined by semicolons, of so many fractions each.

@@ -1,12 +1,12 @@
 // Whole runs of the program.
 use crate::devices::{sink, source};
-use crate::fault::Fault;
-use crate::{show, texts};
 use spl_cli::run::run;
 use spl_cli::words::Words;
 use spl_outside::memory::MemSource;
 use spl_outside::outside::Source;
 use spl_outside::streams::{StdSink, StdSource};
+use spl_words::fault::Fault;
+use spl_words::{show, texts};
 use std::alloc::Global;
 
 /// Words joined by commas, or `-` for none.

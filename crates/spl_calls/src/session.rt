@@ -1,12 +1,9 @@
 // The lines: what they set, and the call that each makes.
-use crate::fault::Fault;
-use crate::scalars::Scalars;
-use crate::{
-    algebras, args, devices, evidences, fields, fractions, laws, matrices, polynomials, runs, show,
-    small, tables, texts, words,
-};
+use crate::{devices, evidences, runs, tables};
 use spl_field::field::NoMemory;
 use spl_fraction::field::Fractions;
+use spl_words::fault::Fault;
+use spl_words::{args, calls, laws, polynomials, show, small, texts};
 use std::alloc::{AllocError, Global};
 
 /// The most letters of what a name stands for.
@@ -35,25 +32,6 @@ fn fractions_over(
     }
 }
 
-/// The answer of a call over one field or the other.
-fn over_field<F: Scalars>(
-    alloc: Global,
-    f: &F,
-    kind: &str,
-    call: &str,
-    words: &[&str],
-    out: &mut Vec<u8>,
-) -> Result<(), Fault> {
-    match kind {
-        "field" => fields::call(alloc, f, call, words, out),
-        "vector" => matrices::on_vectors(alloc, f, call, words, out),
-        "matrix" => matrices::call(alloc, f, call, words, out),
-        "subspace" => matrices::on_spaces(alloc, f, call, words, out),
-        "algebra" => algebras::call(alloc, f, call, words, out),
-        _ => Err(Fault::BadLine),
-    }
-}
-
 /// The word, cut at its dot.
 fn parts(word: &str) -> Result<(&str, &str), Fault> {
     word.split_once('.').ok_or(Fault::BadLine)
@@ -78,15 +56,11 @@ fn call(
     }
     let (kind, call) = parts(word)?;
     match kind {
-        "small" => small::call(alloc, k.field(), call, words, out),
-        "poly" => polynomials::call(alloc, k.field(), call, words, out),
-        "fractions" => fractions::call(alloc, k, call, words, out),
-        "text" => words::call(alloc, call, words, out),
         "memory" => devices::memory(alloc, call, words, out),
         "stream" => devices::stream(alloc, call, words, out),
         "table" => tables::call(alloc, call, words, out),
         "evidence" => evidences::call(alloc, k, call, words, out),
-        _ => over_field(alloc, k.field(), kind, call, words, out),
+        _ => calls::call(alloc, k, kind, call, words, out),
     }
 }
 
@@ -101,7 +75,7 @@ fn call_over_fractions(
         return Err(Fault::BadLine);
     };
     let (kind, call) = parts(word)?;
-    over_field(alloc, k, kind, call, rest, out)
+    calls::over_field(alloc, k, kind, call, rest, out)
 }
 
 /// The text that `join`, `cut` or `repeat` makes of these words.

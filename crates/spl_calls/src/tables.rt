@@ -3,8 +3,6 @@ ghost use Rattle.theory_tables.specs.Structure.{IsAssociative};
 ghost use Rattle.theory_tables.specs.Algebras.{HasIdentity};
 ghost use Rattle.spl_table.specs.Table.{algebra_of, ops_of};
 
-use crate::fault::Fault;
-use crate::{algebras, show, small, texts};
 use spl_algebra::identity::One;
 use spl_centre::centre::{centre_fault, identity_or_refutation, trace_ideal};
 use spl_engine::decide::decide;
@@ -13,6 +11,8 @@ use spl_table::reader::read_table;
 use spl_table::refusal::{Kind, Refusal, TableFault};
 use spl_table::table::Table;
 use spl_table::triple::first_failed_triple;
+use spl_words::fault::Fault;
+use spl_words::{algebras, show, small, texts};
 use std::alloc::{AllocError, Global};
 
 /// The name of a refusal's kind.
@@ -62,7 +62,12 @@ fn triple(alloc: Global, table: &Table, out: &mut Vec<u8>) -> Result<(), Fault> 
 /// `identity_or_refutation T`
 fn identity(alloc: Global, table: &Table, out: &mut Vec<u8>) -> Result<(), Fault> {
     match identity_or_refutation(alloc, table.fractions(), table.algebra())? {
-        One::Refuted { .. } => Ok(show::word(out, "refuted")?),
+        One::Refuted { left, right } => {
+            show::word(out, "refuted")?;
+            let (k, m) = (table.fractions(), table.algebra().dim());
+            show::multipliers(alloc, out, k, m, "left", left.as_slice())?;
+            Ok(show::multipliers(alloc, out, k, m, "right", right.as_slice())?)
+        }
         One::Here { tuple } => {
             show::word(out, "here")?;
             Ok(show::vector(alloc, out, table.fractions(), tuple.as_slice())?)
