@@ -1,1 +1,2 @@
 pub mod ResidueOver
+pub mod Residue

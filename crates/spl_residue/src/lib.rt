@@ -5,4 +5,9 @@
 #![tactic(auto)]
 
 mod coprime;
+pub mod elem;
+pub mod field;
+mod inverse;
 pub mod irreducible;
+pub mod laws;
+mod remainder;

@@ -1,7 +1,7 @@
 -- Euclid's algorithm for an inverse modulo m: each remainder r of m and a comes with a cofactor s, so that r is s · a
 -- modulo m.
-use Rattle.std.specs.Prelude.{◌≡◌, ◌<◌, List, [], ◌∷◌, length}
-use Rattle.std.proofs.Common.{refl, sym, ◌∙◌, ap, ap₂}
+use Rattle.std.specs.Prelude.{◌≡◌, ℕ, ◌<◌, List, [], ◌∷◌, length}
+use Rattle.std.proofs.Common.{refl, subst, sym, ◌∙◌, ap, ap₂}
 use Rattle.std.proofs.lemmas.List.Elements.{All-nil, All-cons}
 use Rattle.theory_rings.specs.Ring.{FieldOn, CommRingOn}
 use Rattle.theory_rings.specs.Ops.{Ops, IsElem, FieldLaws}
@@ -12,17 +12,17 @@ use Rattle.theory_rings.specs.Division.{Congruent}
 use Rattle.theory_rings.proofs.Rings.Solver.{◌⊞◌, ◌⊠◌, minus, unit, nil, v0, v1, v2, v3, v4, var, by_sorted, ring2}
 use Rattle.theory_rings.proofs.Rings.Solver.{ring4}
 use Rattle.theory_rings.proofs.Polynomials.Bezout.{field_polynomials}
-use Rattle.theory_fractions.specs.PolynomialLists.{IsOver, IsSum, IsProduct, IsDivision}
+use Rattle.theory_fractions.specs.PolynomialLists.{IsOver, IsProduct, IsDivision}
 use Rattle.theory_fractions.specs.FractionOps.{polynomial_of}
 use Rattle.theory_fractions.proofs.FractionField.{polynomial_of-nil, polynomial_of-one}
-use Rattle.theory_fractions.proofs.Lifting.{has-mul}
-use Rattle.theory_fractions.proofs.ListPolynomials.{has_polynomial_of}
+use Rattle.theory_fractions.proofs.Lifting.{eq_of_coefficients, has-add, has-mul}
+use Rattle.theory_fractions.proofs.ListPolynomials.{has_polynomial_of, has_neg}
 use Rattle.theory_fractions.proofs.Reducing.{constant_poly, constant_unit, poly-constant_mul}
 use Rattle.theory_remainders.specs.RemainderLaws.{IsRemainderOf}
-use Rattle.theory_remainders.proofs.Divisions.{congruent_of_remainder_of, remainder_of_congruent, poly-product}
-use Rattle.theory_remainders.proofs.Divisions.{poly-sum, poly-minus, poly-division, poly-constant}
+use Rattle.theory_remainders.proofs.Divisions.{congruent_of_remainder_of, remainder_of_congruent}
+use Rattle.theory_remainders.proofs.Divisions.{poly-division, poly-constant}
 
-module _ {E : Type 0} (o : Ops E) (L : FieldLaws o) (m a : List E) (hm : IsOver o m) (ha : IsOver o a) where
+module _ {E : Type 0} (o : Ops E) (L : FieldLaws o) (m a : List E) where
   abbrev F : FieldOn (Elem o)
   F = elements o L
 
@@ -38,8 +38,8 @@ module _ {E : Type 0} (o : Ops E) (L : FieldLaws o) (m a : List E) (hm : IsOver 
     pub factor_over : IsOver o s
     pub congruent : Congruent P (poly m) (poly r) (P.◌⊗◌ (poly s) (poly a))
 
-  pub cofactor_modulus : IsCofactor m []
-  cofactor_modulus = record {
+  pub cofactor_modulus : IsOver o m → IsCofactor m []
+  cofactor_modulus hm = record {
     value_over = hm;
     factor_over = All-nil (IsElem o);
     congruent = (
@@ -49,8 +49,8 @@ module _ {E : Type 0} (o : Ops E) (L : FieldLaws o) (m a : List E) (hm : IsOver 
     );
   }
 
-  pub cofactor_self : IsCofactor a (o.one ∷ [])
-  cofactor_self = record {
+  pub cofactor_self : IsOver o a → IsCofactor a (o.one ∷ [])
+  cofactor_self ha = record {
     value_over = ha;
     factor_over = All-cons (IsElem o) o.one [] L.one-elem (All-nil (IsElem o));
     congruent = (
@@ -60,12 +60,19 @@ module _ {E : Type 0} (o : Ops E) (L : FieldLaws o) (m a : List E) (hm : IsOver 
     );
   }
 
+  pub first_cofactor : (r s : List E) → IsOver o m → r ≡ m → s ≡ [] → IsCofactor r s
+  first_cofactor r s hm e z = subst (IsCofactor r) (sym z) (subst (λ x. IsCofactor x []) (sym e) (cofactor_modulus hm))
+
+  pub second_cofactor : (r s : List E) → IsOver o a → r ≡ a → s ≡ o.one ∷ [] → IsCofactor r s
+  second_cofactor r s ha e u =
+      subst (IsCofactor r) (sym u) (subst (λ x. IsCofactor x (o.one ∷ [])) (sym e) (cofactor_self ha))
+
   -- a step: s = s0 − q · s1
-  pub cofactor_step : (r0 s0 r1 s1 q r p n s : List E) → IsCofactor r0 s0 → IsCofactor r1 s1 → IsOver o q → IsOver o r
-      → IsOver o p → IsOver o n → IsOver o s → IsDivision o r0 r1 q r → IsProduct o q s1 p
-      → IsProduct o (o.neg o.one ∷ []) p n → IsSum o s0 n s
+  pub cofactor_step : (r0 s0 r1 s1 q r s : List E) → IsCofactor r0 s0 → IsCofactor r1 s1 → IsOver o q → IsOver o r
+      → IsOver o s → IsDivision o r0 r1 q r
+      → ((k : ℕ) → at o s k ≡ o.add (at o s0 k) (o.neg (convolution_of o (at o q) (at o s1) k)))
       → IsCofactor r s
-  cofactor_step r0 s0 r1 s1 q r p n s c0 c1 hq hr hp hn hs d ep en es = record {
+  cofactor_step r0 s0 r1 s1 q r s c0 c1 hq hr hs d es = record {
     value_over = hr;
     factor_over = hs;
     congruent = (
@@ -93,16 +100,21 @@ module _ {E : Type 0} (o : Ops E) (L : FieldLaws o) (m a : List E) (hm : IsOver 
 
       factor : poly s ≡ P.◌⊕◌ (poly s0) (P.neg (P.◌⊗◌ (poly q) (poly s1)))
       factor =
-          poly-sum o L s0 n s c0.factor_over hn hs es
-          ∙ ap (P.◌⊕◌ (poly s0)) (poly-minus o L p n hp hn en
-          ∙ ap P.neg (poly-product o L q s1 p hq c1.factor_over hp ep))
+          eq_of_coefficients o L (poly s) (P.◌⊕◌ (poly s0) (P.neg (P.◌⊗◌ (poly q) (poly s1)))) (at o s)
+          (λ k. o.add (at o s0 k) (o.neg (convolution_of o (at o q) (at o s1) k))) (has_polynomial_of o L s hs)
+          (has-add o L (poly s0) (P.neg (P.◌⊗◌ (poly q) (poly s1))) (at o s0)
+          (λ k. o.neg (convolution_of o (at o q) (at o s1) k)) (has_polynomial_of o L s0 c0.factor_over)
+          (has_neg o L (P.◌⊗◌ (poly q) (poly s1)) (convolution_of o (at o q) (at o s1))
+          (has-mul o L (poly q) (poly s1) (at o q) (at o s1) (has_polynomial_of o L q hq)
+          (has_polynomial_of o L s1 c1.factor_over))))
+          es
 
   -- where the remainder is a constant, the cofactor over it is an inverse
-  pub inverse_of_cofactor : (c u : E) (s t w : List E) → IsElem o c → IsElem o u → o.mul u c ≡ o.one
+  pub inverse_of_cofactor : IsOver o m → IsOver o a → (c u : E) (s t w : List E) → IsElem o c → IsElem o u → o.mul u c ≡ o.one
       → IsCofactor (c ∷ []) s
       → IsOver o t → IsOver o w → IsProduct o (u ∷ []) s t → IsRemainderOf o (at o t) m w → 1 < length m
       → IsRemainderOf o (convolution_of o (at o w) (at o a)) m (o.one ∷ [])
-  inverse_of_cofactor c u s t w hc hu e cof ht hw et ew l =
+  inverse_of_cofactor hm ha c u s t w hc hu e cof ht hw et ew l =
       remainder_of_congruent o L (P.◌⊗◌ (poly w) (poly a)) (convolution_of o (at o w) (at o a))
       (has-mul o L (poly w) (poly a) (at o w) (at o a) (has_polynomial_of o L w hw) (has_polynomial_of o L a ha)) m
       (o.one ∷ []) hm (All-cons (IsElem o) o.one [] L.one-elem (All-nil (IsElem o))) l (x, whole)

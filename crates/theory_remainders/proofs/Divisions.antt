@@ -9,6 +9,7 @@ use Rattle.theory_rings.specs.Sum.{at}
 use Rattle.theory_rings.specs.Power.{power, power_by_ops}
 use Rattle.theory_rings.specs.Polynomial.{Poly, convolution_of, constant_coefficients}
 use Rattle.theory_rings.specs.Division.{Congruent}
+use Rattle.theory_rings.proofs.Rings.Congruences.{congruent_of_eq}
 use Rattle.theory_rings.proofs.Rings.Homomorphisms.{map-neg}
 use Rattle.theory_rings.proofs.Rings.Solver.{◌⊠◌, minus, unit, ring1}
 use Rattle.theory_rings.proofs.Polynomials.PolynomialRing.{constant, coefficient-constant}
@@ -20,7 +21,7 @@ use Rattle.theory_fractions.specs.FractionOps.{polynomial_of}
 use Rattle.theory_fractions.proofs.Lifting.{HasCoefficients, values-over, eq_of_coefficients, coefficients_of_eq}
 use Rattle.theory_fractions.proofs.Lifting.{has-add, has-mul, has-one}
 use Rattle.theory_fractions.proofs.Reducing.{poly-constant_mul}
-use Rattle.theory_fractions.proofs.ListPolynomials.{has_polynomial_of}
+use Rattle.theory_fractions.proofs.ListPolynomials.{has_polynomial_of, has_neg}
 use Rattle.theory_remainders.specs.RemainderLaws.{IsRemainderOf}
 
 module _ {E : Type 0} (o : Ops E) (L : FieldLaws o) where
@@ -113,6 +114,18 @@ module _ {E : Type 0} (o : Ops E) (L : FieldLaws o) where
     where
       ring1-minus : P.◌⊗◌ (P.neg P.one) (poly a) ≡ P.neg (poly a)
       ring1-minus = ring1 P (λ a. (minus unit ⊠ a, minus a)) refl (poly a)
+
+  pub minus_coefficients : (a c : List E) → IsOver o a → IsOver o c → IsProduct o (o.neg o.one ∷ []) a c
+      → (k : ℕ) → at o c k ≡ o.neg (at o a k)
+  minus_coefficients a c ha hc e =
+      coefficients_of_eq o L (poly c) (P.neg (poly a)) (at o c) (λ k. o.neg (at o a k)) (has_polynomial_of o L c hc)
+      (has_neg o L (poly a) (at o a) (has_polynomial_of o L a ha)) (poly-minus a c ha hc e)
+
+  -- a polynomial of smaller degree is its own remainder
+  pub remainder_of_self : (a m : List E) → IsOver o a → IsOver o m → length a < length m → IsRemainderOf o (at o a) m a
+  remainder_of_self a m ha hm l =
+      remainder_of_congruent (poly a) (at o a) (has_polynomial_of o L a ha) m a hm ha l
+      (congruent_of_eq P (poly m) (poly a) (poly a) refl)
 
   -- the coefficients of the power with exponent n
   abbrev pub power_coefficients : List E → ℕ → ℕ → E

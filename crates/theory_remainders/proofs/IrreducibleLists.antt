@@ -1,6 +1,9 @@
 -- Irreducible lists of coefficients are those of irreducible polynomials.
 use Rattle.std.specs.Prelude.{◌≡◌, ◌≤◌, List, length}
 use Rattle.std.proofs.Common.{sym, ◌∙◌, ap, arith}
+use Rattle.std.proofs.Math.Bool.{Bool-set}
+use Rattle.std.proofs.Math.Bridge.{le_prop}
+use Rattle.theory_rings.proofs.Polynomials.PolynomialRing.{IsTrimmed-prop}
 use Rattle.theory_rings.specs.Ring.{FieldOn, CommRingOn}
 use Rattle.theory_rings.specs.Ops.{Ops, FieldLaws}
 use Rattle.theory_rings.specs.Elements.{Elem, elements}
@@ -21,6 +24,10 @@ use Rattle.theory_fractions.proofs.ListPolynomials.{IsPolynomialList-values, has
 use Rattle.theory_fractions.proofs.ListPolynomials.{length-polynomial_of, degree-polynomial_of}
 use Rattle.theory_remainders.specs.Irreducible.{IsIrreducible}
 use Rattle.theory_remainders.specs.RemainderOps.{modulus_of}
+
+-- it is a proposition
+pub IsIrreducible-prop : {E : Type 0} (o : Ops E) (m : List E) → IsProp (IsIrreducible o m)
+IsIrreducible-prop o m = hlevel (IsTrimmed-prop o.zero, le_prop, Bool-set)
 
 module _ {E : Type 0} (o : Ops E) (L : FieldLaws o) where
   abbrev F : FieldOn (Elem o)

@@ -14,20 +14,26 @@ use Rattle.theory_rings.proofs.Rings.Homomorphisms.{map-neg}
 use Rattle.theory_rings.proofs.Rings.Fields.{mul_left_cancel}
 use Rattle.theory_rings.proofs.Rings.Solver.{◌⊞◌, ◌⊠◌, ring4}
 use Rattle.theory_rings.proofs.Powers.Powers.{map-power, power-power}
-use Rattle.theory_rings.proofs.Polynomials.Degrees.{length-add_le, length-neg_le}
-use Rattle.theory_rings.proofs.Polynomials.Bezout.{field_polynomials}
+use Rattle.theory_rings.proofs.Polynomials.Degrees.{length-add_le, length-neg_le, length-degree_of_ne_zero}
+use Rattle.theory_rings.proofs.Polynomials.Bezout.{field_polynomials, coprime_comm}
 use Rattle.theory_rings.proofs.Polynomials.ElementLists.{values, at-values}
 use Rattle.theory_rings.proofs.Polynomials.Remainders.{remainder_hom, remainder_eq, congruent_of_remainder}
 use Rattle.theory_rings.proofs.Polynomials.Remainders.{remainders-add_poly, remainders-neg_poly}
-use Rattle.theory_fractions.specs.PolynomialLists.{IsSum, IsProduct, IsPolynomialList}
+use Rattle.theory_fractions.specs.PolynomialLists.{IsSum, IsPolynomialList}
 use Rattle.theory_fractions.specs.FractionOps.{polynomial_of}
-use Rattle.theory_fractions.proofs.Lifting.{HasCoefficients, coefficients_of_eq, has-add}
+use Rattle.theory_fractions.proofs.Lifting.{eq_of_coefficients, HasCoefficients, coefficients_of_eq, has-add}
 use Rattle.theory_fractions.proofs.Lifting.{has-mul}
 use Rattle.theory_fractions.proofs.ListPolynomials.{has_polynomial_of, has_neg, length-polynomial_of}
+use Rattle.theory_rings.proofs.Polynomials.PolynomialRing.{zero-list}
+use Rattle.theory_rings.proofs.Polynomials.Irreducible.{irreducible_coprime, degree_le_of_divides}
+use Rattle.theory_fractions.specs.Fraction.{IsCoprime}
+use Rattle.theory_fractions.proofs.LowestTerms.{coprime_lists}
+use Rattle.theory_fractions.proofs.ListPolynomials.{values_back}
+use Rattle.theory_remainders.proofs.IrreducibleLists.{polynomial_irreducible, polynomial-ne-zero}
 use Rattle.theory_remainders.specs.Irreducible.{IsIrreducible}
 use Rattle.theory_remainders.specs.RemainderLaws.{IsRemainder, IsRemainderOf, AreRemainderOps}
 use Rattle.theory_remainders.specs.RemainderOps.{modulus_of, remainder_of, remainder_ops}
-use Rattle.theory_remainders.proofs.Divisions.{congruent_of_remainder_of, remainder_of_congruent, poly-sum, poly-minus}
+use Rattle.theory_remainders.proofs.Divisions.{congruent_of_remainder_of, remainder_of_congruent, poly-sum}
 use Rattle.theory_remainders.proofs.Divisions.{power_coefficients, has-power}
 use Rattle.theory_remainders.proofs.IrreducibleLists.{modulus_divides, divides_modulus}
 use Rattle.theory_remainders.proofs.RemainderField.{monic, Q, of_list, to_list, is_remainder-to_list, of_list_eq}
@@ -105,6 +111,28 @@ module _ {E : Type 0} (o : Ops E) (L : FieldLaws o) (m : List E) (i : IsIrreduci
   unfolding remainder_ops
   of_elem a h = remainder_of_test o L m a h
 
+  -- what is not 0 is coprime to the modulus
+  pub coprime_to_modulus : (a : List E) → Is a → a ≢ [] → IsCoprime o m a
+  coprime_to_modulus a ha n =
+      coprime_lists o L m a i.polynomial ha.polynomial
+      (coprime_comm F (poly a) (poly m) (irreducible_coprime F (poly m) (polynomial_irreducible o L m i) (poly a)
+      (λ d. let low = degree_le_of_divides F (poly m) (poly a) d nonzero in omega (
+        arith,
+        low,
+        smaller,
+        length-polynomial_of o L a ha.polynomial,
+        length-polynomial_of o L m i.polynomial,
+        length-degree_of_ne_zero F.cring F.zero_test (poly a) nonzero,
+        length-degree_of_ne_zero F.cring F.zero_test (poly m) (polynomial-ne-zero o L m i),
+      ))))
+    where
+      smaller : length a < length m
+      smaller = ha.smaller
+
+      nonzero : poly a ≢ P.zero
+      nonzero e = n (sym (values_back o L a ha.polynomial)
+          ∙ ap (λ (x : Poly F.cring). values o L x.0) e ∙ ap (values o L) (zero-list F.cring F.zero_test))
+
   pub zero_is : ops.zero ≡ []
   unfolding remainder_ops
   zero_is = refl
@@ -143,24 +171,28 @@ module _ {E : Type 0} (o : Ops E) (L : FieldLaws o) (m : List E) (i : IsIrreduci
       to_list_unique o L m i w (K.◌⊕◌ (of a) (of b)) hw
       (ap rest (sum_eq a b w ha hb hw.polynomial s) ∙ H.map-add (poly a) (poly b))
 
-  -- a product with −1 is smaller too
-  pub minus_smaller : (a w : List E) → Is a → IsPolynomialList o w → IsProduct o (o.neg o.one ∷ []) a w → Is w
-  minus_smaller a w ha hw s = record {
+  neg_eq : (a w : List E) → Is a → IsPolynomialList o w → ((k : ℕ) → at o w k ≡ o.neg (at o a k))
+      → poly w ≡ P.neg (poly a)
+  neg_eq a w ha hw s = eq_of_coefficients o L (poly w) (P.neg (poly a)) (at o w) (λ k. o.neg (at o a k))
+      (has_polynomial_of o L w hw.over) (has_neg o L (poly a) (at o a) (has_list a ha)) s
+
+  pub neg_smaller : (a w : List E) → Is a → IsPolynomialList o w → ((k : ℕ) → at o w k ≡ o.neg (at o a k)) → Is w
+  neg_smaller a w ha hw s = record {
     polynomial = hw;
     smaller =
         let la = length-polynomial_of o L a ha.polynomial in
         let lw = length-polynomial_of o L w hw in
         let sa = ha.smaller in
-        let e = ap (λ (x : Poly F.cring). length x.0) (poly-minus o L a w ha.polynomial.over hw.over s) in
+        let e = ap (λ (x : Poly F.cring). length x.0) (neg_eq a w ha hw s) in
         omega (arith, length-neg_le F.cring F.zero_test (poly a) (length a) (omega arith));
   }
 
-  pub neg_is : (a w : List E) → Is a → Is w → IsProduct o (o.neg o.one ∷ []) a w → w ≡ ops.neg a
+  pub neg_is : (a w : List E) → Is a → Is w → ((k : ℕ) → at o w k ≡ o.neg (at o a k)) → w ≡ ops.neg a
   unfolding remainder_ops
   neg_is a w ha hw s =
       let H = remainder_hom F.cring F.zero_test M (monic o L m i) in
       to_list_unique o L m i w (K.neg (of a)) hw
-      (ap rest (poly-minus o L a w ha.polynomial.over hw.polynomial.over s) ∙ map-neg P.ring K.ring rest H (poly a))
+      (ap rest (neg_eq a w ha hw.polynomial s) ∙ map-neg P.ring K.ring rest H (poly a))
 
   product_image : (a b w : List E) → Is a → Is b → Is w
       → IsRemainderOf o (convolution_of o (at o a) (at o b)) m w

@@ -1,4 +1,3 @@
-use Rattle.std.proofs.Common.{sym, subst, ◌∙◌}
 use Rattle.spl_field.specs.SmallField.{small_ops}
 use Rattle.theory_remainders.proofs.CoprimeLists.{same_divisors, same_divisors_next, coprime_iff_constant}
 use Rattle.spl_residue.specs.ResidueOver.{small_laws}

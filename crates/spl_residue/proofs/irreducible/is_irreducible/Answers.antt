@@ -1,4 +1,4 @@
-use Rattle.std.proofs.Common.{refl, sym, ◌∙◌, subst, arith, ℕ, ◌≡◌, ◌≤◌, ◌*◌, ◌+◌, suc}
+use Rattle.std.proofs.Common.{refl, sym, ◌∙◌, subst, arith, ◌≡◌, ◌≤◌, ◌*◌, ◌+◌, suc}
 use Rattle.std.proofs.Math.Bool.{true≢false}
 use Rattle.theory_rings.specs.Polynomial.{degree}
 use Rattle.theory_remainders.specs.RemainderLaws.{IsRemainderOf}

@@ -1,5 +1,4 @@
 use Rattle.std.proofs.Common.{ℕ, List, [], ◌∷◌, ◌∙◌, ap, get_or}
-use Rattle.spl_field.specs.SmallField.{small_ops}
 use Rattle.spl_poly.proofs.Trimming.{get_or-without_zeros}
 use Rattle.spl_residue.proofs.irreducible.minus_variable.Goals as goal
 

@@ -1,0 +1,9 @@
+use Rattle.std.proofs.Common.{sym, ◌∙◌}
+use Rattle.spl_field.specs.SmallField.{small_ops}
+use Rattle.theory_fractions.proofs.ProductsOfFractions.{neg_one-ne-zero}
+use Rattle.spl_residue.specs.ResidueOver.{small_laws}
+use Rattle.spl_residue.proofs.remainder.minus_one.Goals as goal
+
+pub returns-clause-nonzero : goal.returns-clause-nonzero
+returns-clause-nonzero c z =
+    neg_one-ne-zero (small_ops c.args.f.now) (small_laws c.args.f.now) (sym c.negative.ensures.same ∙ z)
