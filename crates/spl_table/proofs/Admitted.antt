@@ -1,19 +1,11 @@
 -- Numbers that fit a field are small.
 use Rattle.std.proofs.Common.{◌≡◌, ◌⊎◌, ℕ, ◌^◌, ◌&&◌, ◌<◌, ◌≤◌, Bool, true, false, List, [], ◌∷◌, ◌++◌, length, get_or}
-use Rattle.std.proofs.Common.{⊎_elim, refl, sym, ap, ap₂, ◌∙◌, subst, inl, inr, arith, lit<, length-append}
-use Rattle.std.specs.Prelude.{Result, Ok, Err, IfOk, IfErr, OnOk}
+use Rattle.std.proofs.Common.{⊎_elim, refl, ap, ◌∙◌, subst, inl, inr, arith, lit<, length-append}
 use Rattle.std.proofs.Math.Nat.{pow-le-pow_left, pow-le-pow_right}
 use Rattle.std.proofs.lemmas.List.{get_or_at, get_or_append_left}
 use Rattle.theory_rings.proofs.Numbers.Digits.{le_pow_self}
-use Rattle.spl_field.specs.FieldByDigits.{FitsField, IsAdmitted}
-use Rattle.spl_field.specs.SmallField.{characteristic, modulus_of}
-use Rattle.spl_field.specs.declared.small.SmallField.{SmallField}
-use Rattle.spl_text.specs.Text.{IsNumber, AreNumbers}
-use Rattle.spl_table.specs.Reading.{IfRefused, field_text, AreBytes, SaysAdmitted, IsNoField, IsFieldFault}
-use Rattle.spl_table.specs.declared.refusal.Kind.{Kind}
-use Rattle.spl_table.specs.declared.refusal.Kind.TheVariants.{FieldSize, FieldLaw}
-use Rattle.spl_table.specs.declared.refusal.TableFault.{TableFault}
-use Rattle.spl_table.specs.declared.refusal.TableFault.TheVariants.{Refused, Memory}
+use Rattle.spl_field.specs.FieldByDigits.{FitsField}
+use Rattle.spl_table.specs.Reading.{AreBytes}
 
 pub characteristic_most : (p : ℕ) (m : List ℕ) → FitsField p m → p ≤ 256
 characteristic_most p m fits = omega (arith, le_pow_self p (length m) fits.some_number, fits.most)

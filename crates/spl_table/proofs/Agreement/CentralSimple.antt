@@ -10,9 +10,8 @@ use Rattle.theory_rings.proofs.Sums.Lists.{table_congr}
 use Rattle.theory_spaces.specs.Tuples.{IsTuple, IsTableOne, tuple_add, tuple_zero, product, basis, constant}
 use Rattle.theory_spaces.proofs.Tuples.TupleProducts.{IsTuple-product, IsTuple-basis}
 use Rattle.theory_tables.specs.Matrix.{IsMatrix, entry}
-use Rattle.theory_tables.specs.Structure.{Structure, IsAssociative, tuple_ops}
+use Rattle.theory_tables.specs.Structure.{Structure, IsAssociative}
 use Rattle.theory_tables.specs.Subspace.{InSpan, Combinations}
-use Rattle.theory_spaces.specs.Sets.{IsIdeal}
 use Rattle.theory_tables.specs.Algebras.{IsCentral, IsMultiple, HasSmallCentre, SpansIdeal, AreZero, SpansAll}
 use Rattle.theory_tables.specs.Algebras.{IsCentralSimple}
 
