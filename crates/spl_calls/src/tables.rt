@@ -136,6 +136,11 @@ fn evidence(out: &mut Vec<u8>, evidence: Evidence) -> Result<(), Fault> {
             show::word(out, "ideal")?;
             Ok(show::count(out, tuples.len())?)
         }
+        Evidence::Split { maps, units } => {
+            show::word(out, "split")?;
+            show::count(out, maps.len())?;
+            Ok(show::count(out, units.len())?)
+        }
     }
 }
 

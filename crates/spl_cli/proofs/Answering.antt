@@ -2,7 +2,7 @@
 use Rattle.std.specs.Prelude.{◌≡◌, ℕ, ◌*◌, List, []}
 use Rattle.std.proofs.Common.{inl, inr, sym, ◌∙◌, ap, subst}
 use Rattle.spl_table.specs.TableText.{TableText, line_of_end}
-use Rattle.spl_table.specs.Table.{algebra_of, ops_of, IsTableOf}
+use Rattle.spl_table.specs.Table.{degree_of, algebra_of, ops_of, IsTableOf}
 use Rattle.spl_table.specs.Refusal.{whole, IsTableText, IsRefusal}
 use Rattle.spl_table.specs.declared.table.Table.{Table}
 use Rattle.spl_table.specs.declared.refusal.Refusal.{Refusal}
@@ -85,13 +85,11 @@ Answers-refused words input sink sink' status form bytes refusal cause report fi
 -- evidence that was written by the fractions f and the degree n of the table
 module _ (table : Table) (f : Fractions) (n : ℕ) (same_field : f ≡ table.fractions) (same_degree : n ≡ table.degree)
     (e : Evidence)
-    (holds : IsEvidence (ops_of table) (algebra_of table) e) where
-  square : n * n ≡ table.algebra.dim
-  square = ap (λ k. k * k) same_degree ∙ sym table.dim
-
+    (holds : IsEvidence (ops_of table) (algebra_of table) (degree_of table) e) where
   -- it fits, as its claim holds
-  pub fits_of_evidence : Fits (fractions_over (field_of f)) (n * n) e
+  pub fits_of_evidence : Fits (fractions_over (field_of f)) n e
   fits_of_evidence =
+      let Q : Fractions → Type 0 = λ k. Fits (fractions_over (field_of k)) n e in
       let P : ℕ → Type 0 = λ m. Fits (ops_of table) m e in
-      let Q : Fractions → Type 0 = λ k. Fits (fractions_over (field_of k)) (n * n) e in
-      subst Q (sym same_field) (subst P (sym square) (fits_of_claim (ops_of table) (algebra_of table) e holds.claim))
+      subst Q (sym same_field) (subst P (sym same_degree)
+      (fits_of_claim (ops_of table) (algebra_of table) (degree_of table) e table.dim holds.claim))

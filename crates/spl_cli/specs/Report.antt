@@ -1,7 +1,7 @@
 -- What a run reports: the status, and all the bytes that are written.
 use Rattle.std.specs.Prelude.{◌≡◌, ◌⊎◌, ℕ, List, [], ◌++◌, codes, decimal}
 use Rattle.spl_table.specs.TableText.{TableText, line_of_end}
-use Rattle.spl_table.specs.Table.{algebra_of, ops_of, IsTableOf}
+use Rattle.spl_table.specs.Table.{degree_of, algebra_of, ops_of, IsTableOf}
 use Rattle.spl_table.specs.Refusal.{whole, IsTableText, IsRefusal}
 use Rattle.spl_table.specs.declared.table.Table.{Table}
 use Rattle.spl_table.specs.declared.refusal.Refusal.{Refusal}
@@ -62,8 +62,8 @@ pub record IsUndecided (input : List ℕ) (refusal : Refusal) : Type 0 where
 -- the bytes are the text of evidence that the table's algebra isn't central simple
 pub record ShowsEvidence (table : Table) (bytes : List ℕ) : Type 0 where
   pub evidence : Evidence
-  pub holds : IsEvidence (ops_of table) (algebra_of table) evidence
-  pub text : IsEvidenceText (ops_of table) (algebra_of table).dim bytes evidence
+  pub holds : IsEvidence (ops_of table) (algebra_of table) (degree_of table) evidence
+  pub text : IsEvidenceText (ops_of table) (degree_of table) bytes evidence
 
 -- the input is the text of a table, and the bytes are the text of such evidence
 pub record IsDecided (input bytes : List ℕ) : Type 0 where

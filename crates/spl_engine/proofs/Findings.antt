@@ -13,9 +13,9 @@ use Rattle.theory_tables.proofs.Algebras.CentralSimple.{central_simple_by_trace_
 use Rattle.theory_tables.proofs.Split.SplitCentralSimple.{split_is_central_simple}
 use Rattle.spl_evidence.specs.declared.evidence.Evidence.{Evidence}
 use Rattle.spl_evidence.specs.declared.evidence.Evidence.TheVariants.{Triple as TripleEvidence, NoIdentity, Central}
-use Rattle.spl_evidence.specs.declared.evidence.Evidence.TheVariants.{Ideal}
+use Rattle.spl_evidence.specs.declared.evidence.Evidence.TheVariants.{Ideal, Split}
 use Rattle.spl_evidence.specs.Claim.{Claim}
-use Rattle.spl_table.specs.Table.{field_of, algebra_of, ops_of}
+use Rattle.spl_table.specs.Table.{field_of, degree_of, algebra_of, ops_of}
 use Rattle.spl_table.specs.declared.table.Table.{Table}
 use Rattle.spl_algebra.specs.Triple.{IsFirstFailed}
 use Rattle.spl_algebra.specs.declared.triple.Triple.{Triple}
@@ -38,23 +38,27 @@ module _ (table : Table) where
   exclude : ClaimsExclude o A
   exclude = claims_exclude o L A over
 
-  -- what evidence claims excludes that the algebra is central simple
-  excludes : (e : Evidence) → Claim o A e → IsCentralSimple o A → ⊥
-  excludes (TripleEvidence i j k) c s = exclude.triple i j k c s.associative
-  excludes (NoIdentity left right) c s = let z = s.centre in
-      exclude.no_identity left right c (record { one = z.one; is_one = z.is_one })
-  excludes (Central tuple) c s = exclude.central tuple c s.centre
-  excludes (Ideal tuples) c s = exclude.ideal tuples c s
+  abbrev n : ℕ
+  n = degree_of table
 
-  evidence : (e : Evidence) → IsOfKind o A e → Claim o A e → IsEvidence o A e
+  -- what evidence claims excludes that the algebra is central simple
+  excludes : (e : Evidence) → IsOfKind o A e → Claim o A n e → IsCentralSimple o A → ⊥
+  excludes (TripleEvidence i j k) kind c s = exclude.triple i j k c s.associative
+  excludes (NoIdentity left right) kind c s = let z = s.centre in
+      exclude.no_identity left right c (record { one = z.one; is_one = z.is_one })
+  excludes (Central tuple) kind c s = exclude.central tuple c s.centre
+  excludes (Ideal tuples) kind c s = exclude.ideal tuples c s
+  excludes (Split maps units) kind c s = kind
+
+  evidence : (e : Evidence) → IsOfKind o A e → Claim o A n e → IsEvidence o A n e
   evidence e kind claim = record {
     kind = kind;
     claim = claim;
-    not_central_simple = excludes e claim;
-    not_split = λ n some s. excludes e claim (split_is_central_simple o L A over n some s);
+    not_central_simple = excludes e kind claim;
+    not_split = λ size some s. excludes e kind claim (split_is_central_simple o L A over size some s);
   }
 
-  pub of_triple : (t : Triple) → IsFirstFailed o A t → IsEvidence o A (TripleEvidence t.i t.j t.k)
+  pub of_triple : (t : Triple) → IsFirstFailed o A t → IsEvidence o A n (TripleEvidence t.i t.j t.k)
   of_triple t h = evidence (TripleEvidence t.i t.j t.k) h record {
     fits = ((h.i_low, h.i_high), (h.j_low, h.j_high), (h.k_low, h.k_high));
     differ = h.fails;
@@ -62,13 +66,13 @@ module _ (table : Table) where
 
   pub of_no_identity : (left right : List (ℕ × ℕ × Pair ℕ)) → IsAssociative o A
       → NoIdentityClaim o A left right
-      → IsEvidence o A (NoIdentity left right)
+      → IsEvidence o A n (NoIdentity left right)
   of_no_identity left right associative claim =
       evidence (NoIdentity left right) (associative, exclude.no_identity left right claim) claim
 
   pub of_central : (tuple : List (Pair ℕ)) → IsAssociative o A → HasIdentity o A
       → CentralClaim o A tuple
-      → IsEvidence o A (Central tuple)
+      → IsEvidence o A n (Central tuple)
   of_central tuple associative identity claim =
       evidence (Central tuple) record {
         associative = associative;
@@ -79,13 +83,13 @@ module _ (table : Table) where
 
   pub of_ideal : (tuples : List (List (Pair ℕ))) → IsAssociative o A → HasSmallCentre o A
       → IsTraceIdeal o A tuples
-      → IsEvidence o A (Ideal tuples)
+      → IsEvidence o A n (Ideal tuples)
   of_ideal tuples associative centre h =
       evidence (Ideal tuples) record {
         associative = associative;
         centre = centre;
-        degenerate = λ n. exclude.ideal tuples h.claim
-            (central_simple_by_trace_form o L A over associative centre n);
+        degenerate = λ form. exclude.ideal tuples h.claim
+            (central_simple_by_trace_form o L A over associative centre form);
         radical = h.spans;
       } h.claim
 

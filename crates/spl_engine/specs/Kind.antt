@@ -10,7 +10,7 @@ use Rattle.theory_tables.specs.Algebras.{HasIdentity, HasSmallCentre, IsCentralS
 use Rattle.theory_tables.specs.Traces.{InTraceRadical, IsNondegenerate}
 use Rattle.theory_tables.specs.Split.{IsSplit}
 use Rattle.spl_evidence.specs.declared.evidence.Evidence.{Evidence}
-use Rattle.spl_evidence.specs.declared.evidence.Evidence.TheVariants.{Triple, NoIdentity, Central, Ideal}
+use Rattle.spl_evidence.specs.declared.evidence.Evidence.TheVariants.{Triple, NoIdentity, Central, Ideal, Split}
 use Rattle.spl_evidence.specs.Claim.{Claim}
 use Rattle.spl_algebra.specs.Triple.{IsFirstFailed}
 
@@ -30,20 +30,21 @@ module _ (o : Ops (Pair ℕ)) (A : Structure (Pair ℕ)) where
     pub radical : (a : List (Pair ℕ)) → IsTuple o A.dim a
         → (InSpan o A.dim tuples a ↔ InTraceRadical o A a)
 
-  -- the evidence is of the kind that the algebra has
+  -- the evidence is of the kind that the algebra has; that it is split is not decided yet
   abbrev pub IsOfKind : Evidence → Type 0
   IsOfKind (Triple i j k) = IsFirstFailed o A (record { i = i; j = j; k = k })
   IsOfKind (NoIdentity left right) = IsAssociative o A × (HasIdentity o A → ⊥)
   IsOfKind (Central tuple) = HasLargeCentre
   IsOfKind (Ideal tuples) = HasDegenerateForm tuples
+  IsOfKind (Split maps units) = ⊥
 
-  -- evidence of the right kind, whose claim holds, so that the algebra isn't central simple, and no matrices of any
-  -- size n ≥ 1 split it
-  pub record IsEvidence (e : Evidence) : Type 0 where
+  -- evidence of the right kind, whose claim on an algebra of degree n holds, so that the algebra isn't central simple,
+  -- and no matrices of any size ≥ 1 split it
+  pub record IsEvidence (n : ℕ) (e : Evidence) : Type 0 where
     pub kind : IsOfKind e
-    pub claim : Claim o A e
+    pub claim : Claim o A n e
     pub not_central_simple : IsCentralSimple o A → ⊥
-    pub not_split : (n : ℕ) → 1 ≤ n → IsSplit o A n → ⊥
+    pub not_split : (size : ℕ) → 1 ≤ size → IsSplit o A size → ⊥
 
   -- no kind fits, so that the algebra is central simple
   pub record HasNoFault : Type 0 where

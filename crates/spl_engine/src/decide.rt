@@ -2,7 +2,7 @@
 ghost use Rattle.std.specs.Prelude.{◌≡◌, IfOk, MatchOption};
 ghost use Rattle.theory_tables.specs.Structure.{IsAssociative};
 ghost use Rattle.theory_tables.specs.Algebras.{IsIdentity, HasSmallCentre};
-ghost use Rattle.spl_table.specs.Table.{algebra_of, ops_of};
+ghost use Rattle.spl_table.specs.Table.{degree_of, algebra_of, ops_of};
 ghost use Rattle.spl_engine.specs.Kind.{IsEvidence, HasNoFault};
 
 use spl_algebra::identity::One;
@@ -19,7 +19,7 @@ fn of_small_centre(alloc: Global, table: &Table) -> Result<Option<Evidence>, NoM
     requires associative { IsAssociative (ops_of table.now) (algebra_of table.now) }
     requires centre { HasSmallCentre (ops_of table.now) (algebra_of table.now) }
     ensures { IfOk result (λ r. MatchOption r (HasNoFault (ops_of table.now) (algebra_of table.now))
-        (IsEvidence (ops_of table.now) (algebra_of table.now))) }
+        (IsEvidence (ops_of table.now) (algebra_of table.now) (degree_of table.now))) }
 {
     match trace_ideal(alloc, table.fractions(), table.algebra())? {
         Some(tuples) => Ok(Some(Evidence::Ideal { tuples })),
@@ -32,7 +32,7 @@ fn of_unital(alloc: Global, table: &Table, one: &Tuple) -> Result<Option<Evidenc
     requires associative { IsAssociative (ops_of table.now) (algebra_of table.now) }
     requires one { IsIdentity (ops_of table.now) (algebra_of table.now) one.now }
     ensures { IfOk result (λ r. MatchOption r (HasNoFault (ops_of table.now) (algebra_of table.now))
-        (IsEvidence (ops_of table.now) (algebra_of table.now))) }
+        (IsEvidence (ops_of table.now) (algebra_of table.now) (degree_of table.now))) }
 {
     match centre_fault_from(alloc, table.fractions(), table.algebra(), one)? {
         Some(tuple) => Ok(Some(Evidence::Central { tuple })),
@@ -44,7 +44,7 @@ fn of_unital(alloc: Global, table: &Table, one: &Tuple) -> Result<Option<Evidenc
 fn of_associative(alloc: Global, table: &Table) -> Result<Option<Evidence>, NoMemory>
     requires { IsAssociative (ops_of table.now) (algebra_of table.now) }
     ensures { IfOk result (λ r. MatchOption r (HasNoFault (ops_of table.now) (algebra_of table.now))
-        (IsEvidence (ops_of table.now) (algebra_of table.now))) }
+        (IsEvidence (ops_of table.now) (algebra_of table.now) (degree_of table.now))) }
 {
     match identity_or_refutation(alloc, table.fractions(), table.algebra())? {
         One::Refuted { left, right } => Ok(Some(Evidence::NoIdentity { left, right })),
@@ -57,7 +57,7 @@ fn of_associative(alloc: Global, table: &Table) -> Result<Option<Evidence>, NoMe
 /// The one fault is want of memory.
 pub fn decide(alloc: Global, table: &Table) -> Result<Option<Evidence>, NoMemory>
     ensures { IfOk result (λ r. MatchOption r (HasNoFault (ops_of table.now) (algebra_of table.now))
-        (IsEvidence (ops_of table.now) (algebra_of table.now))) }
+        (IsEvidence (ops_of table.now) (algebra_of table.now) (degree_of table.now))) }
 {
     match first_failed_triple(alloc, table)? {
         Some(t) => Ok(Some(Evidence::Triple {

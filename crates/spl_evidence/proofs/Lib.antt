@@ -1,4 +1,7 @@
 pub mod Fits
-mod LinesApart
-mod FractionLines
-mod OneEvidence
+mod LineTexts
+mod Prefixes
+mod RightLines
+mod SameEvidence
+mod TextLaws
+mod Spellings

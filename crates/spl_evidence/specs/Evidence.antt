@@ -1,55 +1,87 @@
 -- The evidence text: which evidence fits an algebra, and how it is spelled. Each evidence has one text.
-use Rattle.std.specs.Prelude.{◌≡◌, ℕ, List, ◌++◌, length, codes, decimal}
+use Rattle.std.specs.Prelude.{◌≡◌, ℕ, suc, ◌+◌, ◌*◌, ◌/◌, ◌%◌, List, [], ◌∷◌, ◌++◌, length, map, codes}
 use Rattle.std.specs.List.{flat_map}
 use Rattle.theory_rings.specs.Ops.{Ops}
 use Rattle.spl_text.specs.Text.{line}
 use Rattle.theory_fractions.specs.Fraction.{Pair}
-use Rattle.spl_fraction.specs.CanonicalText.{canonical_text}
-use Rattle.theory_tables.specs.Claims.{TripleFits, NoIdentityFits, CentralFits, IdealFits}
+use Rattle.spl_fraction.specs.CanonicalWords.{words_of}
+use Rattle.theory_tables.specs.Claims.{TripleFits, NoIdentityFits, CentralFits, IdealFits, SplitFits}
+use Rattle.spl_evidence.specs.Line.{Line, lines_text}
+use Rattle.spl_evidence.specs.declared.word.Word.{Word}
+use Rattle.spl_evidence.specs.declared.word.Word.TheVariants.{Triple as TripleWord, NoIdentity as NoIdentityWord}
+use Rattle.spl_evidence.specs.declared.word.Word.TheVariants.{Central as CentralWord, Ideal as IdealWord}
+use Rattle.spl_evidence.specs.declared.word.Word.TheVariants.{Split as SplitWord, Left, Right, Tuple, Map}
+use Rattle.spl_evidence.specs.declared.word.Word.TheVariants.{Unit as UnitTuple, End}
 use Rattle.spl_evidence.specs.declared.evidence.Evidence.{Evidence}
-use Rattle.spl_evidence.specs.declared.evidence.Evidence.TheVariants.{Triple, NoIdentity, Central, Ideal}
+use Rattle.spl_evidence.specs.declared.evidence.Evidence.TheVariants.{Triple, NoIdentity, Central, Ideal, Split}
 
--- the evidence speaks of an algebra of dimension m over these fractions
+-- the evidence speaks of an algebra of degree n, and so of dimension n², over these fractions
 abbrev pub Fits : Ops (Pair ℕ) → ℕ → Evidence → Type 0
-Fits o m (Triple i j k) = TripleFits m i j k
-Fits o m (NoIdentity left right) = NoIdentityFits o m left right
-Fits o m (Central tuple) = CentralFits o m tuple
-Fits o m (Ideal tuples) = IdealFits o m tuples
+Fits o n (Triple i j k) = TripleFits (n * n) i j k
+Fits o n (NoIdentity left right) = NoIdentityFits o (n * n) left right
+Fits o n (Central tuple) = CentralFits o (n * n) tuple
+Fits o n (Ideal tuples) = IdealFits o (n * n) tuples
+Fits o n (Split maps units) = SplitFits o (n * n) n maps units
 
--- ---- how it is spelled
+-- ---- its lines behind the first
+
+-- `tuple F_1 .. F_m`
+abbrev pub tuple_line : List (Pair ℕ) → Line
+tuple_line a = record { word = Tuple; numbers = []; fractions = map words_of a }
+
+-- `left J K F` or `right J K F`
+abbrev pub multiplier_line : Word → ℕ × ℕ × Pair ℕ → Line
+multiplier_line side (j, k, x) = record { word = side; numbers = j ∷ k ∷ []; fractions = words_of x ∷ [] }
+
+-- `map I F_11 .. F_nn`, row by row
+abbrev pub map_line : ℕ → List (List (Pair ℕ)) → Line
+map_line i x = record { word = Map; numbers = i ∷ []; fractions = map words_of (flat_map (λ row. row) x) }
+
+-- the matrices that stand behind so many others
+abbrev pub map_lines : ℕ → List (List (List (Pair ℕ))) → List Line
+map_lines count [] = []
+map_lines count (x ∷ xs) = map_line (count + 1) x ∷ map_lines (suc count) xs
+
+-- `unit R S F_1 .. F_m`
+abbrev pub unit_line : ℕ → ℕ → List (Pair ℕ) → Line
+unit_line r s a = record { word = UnitTuple; numbers = r ∷ s ∷ []; fractions = map words_of a }
+
+-- the tuples of the matrix units of size n, row by row, that stand behind so many others
+abbrev pub unit_lines : ℕ → ℕ → List (List (Pair ℕ)) → List Line
+unit_lines n count [] = []
+unit_lines n count (a ∷ rest) = unit_line (count / n + 1) (count % n + 1) a ∷ unit_lines n (suc count) rest
+
+-- the line of the kind
+abbrev pub kind_line : Evidence → Line
+kind_line (Triple i j k) = record { word = TripleWord; numbers = i ∷ j ∷ k ∷ []; fractions = [] }
+kind_line (NoIdentity left right) = record { word = NoIdentityWord; numbers = []; fractions = [] }
+kind_line (Central tuple) = record { word = CentralWord; numbers = []; fractions = [] }
+kind_line (Ideal tuples) = record { word = IdealWord; numbers = length tuples ∷ []; fractions = [] }
+kind_line (Split maps units) = record { word = SplitWord; numbers = []; fractions = [] }
+
+-- those between it and the line `end`
+abbrev pub body_lines : ℕ → Evidence → List Line
+body_lines n (Triple i j k) = []
+body_lines n (NoIdentity left right) = map (multiplier_line Left) left ++ map (multiplier_line Right) right
+body_lines n (Central tuple) = tuple_line tuple ∷ []
+body_lines n (Ideal tuples) = map tuple_line tuples
+body_lines n (Split maps units) = map_lines 0 maps ++ unit_lines n 0 units
+
+abbrev pub end_line : Line
+end_line = record { word = End; numbers = []; fractions = [] }
+
+abbrev pub lines_of : ℕ → Evidence → List Line
+lines_of n e = kind_line e ∷ body_lines n e ++ end_line ∷ []
+
+-- ---- its text
 
 abbrev pub first_line : List ℕ
 first_line = line (codes "spl-evidence 1")
 
-abbrev pub end_line : List ℕ
-end_line = line (codes "end")
-
--- a space before each canonical fraction
-abbrev pub fractions_text : List (Pair ℕ) → List ℕ
-fractions_text a = flat_map (λ x. codes " " ++ canonical_text x) a
-
--- `tuple F_1 .. F_m`
-abbrev pub tuple_line : List (Pair ℕ) → List ℕ
-tuple_line a = line (codes "tuple" ++ fractions_text a)
-
--- `left J K F` or `right J K F`
-abbrev pub multiplier_line : List ℕ → ℕ × ℕ × Pair ℕ → List ℕ
-multiplier_line side (j, k, x) =
-    line (side ++ codes " " ++ decimal j ++ codes " " ++ decimal k ++ codes " " ++ canonical_text x)
-
--- the second line, and those before the line `end`
-abbrev pub body : Evidence → List ℕ
-body (Triple i j k) = line (codes "triple " ++ decimal i ++ codes " " ++ decimal j ++ codes " " ++ decimal k)
-body (NoIdentity left right) =
-    line (codes "noidentity") ++ flat_map (multiplier_line (codes "left")) left ++ flat_map
-    (multiplier_line (codes "right")) right
-body (Central tuple) = line (codes "central") ++ tuple_line tuple
-body (Ideal tuples) = line (codes "ideal " ++ decimal (length tuples)) ++ flat_map tuple_line tuples
-
-abbrev pub evidence_text : Evidence → List ℕ
-evidence_text e = first_line ++ body e ++ end_line
+abbrev pub evidence_text : ℕ → Evidence → List ℕ
+evidence_text n e = first_line ++ lines_text (lines_of n e)
 
 -- the bytes are the text of the evidence, which fits
-pub record IsEvidenceText (o : Ops (Pair ℕ)) (m : ℕ) (bytes : List ℕ) (e : Evidence) : Type 0 where
-  pub fits : Fits o m e
-  pub spelled : bytes ≡ evidence_text e
+pub record IsEvidenceText (o : Ops (Pair ℕ)) (n : ℕ) (bytes : List ℕ) (e : Evidence) : Type 0 where
+  pub fits : Fits o n e
+  pub spelled : bytes ≡ evidence_text n e

@@ -1,2 +1,4 @@
+pub mod Line
 pub mod Evidence
+pub mod Refusal
 pub mod Claim

@@ -1,9 +1,9 @@
 // Evidence.
 use spl_fraction::field::Fractions;
 use spl_fraction::tuples::{Tuple, Tuples};
-use spl_matrix::lists::Multipliers;
+use spl_matrix::lists::{Maps, Multipliers};
 
-/// Why an algebra isn't central simple. Basis elements are counted from 1.
+/// Why an algebra isn't central simple, or that it is that of all n by n matrices. Basis elements are counted from 1.
 #[derive(Drop)]
 pub enum Evidence {
     /// The products (b_i·b_j)·b_k and b_i·(b_j·b_k) differ.
@@ -25,5 +25,11 @@ pub enum Evidence {
     /// A basis of an ideal that is neither 0 nor everything.
     Ideal {
         tuples: Tuples,
+    },
+    /// The n by n matrices of the basis elements under an isomorphism, and the elements, row by row, that it carries to
+    /// the matrices with one entry 1 and else 0.
+    Split {
+        maps: Maps<Fractions>,
+        units: Tuples,
     },
 }

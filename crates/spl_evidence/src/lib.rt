@@ -1,10 +1,13 @@
-// Evidence of what an algebra over the rational functions is not, and its text.
+// Evidence of what an algebra over the rational functions is or is not, and its text.
 //
 // It stands on spl_fraction and spl_text, whose words the text has, and on theory_tables for what evidence claims. Read
-// the type `Evidence` first, then specs/Evidence.antt, which says how it is spelled, and `write_evidence`.
+// the type `Evidence` first, then specs/Line.antt and specs/Evidence.antt, which say how it is spelled, and
+// `write_evidence`.
 #![tactic(auto)]
 
 pub mod evidence;
 pub mod laws;
 mod lines;
+pub mod refusal;
+pub mod word;
 pub mod writing;

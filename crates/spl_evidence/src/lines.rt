@@ -1,23 +1,29 @@
 // The lines of evidence, each written behind a text. Where memory is wanting, some of it is written.
-ghost use Rattle.std.specs.Prelude.{◌≡◌, ℕ, ◌++◌, codes, decimal, OnOk};
+ghost use Rattle.std.specs.Prelude.{◌≡◌, ℕ, ◌<◌, [], ◌∷◌, ◌++◌, map, codes, decimal, OnOk};
 ghost use Rattle.std.specs.List.{All, flat_map};
 ghost use Rattle.theory_rings.specs.Ops.{IsElem};
-ghost use Rattle.spl_text.specs.Text.{line};
+ghost use Rattle.spl_text.specs.Text.{line, fraction_text};
 ghost use Rattle.theory_fractions.specs.Fraction.{Pair};
 ghost use Rattle.spl_fraction.specs.Fractions.{field_of};
 ghost use Rattle.spl_fraction.specs.FractionsOver.{fractions_over};
-ghost use Rattle.spl_fraction.specs.CanonicalText.{canonical_text};
-ghost use Rattle.spl_evidence.specs.Evidence.{fractions_text, tuple_line, multiplier_line};
+ghost use Rattle.spl_fraction.specs.CanonicalWords.{words_of};
+ghost use Rattle.spl_evidence.specs.Line.{fractions_text, line_text, lines_text};
+ghost use Rattle.spl_evidence.specs.Evidence.{tuple_line, multiplier_line, map_line, map_lines, unit_line, unit_lines};
+ghost use Rattle.spl_evidence.specs.Evidence.{kind_line};
+ghost use Rattle.spl_evidence.specs.declared.evidence.Evidence.TheVariants.{Triple};
+ghost use Rattle.spl_evidence.specs.declared.word.Word.TheVariants.{Ideal as IdealWord};
 
+use crate::word::Word;
 use itoa::Buffer;
 use spl_field::field::NoMemory;
 use spl_fraction::field::Fractions;
 use spl_fraction::fraction::Fraction;
 use spl_fraction::tuples::Tuple;
+use spl_matrix::matrix::Matrix;
 use std::alloc::Global;
 
 /// A space and the number.
-pub(crate) fn push_number(out: &mut Vec<u8>, n: usize) -> Result<(), NoMemory>
+fn push_number(out: &mut Vec<u8>, n: usize) -> Result<(), NoMemory>
     ensures { OnOk result (out.new.items ≡ out.old.items ++ (codes " " ++ decimal n)) }
 {
     let mut buffer = Buffer::new();
@@ -28,13 +34,23 @@ pub(crate) fn push_number(out: &mut Vec<u8>, n: usize) -> Result<(), NoMemory>
 
 /// The word and the numbers of the basis elements.
 pub(crate) fn push_triple(out: &mut Vec<u8>, i: usize, j: usize, k: usize) -> Result<(), NoMemory>
-    ensures { OnOk result (out.new.items
-        ≡ out.old.items ++ line (codes "triple " ++ decimal i ++ codes " " ++ decimal j ++ codes " " ++ decimal k)) }
+    ensures { OnOk result (out.new.items ≡ out.old.items ++ line (line_text (kind_line (Triple i j k)))) }
 {
     out.extend_from_slice(b"triple")?;
     push_number(out, i)?;
     push_number(out, j)?;
     push_number(out, k)?;
+    out.extend_from_slice(b"\n")?;
+    Ok(())
+}
+
+/// The word of an ideal and the number of its tuples.
+pub(crate) fn push_ideal_count(out: &mut Vec<u8>, count: usize) -> Result<(), NoMemory>
+    ensures { OnOk result (out.new.items
+        ≡ out.old.items ++ line (line_text (record { word = IdealWord; numbers = count ∷ []; fractions = [] }))) }
+{
+    out.extend_from_slice(b"ideal")?;
+    push_number(out, count)?;
     out.extend_from_slice(b"\n")?;
     Ok(())
 }
@@ -47,10 +63,11 @@ fn push_fraction(
     out: &mut Vec<u8>,
 ) -> Result<(), NoMemory>
     requires { IsElem (fractions_over (field_of f.now)) x.now }
-    ensures { OnOk result (out.new.items ≡ out.old.items ++ (codes " " ++ canonical_text x.now)) }
+    ensures { OnOk result (out.new.items ≡ out.old.items ++ (codes " " ++ fraction_text (words_of x.now))) }
 {
     out.extend_from_slice(b" ")?;
-    f.write_fraction(alloc, x, out)
+    f.write_fraction(alloc, x, out)?;
+    Ok(())
 }
 
 /// The fractions, a space before each.
@@ -61,7 +78,7 @@ fn push_fractions(
     out: &mut Vec<u8>,
 ) -> Result<(), NoMemory>
     requires { All (IsElem (fractions_over (field_of f.now))) a.now }
-    ensures { OnOk result (out.new.items ≡ out.old.items ++ fractions_text a.now) }
+    ensures { OnOk result (out.new.items ≡ out.old.items ++ fractions_text (map words_of a.now)) }
 {
     for x in a {
         push_fraction(alloc, f, x, out)?;
@@ -77,7 +94,7 @@ pub(crate) fn push_tuple(
     out: &mut Vec<u8>,
 ) -> Result<(), NoMemory>
     requires { All (IsElem (fractions_over (field_of f.now))) a.now }
-    ensures { OnOk result (out.new.items ≡ out.old.items ++ tuple_line a.now) }
+    ensures { OnOk result (out.new.items ≡ out.old.items ++ line (line_text (tuple_line a.now))) }
 {
     out.extend_from_slice(b"tuple")?;
     push_fractions(alloc, f, a.as_slice(), out)?;
@@ -93,7 +110,8 @@ pub(crate) fn push_tuples(
     out: &mut Vec<u8>,
 ) -> Result<(), NoMemory>
     requires { All (All (IsElem (fractions_over (field_of f.now)))) tuples.now }
-    ensures { OnOk result (out.new.items ≡ out.old.items ++ flat_map tuple_line tuples.now) }
+    ensures { OnOk result (out.new.items
+        ≡ out.old.items ++ flat_map (λ a. line (line_text (tuple_line a))) tuples.now) }
 {
     for a in tuples {
         push_tuple(alloc, f, a, out)?;
@@ -105,15 +123,15 @@ pub(crate) fn push_tuples(
 fn push_multiplier(
     alloc: Global,
     f: &Fractions,
-    side: &[u8],
+    side: Word,
     item: &(usize, usize, Fraction),
     out: &mut Vec<u8>,
 ) -> Result<(), NoMemory>
     requires { IsElem (fractions_over (field_of f.now)) item.now.2 }
-    ensures { OnOk result (out.new.items ≡ out.old.items ++ multiplier_line side.now item.now) }
+    ensures { OnOk result (out.new.items ≡ out.old.items ++ line (line_text (multiplier_line side item.now))) }
 {
     let (j, k, x) = item;
-    out.extend_from_slice(side)?;
+    out.extend_from_slice(side.text())?;
     push_number(out, *j)?;
     push_number(out, *k)?;
     push_fraction(alloc, f, x, out)?;
@@ -125,15 +143,105 @@ fn push_multiplier(
 pub(crate) fn push_multipliers(
     alloc: Global,
     f: &Fractions,
-    side: &[u8],
+    side: Word,
     list: &[(usize, usize, Fraction)],
     out: &mut Vec<u8>,
 ) -> Result<(), NoMemory>
     requires { All (λ (item : ℕ × ℕ × Pair ℕ). IsElem (fractions_over (field_of f.now)) item.2) list.now }
-    ensures { OnOk result (out.new.items ≡ out.old.items ++ flat_map (multiplier_line side.now) list.now) }
+    ensures { OnOk result (out.new.items
+        ≡ out.old.items ++ flat_map (λ item. line (line_text (multiplier_line side item))) list.now) }
 {
     for item in list {
         push_multiplier(alloc, f, side, item, out)?;
+    }
+    Ok(())
+}
+
+/// The fractions of the rows, one row after the other.
+fn push_rows(
+    alloc: Global,
+    f: &Fractions,
+    rows: &[Tuple],
+    out: &mut Vec<u8>,
+) -> Result<(), NoMemory>
+    requires { All (All (IsElem (fractions_over (field_of f.now)))) rows.now }
+    ensures { OnOk result (out.new.items
+        ≡ out.old.items ++ fractions_text (map words_of (flat_map (λ row. row) rows.now))) }
+{
+    for row in rows {
+        push_fractions(alloc, f, row.as_slice(), out)?;
+    }
+    Ok(())
+}
+
+/// The line of the matrix of the basis element of this number.
+fn push_map(
+    alloc: Global,
+    f: &Fractions,
+    number: usize,
+    x: &Matrix<Fractions>,
+    out: &mut Vec<u8>,
+) -> Result<(), NoMemory>
+    requires { All (All (IsElem (fractions_over (field_of f.now)))) x.now }
+    ensures { OnOk result (out.new.items ≡ out.old.items ++ line (line_text (map_line number x.now))) }
+{
+    out.extend_from_slice(b"map")?;
+    push_number(out, number)?;
+    push_rows(alloc, f, x.as_slice(), out)?;
+    out.extend_from_slice(b"\n")?;
+    Ok(())
+}
+
+/// The lines of the matrices of all basis elements.
+pub(crate) fn push_maps(
+    alloc: Global,
+    f: &Fractions,
+    maps: &[Matrix<Fractions>],
+    out: &mut Vec<u8>,
+) -> Result<(), NoMemory>
+    requires { All (All (All (IsElem (fractions_over (field_of f.now))))) maps.now }
+    ensures { OnOk result (out.new.items ≡ out.old.items ++ lines_text (map_lines 0 maps.now)) }
+{
+    for i in 0..maps.len() {
+        push_map(alloc, f, i + 1, &maps[i], out)?;
+    }
+    Ok(())
+}
+
+/// The line of the tuple of the matrix unit at row r and column s.
+fn push_unit(
+    alloc: Global,
+    f: &Fractions,
+    r: usize,
+    s: usize,
+    a: &Tuple,
+    out: &mut Vec<u8>,
+) -> Result<(), NoMemory>
+    requires { All (IsElem (fractions_over (field_of f.now))) a.now }
+    ensures { OnOk result (out.new.items ≡ out.old.items ++ line (line_text (unit_line r s a.now))) }
+{
+    out.extend_from_slice(b"unit")?;
+    push_number(out, r)?;
+    push_number(out, s)?;
+    push_fractions(alloc, f, a.as_slice(), out)?;
+    out.extend_from_slice(b"\n")?;
+    Ok(())
+}
+
+/// The lines of the tuples of the matrix units of size n, row by row.
+pub(crate) fn push_units(
+    alloc: Global,
+    f: &Fractions,
+    n: usize,
+    units: &[Tuple],
+    out: &mut Vec<u8>,
+) -> Result<(), NoMemory>
+    requires size { 0 < n }
+    requires elems { All (All (IsElem (fractions_over (field_of f.now)))) units.now }
+    ensures { OnOk result (out.new.items ≡ out.old.items ++ lines_text (unit_lines n 0 units.now)) }
+{
+    for i in 0..units.len() {
+        push_unit(alloc, f, i / n + 1, i % n + 1, &units[i], out)?;
     }
     Ok(())
 }
