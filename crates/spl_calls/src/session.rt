@@ -3,6 +3,7 @@ use crate::{devices, evidences, runs, tables};
 use spl_field::field::NoMemory;
 use spl_fraction::field::Fractions;
 use spl_words::fault::Fault;
+use spl_words::residues::over_residues;
 use spl_words::{args, calls, laws, polynomials, show, small, texts};
 use std::alloc::{AllocError, Global};
 
@@ -198,6 +199,7 @@ impl<'a> Session<'a> {
         let words = self.meanings(alloc, words)?;
         match word {
             "fractions" => call_over_fractions(alloc, &self.fractions, words.as_slice(), out),
+            "residue" => over_residues(alloc, self.fractions.field(), words.as_slice(), out),
             _ => call(alloc, &self.fractions, word, words.as_slice(), out),
         }
     }

@@ -5,6 +5,7 @@ ghost use Rattle.spl_field.specs.SmallField.{small_ops, size_of};
 ghost use Rattle.spl_poly.specs.Operations.{IsOver};
 ghost use Rattle.spl_fraction.specs.Fractions.{field_of};
 ghost use Rattle.spl_fraction.specs.FractionsOver.{fractions_over};
+ghost use Rattle.spl_residue.specs.Residue.{residue_ops};
 
 use crate::fault::Fault;
 use spl_field::small::SmallField;
@@ -12,6 +13,8 @@ use spl_fraction::field::Fractions;
 use spl_fraction::fraction::Fraction;
 use spl_lattice::rows::PolyRow;
 use spl_poly::poly::Poly;
+use spl_residue::elem::ResidueElem;
+use spl_residue::field::ResidueField;
 use spl_text::numbers::{Numbers, numbers_of};
 use spl_text::word::number_of;
 use std::alloc::Global;
@@ -124,4 +127,15 @@ pub fn fraction(alloc: Global, k: &Fractions, word: &str) -> Result<Fraction, Fa
         Some(a) => Ok(a),
         None => Err(Fault::BadLine),
     }
+}
+
+/// An element of a residue field, by the polynomial of smaller degree than the modulus.
+pub fn remainder(alloc: Global, k: &ResidueField, word: &str) -> Result<ResidueElem, Fault>
+    ensures { IfOk result (IsElem (residue_ops k.now)) }
+{
+    let a = poly(alloc, k.field(), word)?;
+    if a.degree() >= k.modulus().degree() {
+        return Err(Fault::BadLine);
+    }
+    Ok(k.reduce_poly(alloc, &a)?)
 }

@@ -1,15 +1,17 @@
 // The fields whose elements can be given and shown: one wording of the calls on lists, matrices and algebras serves
-// both.
+// all.
 ghost use Rattle.std.specs.Prelude.{IfOk};
 ghost use Rattle.theory_rings.specs.Ops.{IsElem};
 
-use crate::args;
 use crate::fault::Fault;
+use crate::{args, show};
 use spl_field::field::{Field, NoMemory};
 use spl_field::small::SmallField;
 use spl_fraction::field::Fractions;
 use spl_fraction::fraction::Fraction;
-use spl_text::writing::push_number;
+use spl_residue::elem::ResidueElem;
+use spl_residue::field::ResidueField;
+use spl_text::writing::{push_coefficients, push_number};
 use std::alloc::Global;
 
 /// A field whose elements are words.
@@ -40,5 +42,16 @@ impl Scalars for Fractions {
 
     fn write(&self, alloc: Global, a: &Fraction, out: &mut Vec<u8>) -> Result<(), NoMemory> {
         self.write_fraction(alloc, a, out)
+    }
+}
+
+impl Scalars for ResidueField {
+    fn read(&self, alloc: Global, word: &str) -> Result<ResidueElem, Fault> {
+        args::remainder(alloc, self, word)
+    }
+
+    fn write(&self, alloc: Global, a: &ResidueElem, out: &mut Vec<u8>) -> Result<(), NoMemory> {
+        let p = self.lift(alloc, a)?;
+        push_coefficients(out, show::coefficients(alloc, &p)?.as_slice())
     }
 }

@@ -90,7 +90,7 @@ pub fn codes(out: &mut Vec<u8>, items: &[u8]) -> Result<(), NoMemory> {
 }
 
 /// The coefficients, lowest first.
-fn coefficients(alloc: Global, p: &Poly) -> Result<Vec<u8>, NoMemory> {
+pub fn coefficients(alloc: Global, p: &Poly) -> Result<Vec<u8>, NoMemory> {
     let mut items = Vec::new(alloc);
     if let Some(degree) = p.degree() {
         for i in 0..=degree {
