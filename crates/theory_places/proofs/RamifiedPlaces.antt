@@ -246,17 +246,20 @@ module _ {E : Type 0} (o : Ops E) (L : FieldLaws o) (M : FieldLaws (fraction_ops
 
   x_is_place : IsPlace o (Finite x_place)
   x_is_place = record {
-    polynomial = x_is_here;
+    irreducible = record {
+      polynomial = x_is_here;
+      positive = omega arith;
+      no_factors = λ u v hu hv lu lv e.
+          let P = field_polynomials F in
+          let du = degree-polynomial_of o L u hu in
+          let dv = degree-polynomial_of o L v hv in
+          let d = ap (λ (t : Poly F.cring). degree t.0) (sym x_poly_here)
+          ∙ degree-polynomial_of o L x_place x_is_here in
+          let i = (variable_place F Q HQ).1 in
+          i.no_factors (polynomial_of o L u) (polynomial_of o L v) (omega arith) (omega arith)
+          (sym x_poly_here ∙ poly-mul o L u v x_place hu.over hv.over x_is_here.over e);
+    };
     monic = refl;
-    positive = omega arith;
-    no_factors = λ u v hu hv lu lv e.
-        let P = field_polynomials F in
-        let du = degree-polynomial_of o L u hu in
-        let dv = degree-polynomial_of o L v hv in
-        let d = ap (λ (t : Poly F.cring). degree t.0) (sym x_poly_here) ∙ degree-polynomial_of o L x_place x_is_here in
-        let i = (variable_place F Q HQ).1 in
-        i.no_factors (polynomial_of o L u) (polynomial_of o L v) (omega arith) (omega arith)
-        (sym x_poly_here ∙ poly-mul o L u v x_place hu.over hv.over x_is_here.over e);
   }
 
   constant_at_x : IsIntegral Q

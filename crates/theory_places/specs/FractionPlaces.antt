@@ -1,6 +1,6 @@
 -- The places of the fractions over a program's field, where polynomials are lists of coefficients. (Reiner, Maximal
 -- Orders, section 4.)
-use Rattle.std.specs.Prelude.{◌≡◌, ℕ, ◌<◌, ◌≤◌, IsTrue, ◌⊎◌, ◌↔◌, List, [], ◌∷◌}
+use Rattle.std.specs.Prelude.{◌≡◌, ℕ, ◌≤◌, IsTrue, ◌⊎◌, ◌↔◌, List, [], ◌∷◌}
 use Rattle.theory_rings.specs.Ring.{FieldOn}
 use Rattle.theory_rings.specs.Ops.{Ops, FieldLaws}
 use Rattle.theory_rings.specs.Elements.{Elem, elements}
@@ -15,9 +15,10 @@ use Rattle.theory_tables.specs.Structure.{Structure}
 use Rattle.theory_tables.specs.Ramified.{RamifiedTable}
 use Rattle.theory_tables.specs.Split.{IsSplit}
 use Rattle.theory_residue.specs.Residue.{ResidueOn}
-use Rattle.theory_fractions.specs.PolynomialLists.{IsPolynomialList, IsProduct, Divides}
+use Rattle.theory_fractions.specs.PolynomialLists.{IsPolynomialList, Divides}
 use Rattle.theory_fractions.specs.Fraction.{Pair, IsFraction}
 use Rattle.theory_fractions.specs.FractionOps.{polynomial_of, fraction_ops}
+use Rattle.theory_remainders.specs.Irreducible.{IsIrreducible}
 use Rattle.theory_places.specs.Places.{PlaceOf, Finite, Infinite}
 
 module _ {E : Type 0} (o : Ops E) where
@@ -41,12 +42,9 @@ module _ {E : Type 0} (o : Ops E) where
 
   -- monic, of degree at least 1, and no product of two polynomials of smaller degree
   pub record IsMonicIrreducible (m : List E) : Type 0 where
-    pub polynomial : IsPolynomialList o m
+    pub irreducible : IsIrreducible o m
+    pub open irreducible use {polynomial, positive, no_factors}
     pub monic : at o m (degree m) ≡ o.one
-    pub positive : 1 ≤ degree m
-    pub no_factors : (a b : List E) → IsPolynomialList o a → IsPolynomialList o b → degree a < degree m
-        → degree b < degree m
-        → IsProduct o a b m → ⊥
 
   -- the polynomial of a place is monic and irreducible
   abbrev pub IsPlace : PlaceOf (List E) → Type 0
