@@ -1,2 +1,3 @@
 pub mod GreatestDivisors
 pub mod Combinations
+pub mod RowSteps

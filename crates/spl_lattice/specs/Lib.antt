@@ -1,2 +1,3 @@
 pub mod Ideal
 pub mod Steps
+pub mod Reduction

@@ -1,0 +1,61 @@
+-- The steps of the reduction of rows, on lists.
+use Rattle.std.specs.Prelude.{◌≡◌, ℕ, ℤ, ◌<◌, ◌≤◌, ◌⊎◌, List, [], ◌++◌, length, get_or, slice_set}
+use Rattle.std.specs.List.{All}
+use Rattle.theory_rings.specs.Ops.{Ops}
+use Rattle.theory_rings.specs.Sum.{at}
+use Rattle.theory_rings.specs.Polynomial.{IsTrimmed}
+use Rattle.spl_poly.specs.Operations.{IsOver, IsDivision}
+use Rattle.theory_rows.specs.Rows.{IsPolynomialRow, IsPolynomialMatrix, IsUnimodularImage}
+use Rattle.theory_rows.specs.LeadingPositions.{HaveLeadingPositions, IsZeroUpTo}
+use Rattle.spl_lattice.specs.Steps.{IsSumWithMultiple}
+
+module _ {E : Type 0} (o : Ops E) where
+  -- r is -a
+  abbrev pub IsNegative : List E → List E → Type 0
+  IsNegative a r = (k : ℕ) → at o r k ≡ o.neg (at o a k)
+
+  -- the new row is the old one and m times another
+  pub record IsRowWithMultiple (row : List (List E)) (m : List E) (by new : List (List E)) : Type 0 where
+    pub count : length new ≡ length row
+    pub entries : (j : ℕ) → j < length row → IsSumWithMultiple o (get_or row j []) m (get_or by j []) (get_or new j [])
+
+  -- the new row is the old one less q times another, where q is the quotient of their entries at p
+  pub record IsRowRest (p : ℕ) (row by new : List (List E)) : Type 0 where
+    pub quotient : List E
+    pub rest : List E
+    pub multiple : List E
+    pub quotient_over : IsOver o quotient
+    pub rest_over : IsOver o rest
+    pub rest_trimmed : IsTrimmed o.zero rest
+    pub multiple_over : IsOver o multiple
+    pub division : IsDivision o (get_or row p []) (get_or by p []) quotient rest
+    pub negative : IsNegative quotient multiple
+    pub whole : IsRowWithMultiple row multiple by new
+
+  -- reduced rows in the first w of v columns, with their leading positions, and rows that are 0 there
+  pub record IsSplit (w v : ℕ) (basis : List (List (List E))) (places : List ℕ) (zeros : List (List (List E))) : Type 0
+      where
+    pub basis_rows : IsPolynomialMatrix o v basis
+    pub zero_rows : IsPolynomialMatrix o v zeros
+    pub positions : HaveLeadingPositions w basis places
+    pub zero : All (IsZeroUpTo w) zeros
+
+  -- such rows, by an invertible transform of the given ones
+  pub record IsSplitOf (w v : ℕ) (rows basis : List (List (List E))) (places : List ℕ) (zeros : List (List (List E)))
+      : Type 0 where
+    pub split : IsSplit w v basis places zeros
+    pub image : IsUnimodularImage o v rows (basis ++ zeros)
+
+-- of the entries before j the one at p is of the greatest degree, and those after it are of smaller degree; before the
+-- first, p is 0
+pub record LeadsSoFar {E : Type 0} (j : ℕ) (row : List (List E)) (p : ℕ) : Type 0 where
+  pub inside : (p ≡ 0) ⊎ (p < j)
+  pub within : (i : ℕ) → i < j → length (get_or row i []) ≤ length (get_or row p [])
+  pub after : (i : ℕ) → i < j → p < i → length (get_or row i []) < length (get_or row p [])
+
+-- of the row and that of the basis at i, that of smaller degree at p stands in the basis, and the other is the new row
+pub record IsLowerKept {E : Type 0} (p i : ℕ) (basis : List (List (List E))) (row : List (List E))
+    (new_basis : List (List (List E))) (new_row : List (List E)) : Type 0 where
+  pub lower : length (get_or (get_or new_basis i []) p []) ≤ length (get_or new_row p [])
+  pub either : ((new_basis ≡ basis) × (new_row ≡ row))
+      ⊎ ((new_basis ≡ slice_set basis i row) × (new_row ≡ get_or basis i []))
