@@ -1,3 +1,4 @@
 pub mod GreatestDivisors
 pub mod Combinations
 pub mod RowSteps
+pub mod RowReduction

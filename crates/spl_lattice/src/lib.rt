@@ -11,4 +11,5 @@ pub mod matrix;
 mod positions;
 
 pub mod rows;
+mod splits;
 mod steps;
