@@ -5,6 +5,7 @@
 // theory_rows/specs/Rows, then `reduce`.
 #![tactic(auto)]
 
+mod augmented;
 mod euclid;
 pub mod generator;
 pub mod matrix;

@@ -21,7 +21,7 @@ use Rattle.theory_spaces.proofs.Linear.Modules.{comb_congr, comb-comb, InSpan-me
 use Rattle.theory_rows.specs.Rows.{IsPolynomialRow, IsPolynomialMatrix, IsRowCombination, InRowLattice, InRowKernel}
 use Rattle.theory_rows.specs.Rows.{IsLatticeBasis, SameRowLattice, IsRowTransform}
 use Rattle.theory_rows.specs.LeadingPositions.{HaveLeadingPositions, IsZeroUpTo}
-use Rattle.theory_rows.specs.Augmented.{heads_of, tails_of, unit_row, with_units}
+use Rattle.theory_rows.specs.Augmented.{heads_of, tails_of, extended_by, unit_row, unit_rows}
 use Rattle.theory_rows.proofs.Transforms.{Transformed}
 use Rattle.theory_rows.proofs.LiftedRows.{G, Q, M, up, up_row, up_rows, comb_at, row_at, entry-over, entry_past}
 use Rattle.theory_rows.proofs.LiftedRows.{matrix-over, row-nil, up_combination, combination_of_up, up_row-nil, row_unique}
@@ -49,26 +49,27 @@ module _ {E : Type 0} (o : Ops E) (L : FieldLaws o) where
     n = length rows
 
     abbrev X : List (List (List E))
-    X = with_units o rows
+    X = extended_by rows (unit_rows o.one n)
 
     X-length : length X ≡ n
-    X-length = length-table n (λ i. get_or rows i [] ++ unit_row o n i)
+    X-length = length-table n (λ i. get_or rows i [] ++ get_or (unit_rows o.one n) i [])
 
-    X-row : (i : ℕ) → i < n → get_or X i [] ≡ get_or rows i [] ++ unit_row o n i
-    X-row i l = get_or-table n (λ i. get_or rows i [] ++ unit_row o n i) i [] l
+    X-row : (i : ℕ) → i < n → get_or X i [] ≡ get_or rows i [] ++ unit_row o.one n i
+    X-row i l = get_or-table n (λ i. get_or rows i [] ++ get_or (unit_rows o.one n) i []) i [] l
+        ∙ ap (λ r. get_or rows i [] ++ r) (get_or-table n (λ i. unit_row o.one n i) i [] l)
 
     module _ (w : ℕ) (hr : IsPolynomialMatrix o w rows) where
       X-head : (i j : ℕ) → i < n → j < w → get_or (get_or X i []) j [] ≡ get_or (get_or rows i []) j []
       X-head i j l g = ap (λ r. get_or r j []) (X-row i l)
-          ∙ get_or_append_left (get_or rows i []) (unit_row o n i) [] j
+          ∙ get_or_append_left (get_or rows i []) (unit_row o.one n i) [] j
           (let e = row_at o L w rows hr i l in let q = e.width in omega arith)
 
       X-tail : (i k : ℕ) → i < n → k < n → get_or (get_or X i []) (w + k) [] ≡ cond (nat_eq k i) (o.one ∷ []) []
       X-tail i k l g =
           let e = row_at o L w rows hr i l in
           ap (λ r. get_or r (w + k) []) (X-row i l)
-          ∙ ap (λ q. get_or (get_or rows i [] ++ unit_row o n i) (q + k) []) (sym e.width)
-          ∙ get_or-append-add (get_or rows i []) (unit_row o n i) k []
+          ∙ ap (λ q. get_or (get_or rows i [] ++ unit_row o.one n i) (q + k) []) (sym e.width)
+          ∙ get_or-append-add (get_or rows i []) (unit_row o.one n i) k []
           ∙ get_or-table n (λ k. cond (nat_eq k i) (o.one ∷ []) []) k [] g
 
       tail_weight : (c : Weights o L) (k : ℕ) → k < n → comb (N o L) n c (up_rows o L X) (w + k) ≡ c k

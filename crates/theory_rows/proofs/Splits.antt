@@ -5,12 +5,12 @@ use Rattle.std.specs.List.{All}
 use Rattle.std.proofs.Common.{refl, sym, ◌∙◌, ap, ap₂, subst, arith, ⊎_elim, min}
 use Rattle.std.proofs.lemmas.Bool.{cases_lt}
 use Rattle.std.proofs.lemmas.List.{get_or_append_left, length-append, get_or-append-add, get_or-drop, get_or-take}
-use Rattle.std.proofs.lemmas.List.{length-drop, length-take-le, get_or_past}
+use Rattle.std.proofs.lemmas.List.{length-drop, length-take-le, append-nil, ext_get_or}
 use Rattle.std.proofs.lemmas.List.Elements.{All-drop, All-take}
 use Rattle.std.proofs.Math.Path.{fun_ext}
 use Rattle.theory_rings.specs.Ring.{CommRingOn}
 use Rattle.theory_rings.specs.Ops.{Ops, FieldLaws}
-use Rattle.theory_rings.specs.Sum.{sum}
+use Rattle.theory_rings.specs.Sum.{sum, table}
 use Rattle.theory_rings.specs.Polynomial.{Poly, IsTrimmed}
 use Rattle.theory_rings.proofs.Rings.RingLaws.{add-zero, mul-zero}
 use Rattle.theory_rings.proofs.Sums.Sums.{sum_congr, sum_eq_zero, sum-split}
@@ -23,7 +23,7 @@ use Rattle.theory_spaces.proofs.Linear.Families.{join, join-below, join-above}
 use Rattle.theory_spaces.proofs.Linear.Modules.{comb_congr, comb_zero}
 use Rattle.theory_rows.specs.Rows.{IsPolynomialRow, IsPolynomialMatrix}
 use Rattle.theory_rows.specs.LeadingPositions.{HasLeadingPosition, HaveLeadingPositions, IsZeroUpTo}
-use Rattle.theory_rows.specs.Augmented.{heads_of, tails_of}
+use Rattle.theory_rows.specs.Augmented.{heads_of, tails_of, extended_by, zero_rows}
 use Rattle.theory_rows.proofs.LiftedRows.{G, Q, M, up, up_row, up_rows, comb_at, row_at, entry_past}
 use Rattle.theory_rows.proofs.Positions.{no_weight}
 
@@ -195,3 +195,15 @@ module _ {E : Type 0} (o : Ops E) (L : FieldLaws o) where
             within = λ j q. let x = g.within j q in let y = ap length (heads-entry w rows i j l q) in omega arith;
             after = λ j q k. let x = g.after j q k in let y = ap length (heads-entry w rows i j l q) in omega arith;
           }
+
+-- each row followed by nothing
+pub extended_by_nothing : {E : Type 0} (rows : List (List (List E)))
+    → extended_by rows (zero_rows (length rows) 0) ≡ rows
+extended_by_nothing {E} rows = ext_get_or [] (extended_by rows (zero_rows (length rows) 0)) rows
+    (length-table (length rows) f)
+    (λ i l. let g : i < length rows = omega (arith, l, length-table (length rows) f) in
+    get_or-table (length rows) f i [] g
+    ∙ ap (λ r. get_or rows i [] ++ r) (get_or-table (length rows) (λ _. []) i [] g) ∙ append-nil (get_or rows i []))
+  where
+    f : ℕ → List (List E)
+    f i = get_or rows i [] ++ get_or (zero_rows (length rows) 0) i []

@@ -19,11 +19,11 @@ use Rattle.theory_spaces.proofs.Linear.Modules.{InSpan-add, InSpan-neg, InSpan-z
 use Rattle.theory_rows.specs.Rows.{IsPolynomialRow, IsPolynomialMatrix, InRowLattice, SameRowLattice, IsLatticeBasis}
 use Rattle.theory_rows.specs.Rows.{InLatticeSum, InLatticeMeet, RowsAreIndependent}
 use Rattle.theory_rows.specs.LeadingPositions.{HaveLeadingPositions, IsZeroUpTo}
-use Rattle.theory_rows.specs.Augmented.{tails_of, zero_row, doubled, with_zeros}
+use Rattle.theory_rows.specs.Augmented.{tails_of, extended_by, zero_row, zero_rows}
 use Rattle.theory_rows.proofs.Transforms.{Transformed}
 use Rattle.theory_rows.proofs.LiftedRows.{G, Q, M, up, up_row, up_rows, row_at, entry-over, entry_past, matrix-over}
 use Rattle.theory_rows.proofs.LiftedRows.{span_of_lattice, lattice_of_span, independent_of_up, up_independent, row_of}
-use Rattle.theory_rows.proofs.LiftedRows.{row_of-row, up-row_of}
+use Rattle.theory_rows.proofs.LiftedRows.{row_of-row, up-row_of, same_of_spans}
 use Rattle.theory_rows.proofs.Positions.{reduced_independent}
 use Rattle.theory_rows.proofs.Insertion.{RowsTransformed}
 use Rattle.theory_rows.proofs.Splits.{P, N, Weights, comb_of, comb-append, comb_past, zero_column, column_congr}
@@ -80,9 +80,9 @@ module _ {E : Type 0} (o : Ops E) (L : FieldLaws o) where
 
   -- ---- the sum
 
-  module _ (w : ℕ) (a b basis zeros : Rows) (places : List ℕ) (ha : IsPolynomialMatrix o w a)
-      (hb : IsPolynomialMatrix o w b) (hB : IsPolynomialMatrix o w basis) (hZ : IsPolynomialMatrix o w zeros)
-      (t : RowsTransformed o L (a ++ b) (basis ++ zeros)) (hp : HaveLeadingPositions w basis places)
+  module _ (w : ℕ) (X basis zeros : Rows) (places : List ℕ) (hX : IsPolynomialMatrix o w X)
+      (hB : IsPolynomialMatrix o w basis) (hZ : IsPolynomialMatrix o w zeros)
+      (t : RowsTransformed o L X (basis ++ zeros)) (hp : HaveLeadingPositions w basis places)
       (z : (i : ℕ) → i < length zeros → IsZeroUpTo w (get_or zeros i [])) where
     -- the zero rows add nothing
     in_basis : (i : ℕ) → i < length (basis ++ zeros) → Spans basis (up_rows o L (basis ++ zeros) i)
@@ -101,22 +101,34 @@ module _ {E : Type 0} (o : Ops E) (L : FieldLaws o) where
         ∙ lift_nil o L)))
         (InSpan-zero (N o L) (length basis) (up_rows o L basis))) (cases_lt i (length basis))
 
+    -- the reduced rows have the lattice of the rows
+    pub basis_same : SameRowLattice o w X basis
+    basis_same = same_of_spans o L w X basis hX hB
+        (λ i l. InSpan_trans (N o L) (length (basis ++ zeros)) (length basis) (up_rows o L (basis ++ zeros))
+        (up_rows o L basis) (up_rows o L X i) in_basis (t.forth i l))
+        (λ i l. InSpan_trans (N o L) (length (basis ++ zeros)) (length X) (up_rows o L (basis ++ zeros)) (up_rows o L X)
+        (up_rows o L basis i) t.back
+        (span_left basis zeros (up_rows o L basis i) (InSpan-member (N o L) (length basis) i (up_rows o L basis) l)))
+
+    pub basis_independent : RowsAreIndependent o basis
+    basis_independent = reduced_independent o L w basis places hB hp
+
+  -- the lattice of the rows of both is the sum
+  module _ (w : ℕ) (a b basis : Rows) (ha : IsPolynomialMatrix o w a) (hb : IsPolynomialMatrix o w b)
+      (hB : IsPolynomialMatrix o w basis) (f : RowsAreIndependent o basis) (same : SameRowLattice o w (a ++ b) basis) where
+    hab : IsPolynomialMatrix o w (a ++ b)
+    hab = All-append (IsPolynomialRow o w) a b ha hb
+
     sum_in : (x : List (List E)) → IsPolynomialRow o w x → InLatticeSum o w a b x → InRowLattice o basis x
-    sum_in x hx h = lattice_of_span o L w basis hB x hx
-        (InSpan_trans (N o L) (length (basis ++ zeros)) (length basis) (up_rows o L (basis ++ zeros)) (up_rows o L basis)
-        (up_row o L x) in_basis
-        (InSpan_trans (N o L) (length (a ++ b)) (length (basis ++ zeros)) (up_rows o L (a ++ b))
-        (up_rows o L (basis ++ zeros)) (up_row o L x) t.forth
+    sum_in x hx h = (same x hx).0 (lattice_of_span o L w (a ++ b) hab x hx
         (subst (Spans (a ++ b)) (sym (up_sum w h.left h.right x h.left_row h.right_row hx h.sum))
         (InSpan-add (N o L) (length (a ++ b)) (up_rows o L (a ++ b)) (up_row o L h.left) (up_row o L h.right)
         (span_left a b (up_row o L h.left) (span_of_lattice o L w a ha h.left h.left_row h.left_in))
-        (span_right a b (up_row o L h.right) (span_of_lattice o L w b hb h.right h.right_row h.right_in))))))
+        (span_right a b (up_row o L h.right) (span_of_lattice o L w b hb h.right h.right_row h.right_in)))))
 
     sum_back : (x : List (List E)) → IsPolynomialRow o w x → InRowLattice o basis x → InLatticeSum o w a b x
     sum_back x hx h =
-        let s = InSpan_trans (N o L) (length (basis ++ zeros)) (length (a ++ b)) (up_rows o L (basis ++ zeros))
-        (up_rows o L (a ++ b)) (up_row o L x) t.back
-        (span_left basis zeros (up_row o L x) (span_of_lattice o L w basis hB x hx h)) in
+        let s = span_of_lattice o L w (a ++ b) hab x hx ((same x hx).1 h) in
         let u = comb_of o L a s.weights in
         let v = comb_of o L b (λ k. s.weights (length a + k)) in
         let eu = up_row_of w u (comb_past o L w a ha s.weights) in
@@ -135,21 +147,29 @@ module _ {E : Type 0} (o : Ops E) (L : FieldLaws o) where
         }
 
     pub sum_basis : IsLatticeBasis o w (InLatticeSum o w a b) basis
-    sum_basis = record {
-      matrix = hB;
-      independent = reduced_independent o L w basis places hB hp;
-      members = λ x hx. (sum_in x hx, sum_back x hx);
-    }
+    sum_basis = record { matrix = hB; independent = f; members = λ x hx. (sum_in x hx, sum_back x hx) }
+
+  -- a basis of the meet of equal lattices
+  pub meet_same : (w : ℕ) (a b c d k : Rows) → SameRowLattice o w a c → SameRowLattice o w b d
+      → IsLatticeBasis o w (InLatticeMeet o c d) k → IsLatticeBasis o w (InLatticeMeet o a b) k
+  meet_same w a b c d k e g h = record {
+    matrix = h.matrix;
+    independent = h.independent;
+    members = λ x hx. (
+      λ m. (h.members x hx).0 ((e x hx).0 m.0, (g x hx).0 m.1),
+      λ m. let q = (h.members x hx).1 m in ((e x hx).1 q.0, (g x hx).1 q.1),
+    );
+  }
 
   -- ---- the meet
 
   module _ (w : ℕ) (a b : Rows) (ha : IsPolynomialMatrix o w a) (hb : IsPolynomialMatrix o w b)
       (fa : RowsAreIndependent o a) (fb : RowsAreIndependent o b) where
     abbrev AA : Rows
-    AA = doubled a
+    AA = extended_by a a
 
     abbrev BO : Rows
-    BO = with_zeros w b
+    BO = extended_by b (zero_rows (length b) w)
 
     abbrev X : Rows
     X = AA ++ BO
@@ -158,13 +178,14 @@ module _ {E : Type 0} (o : Ops E) (L : FieldLaws o) where
     AA-row i l = get_or-table (length a) (λ i. get_or a i [] ++ get_or a i []) i [] l
 
     BO-row : (i : ℕ) → i < length b → get_or BO i [] ≡ get_or b i [] ++ zero_row w
-    BO-row i l = get_or-table (length b) (λ i. get_or b i [] ++ zero_row w) i [] l
+    BO-row i l = get_or-table (length b) (λ i. get_or b i [] ++ get_or (zero_rows (length b) w) i []) i [] l
+        ∙ ap (λ r. get_or b i [] ++ r) (get_or-table (length b) (λ _. zero_row w) i [] l)
 
     AA-length : length AA ≡ length a
     AA-length = length-table (length a) (λ i. get_or a i [] ++ get_or a i [])
 
     BO-length : length BO ≡ length b
-    BO-length = length-table (length b) (λ i. get_or b i [] ++ zero_row w)
+    BO-length = length-table (length b) (λ i. get_or b i [] ++ get_or (zero_rows (length b) w) i [])
 
     first : (r s : List (List E)) (j : ℕ) → IsPolynomialRow o w r → j < w → get_or (r ++ s) j [] ≡ get_or r j []
     first r s j h l = get_or_append_left r s [] j (let e = h.width in omega arith)

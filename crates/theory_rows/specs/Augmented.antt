@@ -1,6 +1,5 @@
 -- Rows with further columns, by which the reduction of the first ones keeps what became of the rows.
 use Rattle.std.specs.Prelude.{ℕ, List, [], ◌∷◌, ◌++◌, length, get_or, take, drop, cond, nat_eq}
-use Rattle.theory_rings.specs.Ops.{Ops}
 use Rattle.theory_rings.specs.Sum.{table}
 
 -- the columns of the rows up to w, and those from w on
@@ -10,23 +9,22 @@ heads_of w rows = table (length rows) (λ i. take w (get_or rows i []))
 abbrev pub tails_of : {X : Type 0} → ℕ → List (List X) → List (List X)
 tails_of w rows = table (length rows) (λ i. drop w (get_or rows i []))
 
--- n polynomials 0
-abbrev pub zero_row : {E : Type 0} → ℕ → List (List E)
-zero_row n = table n (λ _. [])
+-- each row, and then the row of the second list at the same place
+abbrev pub extended_by : {X : Type 0} → List (List X) → List (List X) → List (List X)
+extended_by rows tails = table (length rows) (λ i. get_or rows i [] ++ get_or tails i [])
 
-module _ {E : Type 0} (o : Ops E) where
-  -- n polynomials, of which that at place i is 1 and the others are 0
-  abbrev pub unit_row : ℕ → ℕ → List (List E)
-  unit_row n i = table n (λ k. cond (nat_eq k i) (o.one ∷ []) [])
+module _ {E : Type 0} where
+  -- n polynomials 0
+  abbrev pub zero_row : ℕ → List (List E)
+  zero_row n = table n (λ _. [])
 
-  -- each row, and then its unit row
-  abbrev pub with_units : List (List (List E)) → List (List (List E))
-  with_units rows = table (length rows) (λ i. get_or rows i [] ++ unit_row (length rows) i)
+  -- n polynomials, of which that at place i is 1 and the others are 0, by a 1
+  abbrev pub unit_row : E → ℕ → ℕ → List (List E)
+  unit_row one n i = table n (λ k. cond (nat_eq k i) (one ∷ []) [])
 
--- each row, and then itself
-abbrev pub doubled : {E : Type 0} → List (List (List E)) → List (List (List E))
-doubled rows = table (length rows) (λ i. get_or rows i [] ++ get_or rows i [])
+  -- n rows of w zeros, and the n unit rows
+  abbrev pub zero_rows : ℕ → ℕ → List (List (List E))
+  zero_rows n w = table n (λ _. zero_row w)
 
--- each row, and then w zeros
-abbrev pub with_zeros : {E : Type 0} → ℕ → List (List (List E)) → List (List (List E))
-with_zeros w rows = table (length rows) (λ i. get_or rows i [] ++ zero_row w)
+  abbrev pub unit_rows : E → ℕ → List (List (List E))
+  unit_rows one n = table n (λ i. unit_row one n i)
