@@ -2,3 +2,4 @@ pub mod GreatestDivisors
 pub mod Combinations
 pub mod RowSteps
 pub mod RowReduction
+pub mod ExtendedRows
