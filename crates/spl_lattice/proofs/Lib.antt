@@ -3,3 +3,4 @@ pub mod Combinations
 pub mod RowSteps
 pub mod RowReduction
 pub mod ExtendedRows
+pub mod RowLattices

@@ -1,3 +1,4 @@
 pub mod Ideal
 pub mod Steps
 pub mod Reduction
+pub mod ReducedForm

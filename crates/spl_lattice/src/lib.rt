@@ -8,9 +8,11 @@
 mod augmented;
 mod euclid;
 pub mod generator;
+pub mod lattices;
 pub mod matrix;
 mod positions;
 
+pub mod reduced;
 pub mod rows;
 mod splits;
 mod steps;

@@ -25,12 +25,16 @@ module _ {E : Type 0} where
   abbrev pub row_degree : List (List (List E)) → List ℕ → ℕ → ℕ
   row_degree rows places i = degree (get_or (get_or rows i []) (get_or places i 0) [])
 
+  -- the numbers are the degrees of the rows
+  pub record HaveRowDegrees (rows : List (List (List E))) (places : List ℕ) (degrees : List ℤ) : Type 0 where
+    pub count : length degrees ≡ length rows
+    pub degree-is : (i : ℕ) → i < length rows → get_or degrees i (pos 0) ≡ pos (row_degree rows places i)
+
   -- weak Popov form without zero rows: the leading positions differ; with the degrees of the rows
   pub record AreReducedRows (w : ℕ) (rows : List (List (List E))) (degrees : List ℤ) : Type 0 where
     pub places : List ℕ
     pub positions : HaveLeadingPositions w rows places
-    pub count : length degrees ≡ length rows
-    pub degree-is : (i : ℕ) → i < length rows → get_or degrees i (pos 0) ≡ pos (row_degree rows places i)
+    pub degrees_are : HaveRowDegrees rows places degrees
 
   -- the combination x with weights c leads where a row does; its degree is the sum of those of the weight and the row
   -- there, and that is the greatest such sum
