@@ -1,9 +1,11 @@
 -- What the reduction of rows with further columns gives: reduced rows with their transform, kernels, sums and meets of
 -- row lattices, on lists over a program's field.
-use Rattle.std.specs.Prelude.{◌≡◌, ℕ, suc, ◌+◌, ◌<◌, ◌≤◌, Bool, true, false, cond, nat_eq, List, [], ◌∷◌, ◌++◌, length, get_or}
+use Rattle.std.specs.Prelude.{◌≡◌, ℕ, ℤ, pos, suc, ◌+◌, ◌<◌, ◌≤◌, Bool, true, false, cond, nat_eq, List, [], ◌∷◌, ◌++◌, length, get_or}
 use Rattle.std.specs.List.{All}
-use Rattle.std.proofs.Common.{refl, sym, ◌∙◌, ap, subst, arith}
-use Rattle.std.proofs.lemmas.List.{append_assoc, append-nil}
+use Rattle.std.proofs.Common.{refl, sym, ◌∙◌, ap, subst, arith, ⊎_elim}
+use Rattle.std.proofs.lemmas.Bool.{cases_lt}
+use Rattle.std.proofs.lemmas.List.{append_assoc, append-nil, get_or_past, get_or_append_left, length-append}
+use Rattle.std.proofs.Math.Seq.{get_or-append_seam}
 use Rattle.std.proofs.lemmas.List.Elements.{All-nil, All-cons, All-append, All-get_or, All-push}
 use Rattle.theory_rings.specs.Ops.{Ops, IsElem, FieldLaws}
 use Rattle.theory_rings.specs.Sum.{table}
@@ -13,13 +15,14 @@ use Rattle.theory_tables.specs.Matrix.{width_of}
 use Rattle.theory_rows.specs.Rows.{IsPolynomialRow, IsPolynomialMatrix, IsUnimodularImage, SameRowLattice}
 use Rattle.theory_rows.specs.Rows.{IsRowTransform, IsLatticeBasis, InRowKernel, InLatticeSum, InLatticeMeet}
 use Rattle.theory_rows.specs.Rows.{RowsAreIndependent}
-use Rattle.theory_rows.specs.LeadingPositions.{HasLeadingPosition, HaveLeadingPositions, IsZeroUpTo}
+use Rattle.theory_rows.specs.LeadingPositions.{HasLeadingPosition, HaveLeadingPositions, IsZeroUpTo, HaveRowDegrees}
+use Rattle.theory_rows.specs.LeadingPositions.{AreReducedRows, row_degree}
 use Rattle.theory_rows.specs.Augmented.{heads_of, tails_of, extended_by, zero_row, zero_rows, unit_row, unit_rows}
-use Rattle.theory_rows.proofs.LiftedRows.{image_of_up, up_image}
+use Rattle.theory_rows.proofs.LiftedRows.{image_of_up, up_image, row_at}
 use Rattle.theory_rows.proofs.Insertion.{RowsTransformed, transformed-more}
 use Rattle.theory_rows.proofs.Kernels.{kernel_basis, heads_same, heads_transform, heads_matrix, heads_positions}
 use Rattle.theory_rows.proofs.SumsAndMeets.{basis_same, basis_independent, sum_basis, meet_same, meet_basis}
-use Rattle.theory_rows.proofs.Splits.{extended_by_nothing}
+use Rattle.theory_rows.proofs.Splits.{extended_by_nothing, heads-positions, heads-matrix}
 use Rattle.spl_poly.specs.Operations.{IsOver}
 use Rattle.spl_lattice.specs.Reduction.{IsSplit, IsSplitOf}
 use Rattle.spl_lattice.proofs.RowReduction.{image_trans, image_refl}
@@ -28,6 +31,26 @@ use Rattle.spl_lattice.proofs.ExtendedRows.{both_rows, both_polynomials}
 either_way : {X : Type 0} (P : X → Type 0) (b : Bool) (x y : X) → P x → P y → P (cond b x y)
 either_way P true x y h g = h
 either_way P false x y h g = g
+
+-- an entry that is not 0 is within the row
+pub length_of_entry : {X : Type 0} (row : List (List X)) (p : ℕ) → 0 < length (get_or row p []) → p < length row
+length_of_entry row p n = ⊎_elim (λ (l : p < length row). l)
+    (λ (l : length row ≤ p). let e = ap length (get_or_past row p [] l) in absurd (omega arith)) (cases_lt p (length row))
+
+-- the degrees of one more row
+pub degrees_pushed : {E : Type 0} (rows : List (List (List E))) (places : List ℕ) (i : ℕ) (ds new : List ℤ) (d : ℤ)
+    → length ds ≡ i → ((k : ℕ) → k < i → get_or ds k (pos 0) ≡ pos (row_degree rows places k)) → new ≡ ds ++ d ∷ []
+    → d ≡ pos (row_degree rows places i)
+    → record { count : length new ≡ i + 1; each : (k : ℕ) → k < i + 1 → get_or new k (pos 0) ≡ pos (row_degree rows places k) }
+degrees_pushed rows places i ds new d n h e ed = record {
+  count = ap length e ∙ length-append ds (d ∷ []) ∙ ap (λ m. m + 1) n;
+  each = λ k l. ⊎_elim
+      (λ (g : k < i). ap (λ xs. get_or xs k (pos 0)) e ∙ get_or_append_left ds (d ∷ []) (pos 0) k (omega (arith, g, n)) ∙ h k g)
+      (λ (g : i ≤ k). let q : length ds ≡ k = omega (arith, g, l, n) in
+      let q' : i ≡ k = omega arith in
+      ap (λ xs. get_or xs k (pos 0)) e ∙ ap (λ m. get_or (ds ++ d ∷ []) m (pos 0)) (sym q)
+      ∙ get_or-append_seam ds d [] (pos 0) ∙ ed ∙ ap (λ m. pos (row_degree rows places m)) q') (cases_lt k i);
+}
 
 -- the first w entries of rows of one width are all that they have
 pub positions_of_width : {E : Type 0} (w : ℕ) (rows : List (List (List E))) (places : List ℕ)
@@ -91,6 +114,39 @@ module _ {E : Type 0} (o : Ops E) (L : FieldLaws o) where
     positions = record { count = refl; leads = λ i l. absurd (omega arith); differ = λ i k l g e. absurd (omega arith) };
     zero = All-nil (IsZeroUpTo w);
   }
+
+  pub split_read : (w v : ℕ) (basis : Rows) (places : List ℕ) (zeros : Rows) → basis ≡ [] → places ≡ [] → zeros ≡ []
+      → IsSplit o w v basis places zeros
+  split_read w v basis places zeros eb ep ez = subst (λ b. IsSplit o w v b places zeros) (sym eb)
+      (subst (λ q. IsSplit o w v [] q zeros) (sym ep) (subst (IsSplit o w v [] []) (sym ez) (no_split w v)))
+
+  -- what was brought in where no rows were
+  pub from_nothing : (w v : ℕ) (b z X basis : Rows) (places : List ℕ) (zeros : Rows) → b ≡ [] → z ≡ []
+      → IsSplitOf o w v ((b ++ z) ++ X) basis places zeros → IsSplitOf o w v X basis places zeros
+  from_nothing w v b z X basis places zeros eb ez h = subst (λ x. IsSplitOf o w v (([] ++ x) ++ X) basis places zeros) ez
+      (subst (λ x. IsSplitOf o w v ((x ++ z) ++ X) basis places zeros) eb h)
+
+  -- ---- what was read, and in other words
+
+  pub matrix_read : (w v : ℕ) (rows read : Rows) → w ≡ v → read ≡ rows → IsPolynomialMatrix o v rows
+      → IsPolynomialMatrix o w read
+  matrix_read w v rows read e er h = subst (λ m. IsPolynomialMatrix o m read) (sym e)
+      (subst (IsPolynomialMatrix o v) (sym er) h)
+
+  -- the heads of reduced rows are reduced, with the width that they have
+  module _ (w n : ℕ) (basis : Rows) (places : List ℕ) (zeros : Rows) (h : IsSplit o w (w + n) basis places zeros)
+      (b : Rows) (eb : b ≡ heads_of w basis) where
+    pub heads_lead : HaveLeadingPositions w b places
+    heads_lead = subst (λ r. HaveLeadingPositions w r places) (sym eb) (heads-positions o L w basis places h.positions)
+
+    pub heads_reduced : (degrees : List ℤ) → HaveRowDegrees b places degrees → AreReducedRows (width_of b) b degrees
+    heads_reduced degrees d = record {
+      places = places;
+      positions = positions_of_width w b places (λ i l.
+          let r = row_at o L w b (subst (IsPolynomialMatrix o w) (sym eb) (heads-matrix o L w n basis h.basis_rows)) i l in
+          r.width) heads_lead;
+      degrees_are = d;
+    }
 
   -- ---- further rows on both sides
 

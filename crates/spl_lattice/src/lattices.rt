@@ -58,6 +58,7 @@ fn split_of(
     requires { IsPolynomialMatrix (small_ops f.now) w rows.now }
     ensures { IfOk result (λ s. IsSplitOf (small_ops f.now) w w rows.now s.basis.items s.places.items s.zeros.items) }
 {
+    know_laws(f);
     let mut split = Split::new(alloc);
     insert_rows(alloc, f, &mut split, rows, w)?;
     Ok(split)

@@ -143,6 +143,7 @@ fn reduced_form(
     ensures degrees { IfOk result (λ r. HaveRowDegrees r.basis split.now.places.items r.degrees) }
 {
     let _ = n;
+    know_laws(f);
     let basis = heads(alloc, f, split.basis.as_slice(), w)?;
     let degrees = degrees_of(alloc, basis.as_slice(), split.places.as_slice(), w)?;
     Ok(Reduced {
