@@ -71,10 +71,10 @@ decides input bytes Refused r = let d = r.1 in ⊎_elim
     (λ (undecided : IsUndecided input d.refusal). record {
       refused = λ f refusal. absurd (no_table input f undecided.table refusal undecided.stands);
       decided = λ t text. inr (
-          refl,
-          record { refusal = d.refusal; undecided = undecided; report = d.report },
-          λ other e. exclusive input other d.refusal e undecided,
-          );
+        refl,
+        record { refusal = d.refusal; undecided = undecided; report = d.report },
+        λ other e. exclusive input other d.refusal e undecided,
+      );
     })
     d.cause
 decides input bytes No r = absurd r

@@ -58,11 +58,11 @@ module _ {E : Type 0} (o : Ops E) where
 
   -- reduced rows in the first w of v columns, with their leading positions, and rows that are 0 there
   pub record IsSplit (w v : ℕ) (basis : List (List (List E))) (places : List ℕ) (zeros : List (List (List E))) : Type 0
-      where
-    pub basis_rows : IsPolynomialMatrix o v basis
-    pub zero_rows : IsPolynomialMatrix o v zeros
-    pub positions : HaveLeadingPositions w basis places
-    pub zero : All (IsZeroUpTo w) zeros
+    where
+      pub basis_rows : IsPolynomialMatrix o v basis
+      pub zero_rows : IsPolynomialMatrix o v zeros
+      pub positions : HaveLeadingPositions w basis places
+      pub zero : All (IsZeroUpTo w) zeros
 
   -- such rows, by an invertible transform of the given ones
   pub record IsSplitOf (w v : ℕ) (rows basis : List (List (List E))) (places : List ℕ) (zeros : List (List (List E)))

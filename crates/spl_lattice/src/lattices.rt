@@ -49,12 +49,7 @@ fn insert_rows(
 }
 
 /// The rows of w entries reduced.
-fn split_of(
-    alloc: Global,
-    f: &SmallField,
-    rows: &[PolyRow],
-    w: usize,
-) -> Result<Split, NoMemory>
+fn split_of(alloc: Global, f: &SmallField, rows: &[PolyRow], w: usize) -> Result<Split, NoMemory>
     requires { IsPolynomialMatrix (small_ops f.now) w rows.now }
     ensures { IfOk result (λ s. IsSplitOf (small_ops f.now) w w rows.now s.basis.items s.places.items s.zeros.items) }
 {

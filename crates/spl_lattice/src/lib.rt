@@ -11,7 +11,6 @@ pub mod generator;
 pub mod lattices;
 pub mod matrix;
 mod positions;
-
 pub mod reduced;
 pub mod rows;
 mod splits;

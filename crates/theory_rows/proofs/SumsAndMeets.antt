@@ -238,11 +238,13 @@ module _ {E : Type 0} (o : Ops E) (L : FieldLaws o) where
     ub = up_independent o L w b hb fb
 
     X-independent : Independent (N o L) (length X) (up_rows o L X)
-    X-independent = record { only_zero = λ c z i l. ⊎_elim
-        (λ (g : i < length a). left c z i g)
-        (λ (g : length a ≤ i). let e : length AA + (i - length a) ≡ i = omega (arith, g, AA-length) in
-        ap c (sym e) ∙ right c z (i - length a) (omega (arith, l, g, length-append AA BO, AA-length, BO-length)))
-        (cases_lt i (length a)) }
+    X-independent = record {
+      only_zero = λ c z i l. ⊎_elim
+          (λ (g : i < length a). left c z i g)
+          (λ (g : length a ≤ i). let e : length AA + (i - length a) ≡ i = omega (arith, g, AA-length) in
+          ap c (sym e) ∙ right c z (i - length a) (omega (arith, l, g, length-append AA BO, AA-length, BO-length)))
+          (cases_lt i (length a));
+    }
       where
         left : (c : Weights o L) → comb_of o L X c ≡ (let M' = N o L in M'.zero) → (i : ℕ) → i < length a → c i ≡ R.zero
         left c z = ua.only_zero c (fun_ext (λ k. sym (X-second c k) ∙ ap (λ (f : Weights o L). f (w + k)) z))
