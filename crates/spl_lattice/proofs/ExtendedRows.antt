@@ -1,6 +1,5 @@
 -- Rows with further columns that are brought in one after another, on lists over a program's field.
 use Rattle.std.specs.Prelude.{◌≡◌, ℕ, suc, ◌+◌, ◌<◌, ◌≤◌, List, [], ◌∷◌, ◌++◌, length, get_or}
-use Rattle.std.specs.List.{All}
 use Rattle.std.proofs.Common.{sym, ◌∙◌, ap, ap₂, subst, arith}
 use Rattle.std.proofs.lemmas.List.{length-append, append_assoc, append-nil, get_or_default}
 use Rattle.std.proofs.lemmas.List.Elements.{All-append, All-push}

@@ -8,24 +8,23 @@ use Rattle.std.proofs.lemmas.List.{append_assoc, append-nil, get_or_past, get_or
 use Rattle.std.proofs.Math.Seq.{get_or-append_seam}
 use Rattle.std.proofs.lemmas.List.Elements.{All-nil, All-cons, All-append, All-get_or, All-push}
 use Rattle.theory_rings.specs.Ops.{Ops, IsElem, FieldLaws}
-use Rattle.theory_rings.specs.Sum.{table}
 use Rattle.theory_rings.specs.Polynomial.{IsTrimmed}
 use Rattle.theory_rings.proofs.Sums.Lists.{length-table, All-table}
 use Rattle.theory_tables.specs.Matrix.{width_of}
 use Rattle.theory_rows.specs.Rows.{IsPolynomialRow, IsPolynomialMatrix, IsUnimodularImage, SameRowLattice}
 use Rattle.theory_rows.specs.Rows.{IsRowTransform, IsLatticeBasis, InRowKernel, InLatticeSum, InLatticeMeet}
 use Rattle.theory_rows.specs.Rows.{RowsAreIndependent}
-use Rattle.theory_rows.specs.LeadingPositions.{HasLeadingPosition, HaveLeadingPositions, IsZeroUpTo, HaveRowDegrees}
+use Rattle.theory_rows.specs.LeadingPositions.{HaveLeadingPositions, IsZeroUpTo, HaveRowDegrees}
 use Rattle.theory_rows.specs.LeadingPositions.{AreReducedRows, row_degree}
 use Rattle.theory_rows.specs.Augmented.{heads_of, tails_of, extended_by, zero_row, zero_rows, unit_row, unit_rows}
 use Rattle.theory_rows.proofs.LiftedRows.{image_of_up, up_image, row_at}
 use Rattle.theory_rows.proofs.Insertion.{RowsTransformed, transformed-more}
 use Rattle.theory_rows.proofs.Kernels.{kernel_basis, heads_same, heads_transform, heads_matrix, heads_positions}
 use Rattle.theory_rows.proofs.SumsAndMeets.{basis_same, basis_independent, sum_basis, meet_same, meet_basis}
-use Rattle.theory_rows.proofs.Splits.{extended_by_nothing, heads-positions, heads-matrix}
+use Rattle.theory_rows.proofs.Splits.{heads-positions, heads-matrix}
 use Rattle.spl_poly.specs.Operations.{IsOver}
 use Rattle.spl_lattice.specs.Reduction.{IsSplit, IsSplitOf}
-use Rattle.spl_lattice.proofs.RowReduction.{image_trans, image_refl}
+use Rattle.spl_lattice.proofs.RowReduction.{image_trans}
 use Rattle.spl_lattice.proofs.ExtendedRows.{both_rows, both_polynomials}
 
 either_way : {X : Type 0} (P : X → Type 0) (b : Bool) (x y : X) → P x → P y → P (cond b x y)

@@ -1,18 +1,17 @@
 -- The reduction of rows, one more row after another, on lists over a program's field: each step is an invertible
 -- transform, and lowers how high the rows lead together.
-use Rattle.std.specs.Prelude.{◌≡◌, ℕ, zero, suc, ◌+◌, ◌<◌, ◌≤◌, ◌⊎◌, List, [], ◌∷◌, ◌++◌, length, get_or, slice_set, pos}
-use Rattle.std.specs.List.{All}
+use Rattle.std.specs.Prelude.{◌≡◌, ℕ, zero, suc, ◌+◌, ◌<◌, ◌≤◌, List, [], ◌∷◌, ◌++◌, length, get_or, slice_set}
 use Rattle.std.proofs.Common.{refl, sym, ◌∙◌, ap, subst, arith, ⊎_elim, inl, inr}
 use Rattle.std.proofs.lemmas.Bool.{cases_lt, cases_eq}
-use Rattle.std.proofs.lemmas.List.{length-set, get_or-set_same, get_or-set_other, get_or_past, length-append, append_assoc}
+use Rattle.std.proofs.lemmas.List.{length-set, get_or-set_same, get_or-set_other, length-append}
 use Rattle.std.proofs.lemmas.List.{get_or_append_left}
-use Rattle.std.proofs.lemmas.List.Elements.{All-nil, All-set, All-get_or, All-push, All-append}
+use Rattle.std.proofs.lemmas.List.Elements.{All-set, All-push, All-append}
 use Rattle.std.proofs.Math.Seq.{get_or-append_seam}
 use Rattle.theory_rings.specs.Ring.{CommRingOn}
 use Rattle.theory_rings.specs.Ops.{Ops, FieldLaws}
 use Rattle.theory_rings.specs.Sum.{at, sum}
 use Rattle.theory_rings.specs.Naturals.{nat_monoid}
-use Rattle.theory_rings.specs.Polynomial.{Poly, IsTrimmed, degree, convolution_of}
+use Rattle.theory_rings.specs.Polynomial.{Poly, degree, convolution_of}
 use Rattle.theory_rings.proofs.Rings.RingLaws.{mul-zero, add-zero}
 use Rattle.theory_rings.proofs.Sums.Bump.{bump, bump-apart}
 use Rattle.theory_rings.proofs.Sums.Sums.{sum_congr, sum_take_out}
@@ -21,13 +20,12 @@ use Rattle.theory_rows.specs.Rows.{IsPolynomialRow, IsPolynomialMatrix, IsUnimod
 use Rattle.theory_rows.specs.LeadingPositions.{HasLeadingPosition, HaveLeadingPositions, IsZeroUpTo}
 use Rattle.theory_rows.proofs.Transforms.{Transformed-trans}
 use Rattle.theory_rows.proofs.LiftedRows.{G, Q, M, up, up_row, up_rows, entry-over, entry-trimmed, entry_past, row_at}
-use Rattle.theory_rows.proofs.LiftedRows.{image_of_up, up_image}
+use Rattle.theory_rows.proofs.LiftedRows.{image_of_up}
 use Rattle.theory_rows.proofs.Positions.{below_of_length, length_of_degree}
 use Rattle.theory_rows.proofs.Insertion.{RowsTransformed, transformed-multiple, transformed-exchange, transformed-zero}
-use Rattle.theory_rows.proofs.Insertion.{transformed-push, transformed_refl, transformed-more}
+use Rattle.theory_rows.proofs.Insertion.{transformed-push}
 use Rattle.theory_rows.proofs.Lowering.{height, lowered}
-use Rattle.spl_poly.specs.Operations.{IsOver}
-use Rattle.spl_lattice.specs.Reduction.{IsLowerKept, IsLowering, IsRowRest, IsRowWithMultiple, IsSettled, IsSplit, IsSplitOf}
+use Rattle.spl_lattice.specs.Reduction.{IsLowering, IsRowRest, IsSettled, IsSplit, IsSplitOf}
 use Rattle.spl_lattice.proofs.GreatestDivisors.{lift-sum_with_multiple}
 use Rattle.spl_lattice.proofs.RowSteps.{lift-negative}
 

@@ -1,7 +1,7 @@
 -- Steps of the reduction of rows, on lists over a program's field.
-use Rattle.std.specs.Prelude.{◌≡◌, ℕ, zero, suc, ◌+◌, ◌<◌, ◌≤◌, List, [], ◌∷◌, length, get_or, slice_set}
+use Rattle.std.specs.Prelude.{◌≡◌, ℕ, ◌+◌, ◌<◌, ◌≤◌, List, [], length, get_or, slice_set}
 use Rattle.std.specs.List.{All}
-use Rattle.std.proofs.Common.{refl, sym, ◌∙◌, ap, ap₂, subst, arith, ⊎_elim}
+use Rattle.std.proofs.Common.{refl, sym, ◌∙◌, ap, subst, arith, ⊎_elim}
 use Rattle.std.proofs.lemmas.Bool.{cases_lt, cases_eq}
 use Rattle.std.proofs.lemmas.List.{length-set, get_or-set_same, get_or-set_other}
 use Rattle.std.proofs.lemmas.List.Elements.{All-nil, All-set}
@@ -9,7 +9,7 @@ use Rattle.theory_rings.specs.Ring.{FieldOn, CommRingOn}
 use Rattle.theory_rings.specs.Ops.{Ops, IsElem, FieldLaws}
 use Rattle.theory_rings.specs.Elements.{Elem, elements}
 use Rattle.theory_rings.specs.Sum.{at}
-use Rattle.theory_rings.specs.Polynomial.{IsTrimmed, Poly, coefficient, convolution_of}
+use Rattle.theory_rings.specs.Polynomial.{IsTrimmed, Poly, coefficient}
 use Rattle.theory_rings.proofs.Rings.RingLaws.{mul-zero, add-zero, neg-mul}
 use Rattle.theory_rings.proofs.Rings.Elements.{at-elem}
 use Rattle.theory_rings.proofs.Polynomials.PolynomialRing.{constant}

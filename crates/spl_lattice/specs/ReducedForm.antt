@@ -1,5 +1,5 @@
 -- A reduced basis as a value.
-use Rattle.std.specs.Prelude.{ℕ, ℤ, List}
+use Rattle.std.specs.Prelude.{ℤ, List}
 
 -- reduced rows, their degrees, and the weights by which they are combined from the rows that were reduced
 pub record ReducedForm (E : Type 0) : Type 0 where

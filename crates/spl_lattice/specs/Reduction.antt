@@ -1,11 +1,11 @@
 -- The steps of the reduction of rows, on lists.
-use Rattle.std.specs.Prelude.{◌≡◌, ℕ, ℤ, ◌<◌, ◌≤◌, ◌⊎◌, List, [], ◌∷◌, ◌++◌, length, get_or, slice_set}
+use Rattle.std.specs.Prelude.{◌≡◌, ℕ, ◌<◌, ◌≤◌, ◌⊎◌, List, [], ◌∷◌, ◌++◌, length, get_or, slice_set}
 use Rattle.std.specs.List.{All}
 use Rattle.theory_rings.specs.Ops.{Ops}
 use Rattle.theory_rings.specs.Sum.{at}
 use Rattle.theory_rings.specs.Polynomial.{IsTrimmed}
 use Rattle.spl_poly.specs.Operations.{IsOver, IsDivision}
-use Rattle.theory_rows.specs.Rows.{IsPolynomialRow, IsPolynomialMatrix, IsUnimodularImage}
+use Rattle.theory_rows.specs.Rows.{IsPolynomialMatrix, IsUnimodularImage}
 use Rattle.theory_rows.specs.LeadingPositions.{HasLeadingPosition, HaveLeadingPositions, IsZeroUpTo}
 use Rattle.spl_lattice.specs.Steps.{IsSumWithMultiple}
 

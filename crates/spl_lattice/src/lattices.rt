@@ -102,8 +102,8 @@ pub fn sum(
 {
     know_laws(f);
     let w = common_width(a, b);
-    let Split { basis, .. } = split_of_both(alloc, f, a.as_slice(), b.as_slice(), w)?;
-    Ok(PolyMatrix::from_vec(basis))
+    let split = split_of_both(alloc, f, a.as_slice(), b.as_slice(), w)?;
+    Ok(PolyMatrix::from_vec(split.basis))
 }
 
 /// Each of the first rows followed by itself, and each of the others by zeros, reduced in the first w columns.

@@ -1,6 +1,6 @@
 -- The steps by which a further row is brought into a list of reduced rows, as invertible transforms of lists of rows.
 use Rattle.std.specs.Prelude.{◌≡◌, ℕ, suc, ◌+◌, ◌-◌, ◌<◌, ◌≤◌, List, [], ◌∷◌, ◌++◌, length, get_or, slice_set}
-use Rattle.std.proofs.Common.{refl, sym, ◌∙◌, ap, ap₂, subst, arith, ⊎_elim}
+use Rattle.std.proofs.Common.{refl, sym, ◌∙◌, ap, subst, arith, ⊎_elim}
 use Rattle.std.proofs.lemmas.Bool.{cases_lt}
 use Rattle.std.proofs.lemmas.List.{get_or_append_left, length-append, append_assoc, get_or-set_same, get_or-set_other}
 use Rattle.std.proofs.lemmas.List.{length-set, get_or-append_right}
@@ -14,7 +14,7 @@ use Rattle.theory_spaces.specs.Linear.{InSpan}
 use Rattle.theory_spaces.proofs.Linear.Modules.{comb_congr_right, InSpan-scale, InSpan-member, InSpan-zero}
 use Rattle.theory_rows.proofs.Transforms.{Transformed, Transformed-refl, Transformed-last, Transformed_congr}
 use Rattle.theory_rows.proofs.Orders.{Transformed-exchange, Transformed-insert}
-use Rattle.theory_rows.proofs.LiftedRows.{G, Q, M, up, up_row, up_rows}
+use Rattle.theory_rows.proofs.LiftedRows.{G, Q, M, up_row, up_rows}
 
 length-snoc : {X : Type 0} (xs : List X) (x : X) → length (xs ++ x ∷ []) ≡ suc (length xs)
 length-snoc xs x = let e : length xs + 1 ≡ suc (length xs) = omega arith in length-append xs (x ∷ []) ∙ e

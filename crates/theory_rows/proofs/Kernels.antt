@@ -1,32 +1,30 @@
 -- Rows with their unit rows after them, reduced in the columns of the rows alone: what stands after the reduced rows is
 -- their transform, and what stands after the zero rows is a basis of the kernel.
-use Rattle.std.specs.Prelude.{◌≡◌, ℕ, zero, suc, ◌+◌, ◌-◌, ◌<◌, ◌≤◌, ◌↔◌, List, [], ◌∷◌, ◌++◌, length, get_or, cond, nat_eq}
+use Rattle.std.specs.Prelude.{◌≡◌, ℕ, zero, suc, ◌+◌, ◌<◌, ◌≤◌, List, [], ◌∷◌, ◌++◌, length, get_or, cond, nat_eq}
 use Rattle.std.specs.Prelude.{take, drop}
-use Rattle.std.proofs.Common.{refl, sym, ◌∙◌, ap, ap₂, subst, arith, ⊎_elim}
+use Rattle.std.proofs.Common.{refl, sym, ◌∙◌, ap, subst, arith, ⊎_elim}
 use Rattle.std.proofs.lemmas.Bool.{cases_lt, eq-eqb, ne_eqb}
 use Rattle.std.proofs.lemmas.List.{get_or_append_left, get_or-append-add, length-append}
 use Rattle.std.proofs.lemmas.List.Elements.{All-nil, All-cons}
 use Rattle.std.proofs.Math.Path.{fun_ext}
 use Rattle.theory_rings.specs.Ring.{CommRingOn}
 use Rattle.theory_rings.specs.Ops.{Ops, IsElem, FieldLaws}
-use Rattle.theory_rings.specs.Sum.{at, table}
+use Rattle.theory_rings.specs.Sum.{at}
 use Rattle.theory_rings.specs.Polynomial.{Poly, constant_coefficients}
 use Rattle.theory_rings.proofs.Rings.RingLaws.{mul-zero}
 use Rattle.theory_rings.proofs.Sums.Sums.{sum_eq_single}
 use Rattle.theory_rings.proofs.Sums.Lists.{length-table, get_or-table}
-use Rattle.theory_fractions.specs.PolynomialLists.{IsOver}
 use Rattle.theory_fractions.proofs.Lifting.{has-lift, has-one, eq_of_coefficients, lift_nil}
 use Rattle.theory_spaces.specs.Linear.{comb, InSpan, Independent}
-use Rattle.theory_spaces.proofs.Linear.Modules.{comb_congr, comb-comb, InSpan-member, InSpan_trans}
-use Rattle.theory_rows.specs.Rows.{IsPolynomialRow, IsPolynomialMatrix, IsRowCombination, InRowLattice, InRowKernel}
+use Rattle.theory_spaces.proofs.Linear.Modules.{comb_congr, InSpan-member, InSpan_trans}
+use Rattle.theory_rows.specs.Rows.{IsPolynomialRow, IsPolynomialMatrix, InRowLattice, InRowKernel}
 use Rattle.theory_rows.specs.Rows.{IsLatticeBasis, SameRowLattice, IsRowTransform}
 use Rattle.theory_rows.specs.LeadingPositions.{HaveLeadingPositions, IsZeroUpTo}
 use Rattle.theory_rows.specs.Augmented.{heads_of, tails_of, extended_by, unit_row, unit_rows}
-use Rattle.theory_rows.proofs.Transforms.{Transformed}
-use Rattle.theory_rows.proofs.LiftedRows.{G, Q, M, up, up_row, up_rows, comb_at, row_at, entry-over, entry_past}
-use Rattle.theory_rows.proofs.LiftedRows.{matrix-over, row-nil, up_combination, combination_of_up, up_row-nil, row_unique}
-use Rattle.theory_rows.proofs.LiftedRows.{span_of_lattice, lattice_of_span, independent_of_up, row_of, row_of-row}
-use Rattle.theory_rows.proofs.LiftedRows.{up-row_of, same_of_spans}
+use Rattle.theory_rows.proofs.LiftedRows.{G, up, up_row, up_rows, comb_at, row_at, entry-over, entry_past}
+use Rattle.theory_rows.proofs.LiftedRows.{matrix-over, row-nil, up_combination, combination_of_up, up_row-nil}
+use Rattle.theory_rows.proofs.LiftedRows.{span_of_lattice, lattice_of_span, independent_of_up}
+use Rattle.theory_rows.proofs.LiftedRows.{same_of_spans}
 use Rattle.theory_rows.proofs.Insertion.{RowsTransformed}
 use Rattle.theory_rows.proofs.Splits.{P, N, Weights, comb_of, comb_past, column_congr, head_of, in_zeros, back_independent}
 use Rattle.theory_rows.proofs.Splits.{tails-matrix, heads-matrix, tails-entry, heads-entry, comb-tails, comb-heads}

@@ -1,13 +1,12 @@
 -- Rows of lists as rows over the ring of polynomials: combinations, lattices and independence on lists are those in the
 -- module of functions to polynomials.
-use Rattle.std.specs.Prelude.{◌≡◌, ℕ, zero, suc, ◌<◌, ◌≤◌, ◌↔◌, List, [], ◌∷◌, length, get_or}
-use Rattle.std.specs.List.{All}
-use Rattle.std.proofs.Common.{refl, sym, ◌∙◌, ap, ap₂, subst, arith, ⊎_elim}
+use Rattle.std.specs.Prelude.{◌≡◌, ℕ, ◌<◌, ◌≤◌, List, [], ◌∷◌, length, get_or}
+use Rattle.std.proofs.Common.{refl, sym, ◌∙◌, ap, subst, arith, ⊎_elim}
 use Rattle.std.proofs.lemmas.Bool.{cases_lt}
 use Rattle.std.proofs.lemmas.List.{get_or_past, length-map}
 use Rattle.std.proofs.lemmas.List.Elements.{All-nil, All-get_or}
 use Rattle.std.proofs.Math.Path.{fun_ext}
-use Rattle.theory_rings.specs.Ring.{CommRingOn, FieldOn, RingOn}
+use Rattle.theory_rings.specs.Ring.{CommRingOn, FieldOn}
 use Rattle.theory_rings.specs.Ops.{Ops, IsElem, FieldLaws}
 use Rattle.theory_rings.specs.Elements.{Elem, elements}
 use Rattle.theory_rings.specs.Sum.{at, sum, sum_of, table}
@@ -17,7 +16,7 @@ use Rattle.theory_rings.proofs.Sums.Lists.{length-table, get_or-table, All-table
 use Rattle.theory_rings.proofs.Polynomials.PolynomialRing.{last-ne-zero, IsTrimmed-injective}
 use Rattle.theory_rings.proofs.Polynomials.ElementLists.{values, at-values, IsTrimmed-values}
 use Rattle.theory_fractions.specs.PolynomialLists.{IsOver}
-use Rattle.theory_fractions.proofs.Lifting.{F, P, Has, lift, has-lift, has-sum, has-mul, lift_nil, values-over}
+use Rattle.theory_fractions.proofs.Lifting.{P, Has, lift, has-lift, has-sum, has-mul, lift_nil, values-over}
 use Rattle.theory_fractions.proofs.Lifting.{eq_of_coefficients, coefficients_of_eq}
 use Rattle.theory_spaces.specs.Module.{ModuleOn}
 use Rattle.theory_spaces.specs.Linear.{comb, InSpan, Independent}

@@ -1,8 +1,8 @@
 -- How high a row leads, as a number; a row from which a multiple of another with its leading position is taken away, so
 -- that only a remainder is left there, leads lower.
-use Rattle.std.specs.Prelude.{◌≡◌, ℕ, zero, suc, ◌+◌, ◌*◌, ◌<◌, ◌≤◌, ℤ, pos, ◌+ℤ◌, ◌-ℤ◌, ◌≤ℤ◌, ◌<ℤ◌, ◌⊎◌, cond, ltb, List, []}
-use Rattle.std.specs.Prelude.{◌∷◌, length, get_or}
-use Rattle.std.proofs.Common.{refl, sym, ◌∙◌, ap, ap₂, subst, arith, ⊎_elim, inl, inr, mul-le-mul_right, add-mul, pred}
+use Rattle.std.specs.Prelude.{◌≡◌, ℕ, zero, suc, ◌+◌, ◌*◌, ◌<◌, ◌≤◌, ℤ, pos, ◌-ℤ◌, ◌≤ℤ◌, ◌<ℤ◌, ◌⊎◌, cond, ltb, List, []}
+use Rattle.std.specs.Prelude.{length, get_or}
+use Rattle.std.proofs.Common.{refl, sym, ◌∙◌, ap, subst, arith, ⊎_elim, inl, inr, mul-le-mul_right, add-mul, pred}
 use Rattle.std.proofs.lemmas.Bool.{cases_lt, lt-ltb, le-ltb}
 use Rattle.std.proofs.lemmas.Int.{ints}
 use Rattle.std.proofs.Math.Path.{fun_ext}
@@ -12,13 +12,13 @@ use Rattle.theory_rings.specs.Polynomial.{Poly, degree, IsTrimmed}
 use Rattle.theory_rings.proofs.Rings.RingLaws.{zero-mul, neg-mul}
 use Rattle.theory_rings.proofs.Rings.Solver.{◌⊞◌, minus, ring2}
 use Rattle.theory_fractions.specs.PolynomialLists.{IsOver}
-use Rattle.theory_lattices.specs.Degree.{DegreeOn, DegreeBelow, HasDegree}
+use Rattle.theory_lattices.specs.Degree.{DegreeBelow, HasDegree}
 use Rattle.theory_lattices.specs.ReducedRows.{LeadsAt, Lead, less_multiple}
 use Rattle.theory_lattices.proofs.Degree.Degrees.{has_degree-add, below-neg, below-mono}
 use Rattle.theory_lattices.proofs.Rows.ReductionStep.{lead_of, step_lower}
 use Rattle.theory_rows.specs.LeadingPositions.{HasLeadingPosition, IsZeroUpTo}
-use Rattle.theory_rows.proofs.LiftedRows.{G, Q, up, up_row, nil_of_up}
-use Rattle.theory_rows.proofs.Positions.{W, length_of_degree, exact_degree, below_of_length, leads_of_position}
+use Rattle.theory_rows.proofs.LiftedRows.{G, Q, up_row, nil_of_up}
+use Rattle.theory_rows.proofs.Positions.{W, length_of_degree, exact_degree, leads_of_position}
 use Rattle.theory_rows.proofs.Positions.{position_of_leads}
 
 -- lexicographic by degree and place

@@ -1,19 +1,16 @@
 -- Leading positions of rows of lists are those of the rows of polynomials; predictable degrees; members of the lattice
 -- of reduced rows.
-use Rattle.std.specs.Prelude.{◌≡◌, ℕ, zero, suc, ◌+◌, ◌<◌, ◌≤◌, ℤ, pos, ◌+ℤ◌, ◌-ℤ◌, ◌≤ℤ◌, ◌<ℤ◌, ◌⊎◌, List, [], ◌∷◌, length}
+use Rattle.std.specs.Prelude.{◌≡◌, ℕ, suc, ◌+◌, ◌<◌, ◌≤◌, ℤ, pos, ◌+ℤ◌, ◌-ℤ◌, ◌≤ℤ◌, ◌<ℤ◌, ◌⊎◌, List, [], ◌∷◌, length}
 use Rattle.std.specs.Prelude.{get_or}
 use Rattle.std.proofs.Common.{refl, sym, ◌∙◌, ap, subst, arith, ⊎_elim, inl, inr}
-use Rattle.std.proofs.lemmas.Bool.{cases_lt}
 use Rattle.std.proofs.lemmas.Int.{ints}
-use Rattle.std.proofs.lemmas.List.{get_or_past}
 use Rattle.theory_rings.specs.Ops.{Ops, FieldLaws}
 use Rattle.theory_rings.specs.Polynomial.{degree, IsTrimmed}
 use Rattle.theory_fractions.specs.PolynomialLists.{IsOver}
 use Rattle.theory_fractions.proofs.Lifting.{lift_nil}
-use Rattle.theory_spaces.specs.Linear.{comb, Independent}
+use Rattle.theory_spaces.specs.Linear.{comb}
 use Rattle.theory_lattices.specs.Degree.{DegreeOn, DegreeBelow, HasDegree, IsEuclidean}
-use Rattle.theory_lattices.specs.RationalFunctions.{IsPolynomialDegree}
-use Rattle.theory_lattices.specs.ReducedRows.{LeadsAt, Lead, Reduced, Predicted, row_sum, InRows, LeadsAmong}
+use Rattle.theory_lattices.specs.ReducedRows.{LeadsAt, Lead, Reduced, Predicted, row_sum}
 use Rattle.theory_lattices.proofs.Degree.FractionDegrees.{polynomial_degree, polynomial_degree-is}
 use Rattle.theory_lattices.proofs.Rows.PolynomialRows.{polynomial_euclidean}
 use Rattle.theory_lattices.proofs.Rows.PredictableDegrees.{predicted, only_zero}
@@ -22,7 +19,7 @@ use Rattle.theory_lattices.proofs.Rows.Membership.{member_leads}
 use Rattle.theory_rows.specs.Rows.{IsPolynomialRow, IsPolynomialMatrix, IsRowCombination, InRowLattice}
 use Rattle.theory_rows.specs.Rows.{RowsAreIndependent}
 use Rattle.theory_rows.specs.LeadingPositions.{HasLeadingPosition, HaveLeadingPositions, HasPredictedDegree, row_degree}
-use Rattle.theory_rows.proofs.LiftedRows.{G, Q, M, up, up_row, up_rows, entry-over, entry-trimmed, row_at, length-up}
+use Rattle.theory_rows.proofs.LiftedRows.{G, Q, M, up, up_row, up_rows, entry-over, entry-trimmed, length-up}
 use Rattle.theory_rows.proofs.LiftedRows.{matrix-over, matrix-trimmed, nil_of_up, up_combination, comb_at}
 use Rattle.theory_rows.proofs.LiftedRows.{span_of_lattice, independent_of_up, row_unique}
 

@@ -1,8 +1,7 @@
 -- Rows that are split into reduced rows and rows whose first w entries are 0: combinations of them, and their columns up
 -- to w and from there on.
-use Rattle.std.specs.Prelude.{◌≡◌, ℕ, suc, ◌+◌, ◌-◌, ◌<◌, ◌≤◌, List, [], ◌∷◌, ◌++◌, length, get_or, take, drop}
-use Rattle.std.specs.List.{All}
-use Rattle.std.proofs.Common.{refl, sym, ◌∙◌, ap, ap₂, subst, arith, ⊎_elim, min}
+use Rattle.std.specs.Prelude.{◌≡◌, ℕ, ◌+◌, ◌-◌, ◌<◌, ◌≤◌, List, [], ◌++◌, length, get_or, take, drop}
+use Rattle.std.proofs.Common.{sym, ◌∙◌, ap, ap₂, arith, ⊎_elim}
 use Rattle.std.proofs.lemmas.Bool.{cases_lt}
 use Rattle.std.proofs.lemmas.List.{get_or_append_left, length-append, get_or-append-add, get_or-drop, get_or-take}
 use Rattle.std.proofs.lemmas.List.{length-drop, length-take-le, append-nil, ext_get_or}
@@ -10,7 +9,6 @@ use Rattle.std.proofs.lemmas.List.Elements.{All-drop, All-take}
 use Rattle.std.proofs.Math.Path.{fun_ext}
 use Rattle.theory_rings.specs.Ring.{CommRingOn}
 use Rattle.theory_rings.specs.Ops.{Ops, FieldLaws}
-use Rattle.theory_rings.specs.Sum.{sum, table}
 use Rattle.theory_rings.specs.Polynomial.{Poly, IsTrimmed}
 use Rattle.theory_rings.proofs.Rings.RingLaws.{add-zero, mul-zero}
 use Rattle.theory_rings.proofs.Sums.Sums.{sum_congr, sum_eq_zero, sum-split}

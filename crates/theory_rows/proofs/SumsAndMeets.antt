@@ -1,6 +1,6 @@
 -- The sum and the meet of two row lattices, by the reduction of the rows of both one after the other: as they are, or
 -- each of the first rows followed by itself and each of the others by zeros.
-use Rattle.std.specs.Prelude.{◌≡◌, ℕ, suc, ◌+◌, ◌-◌, ◌<◌, ◌≤◌, ◌↔◌, List, [], ◌∷◌, ◌++◌, length, get_or, drop}
+use Rattle.std.specs.Prelude.{◌≡◌, ℕ, ◌+◌, ◌-◌, ◌<◌, ◌≤◌, List, [], ◌++◌, length, get_or}
 use Rattle.std.proofs.Common.{refl, sym, ◌∙◌, ap, ap₂, subst, arith, ⊎_elim}
 use Rattle.std.proofs.lemmas.Bool.{cases_lt}
 use Rattle.std.proofs.lemmas.List.{get_or_append_left, get_or-append-add, length-append, get_or_past}
@@ -20,8 +20,7 @@ use Rattle.theory_rows.specs.Rows.{IsPolynomialRow, IsPolynomialMatrix, InRowLat
 use Rattle.theory_rows.specs.Rows.{InLatticeSum, InLatticeMeet, RowsAreIndependent}
 use Rattle.theory_rows.specs.LeadingPositions.{HaveLeadingPositions, IsZeroUpTo}
 use Rattle.theory_rows.specs.Augmented.{tails_of, extended_by, zero_row, zero_rows}
-use Rattle.theory_rows.proofs.Transforms.{Transformed}
-use Rattle.theory_rows.proofs.LiftedRows.{G, Q, M, up, up_row, up_rows, row_at, entry-over, entry_past, matrix-over}
+use Rattle.theory_rows.proofs.LiftedRows.{G, up, up_row, up_rows, row_at, entry-over, entry_past}
 use Rattle.theory_rows.proofs.LiftedRows.{span_of_lattice, lattice_of_span, independent_of_up, up_independent, row_of}
 use Rattle.theory_rows.proofs.LiftedRows.{row_of-row, up-row_of, same_of_spans}
 use Rattle.theory_rows.proofs.Positions.{reduced_independent}

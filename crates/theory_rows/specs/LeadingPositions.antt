@@ -1,6 +1,6 @@
 -- Leading positions of rows of polynomials, as lists, and reduced rows. (Mulders and Storjohann, On lattice reduction for
 -- polynomial matrices; Kailath, Linear Systems, section 6.3.)
-use Rattle.std.specs.Prelude.{◌≡◌, ℕ, ◌+◌, ◌<◌, ◌≤◌, ℤ, pos, ◌⊎◌, List, [], length, get_or}
+use Rattle.std.specs.Prelude.{◌≡◌, ℕ, ◌+◌, ◌<◌, ◌≤◌, ℤ, pos, List, [], length, get_or}
 use Rattle.theory_rings.specs.Polynomial.{degree}
 
 module _ {E : Type 0} where

@@ -1,5 +1,5 @@
 -- What the laws of rows of polynomials say.
-use Rattle.std.specs.Prelude.{◌≡◌, ℕ, ◌<◌, ◌⊎◌, List, [], length, get_or}
+use Rattle.std.specs.Prelude.{◌≡◌, ℕ, ◌⊎◌, List, [], length, get_or}
 use Rattle.theory_rings.specs.Ops.{Ops}
 use Rattle.theory_rows.specs.Rows.{IsPolynomialRow, IsPolynomialMatrix, IsRowCombination, RowsAreIndependent}
 use Rattle.theory_rows.specs.LeadingPositions.{HaveLeadingPositions, HasPredictedDegree}

@@ -1,5 +1,4 @@
-use Rattle.std.proofs.Common.{sym, ◌∙◌, ap, ap₂, subst, arith, [], ◌++◌, ◌+◌, ◌≡◌, ◌<◌, length, get_or}
-use Rattle.std.proofs.lemmas.List.{get_or_default}
+use Rattle.std.proofs.Common.{subst, arith, ◌++◌, ◌+◌, ◌≡◌, length}
 use Rattle.std.proofs.lemmas.List.Elements.{All-append}
 use Rattle.theory_rings.specs.Sum.{table}
 use Rattle.theory_rows.specs.Rows.{IsPolynomialRow}

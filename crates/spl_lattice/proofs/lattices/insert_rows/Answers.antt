@@ -1,8 +1,6 @@
-use Rattle.std.proofs.Common.{sym, ◌∙◌, ap, subst, arith, [], ◌++◌, ◌+◌, ◌≤◌, ◌≡◌, length}
-use Rattle.std.specs.List.{All}
-use Rattle.theory_tables.specs.Matrix.{width_of}
+use Rattle.std.proofs.Common.{sym, ◌∙◌, ap, subst, arith, ◌++◌, ◌+◌, ◌≡◌, length}
 use Rattle.theory_rows.specs.Rows.{IsPolynomialMatrix}
-use Rattle.theory_rows.specs.Augmented.{extended_by, zero_rows}
+use Rattle.theory_rows.specs.Augmented.{extended_by}
 use Rattle.theory_rows.proofs.Splits.{extended_by_nothing}
 use Rattle.spl_field.specs.SmallField.{small_ops}
 use Rattle.spl_lattice.specs.Reduction.{IsSplit, IsSplitOf}

@@ -1,4 +1,4 @@
-use Rattle.std.proofs.Common.{sym, ◌∙◌, ap, subst, arith, [], ◌++◌, ◌+◌, ◌≤◌, ◌≡◌, length}
+use Rattle.std.proofs.Common.{sym, ◌∙◌, ap, subst, ◌++◌, ◌+◌, ◌≤◌, length}
 use Rattle.std.specs.List.{All}
 use Rattle.theory_tables.specs.Matrix.{width_of}
 use Rattle.std.proofs.Common.{refl}

@@ -1,11 +1,9 @@
-use Rattle.std.proofs.Common.{sym, ◌∙◌, ap, subst, arith, [], ◌++◌, ◌+◌, ◌≤◌, ◌≡◌, length}
-use Rattle.std.specs.List.{All}
-use Rattle.theory_tables.specs.Matrix.{width_of}
+use Rattle.std.proofs.Common.{sym, ◌∙◌, ap, subst, ◌++◌, ◌+◌, length}
 use Rattle.std.proofs.Common.{refl}
 use Rattle.theory_rows.specs.Rows.{IsPolynomialMatrix}
 use Rattle.theory_rows.specs.Augmented.{extended_by, zero_rows}
 use Rattle.spl_field.specs.SmallField.{small_ops}
-use Rattle.spl_lattice.specs.Reduction.{IsSplit, IsSplitOf}
+use Rattle.spl_lattice.specs.Reduction.{IsSplitOf}
 use Rattle.spl_lattice.proofs.RowLattices.{zero_rows-matrix, zeros-length, split_read, split_append, extended-matrix}
 use Rattle.spl_lattice.proofs.RowLattices.{from_nothing}
 use Rattle.spl_lattice.proofs.lattices.split_for_meet.Goals as goal

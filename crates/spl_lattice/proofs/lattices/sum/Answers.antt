@@ -1,5 +1,4 @@
-use Rattle.std.proofs.Common.{refl, sym, ◌∙◌, ap, subst, arith, [], ◌++◌, ◌+◌, ◌≤◌, ◌≡◌, length}
-use Rattle.std.specs.List.{All}
+use Rattle.std.proofs.Common.{refl, sym, subst, ◌++◌}
 use Rattle.theory_tables.specs.Matrix.{width_of}
 use Rattle.theory_rows.specs.Rows.{IsLatticeBasis, InLatticeSum}
 use Rattle.spl_field.specs.SmallField.{small_ops}
@@ -27,14 +26,14 @@ returns c =
     let b = c.args.b.now in
     let w = c.common_width-w.result in
     let e = c.common_width-w.ensures in
-    let s = c.in_ok-basis.field-0 in
+    let s = c.in_ok-split.split in
     let t : IsSplitOf o w w (a ++ b) s.basis.items s.places.items s.zeros.items =
     subst (λ x. IsSplitOf o w w (x ++ b) s.basis.items s.places.items s.zeros.items) c.as_slice.ensures
     (subst (λ y. IsSplitOf o w w (c.as_slice.result.now ++ y) s.basis.items s.places.items s.zeros.items)
-    c.as_slice-2.ensures c.in_ok-basis.ensures) in
+    c.as_slice-2.ensures c.in_ok-split.ensures) in
     subst (λ m. IsLatticeBasis o m (InLatticeSum o m a b) c.from_vec.result) e
     (subst (IsLatticeBasis o w (InLatticeSum o w a b))
-    (sym (c.from_vec.ensures ∙ ap (λ v. v.items) c.in_ok-basis.basis-is))
+    (sym c.from_vec.ensures)
     (sum_of_split o L w a b s.basis.items s.places.items s.zeros.items
     (matrix_read o L w (width_of (a ++ b)) a a e refl c.requires.left)
     (matrix_read o L w (width_of (a ++ b)) b b e refl c.requires.right) t))

@@ -1,7 +1,6 @@
-use Rattle.std.proofs.Common.{sym, ◌∙◌, ap, subst, arith, ⊎_elim, ◌≡◌, ◌<◌, ◌≤◌, ◌+◌, ℕ, [], ◌∷◌, ◌++◌, length, get_or, pos}
-use Rattle.std.proofs.lemmas.Bool.{cases_lt}
-use Rattle.std.proofs.lemmas.List.{get_or_default, get_or_append_left, length-append}
-use Rattle.std.proofs.Math.Seq.{get_or-append_seam}
+use Rattle.std.proofs.Common.{sym, ◌∙◌, ap, subst, ◌≡◌, ◌<◌, [], ◌∷◌, ◌++◌, length, get_or, pos, w64}
+use Rattle.std.proofs.lemmas.Int.{to_z-of_z}
+use Rattle.std.proofs.lemmas.List.{get_or_default}
 use Rattle.theory_rings.specs.Polynomial.{degree}
 use Rattle.spl_lattice.proofs.RowLattices.{length_of_entry, degrees_pushed}
 use Rattle.spl_lattice.proofs.reduced.degrees_of.Goals as goal
@@ -26,5 +25,6 @@ loop-i-preserved c =
     let e : x.result ≡ get_or rows i [] = x.is ∙ get_or_default rows i x.result [] c.loop-i-test.true in
     let inv = c.loop-i.invariant in
     degrees_pushed rows places i c.loop-i.degrees c.push.new.self c.degree_at.result inv.count inv.each
-    c.in_ok-push.ensures.ok
+    (c.in_ok-push.ensures.ok ∙ ap (λ d. c.loop-i.degrees ++ d ∷ []) (to_z-of_z w64 c.degree_at.result
+    (record { sfits = c.degree_at.type_inv })))
     (c.degree_at.ensures ∙ ap (λ r. pos (degree (get_or r (get_or places i 0) []))) e)

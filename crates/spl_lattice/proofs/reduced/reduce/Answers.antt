@@ -1,5 +1,4 @@
-use Rattle.std.proofs.Common.{sym, ◌∙◌, ap, subst, arith, [], ◌++◌, ◌+◌, ◌≤◌, ◌≡◌, length}
-use Rattle.std.specs.List.{All}
+use Rattle.std.proofs.Common.{sym, ◌∙◌, ap, subst, ◌+◌, length}
 use Rattle.theory_tables.specs.Matrix.{width_of}
 use Rattle.theory_rows.specs.Rows.{IsPolynomialMatrix, SameRowLattice, IsRowTransform}
 use Rattle.theory_rows.specs.Augmented.{heads_of}

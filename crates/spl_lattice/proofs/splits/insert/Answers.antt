@@ -1,7 +1,7 @@
-use Rattle.std.proofs.Common.{sym, ◌∙◌, ap, subst, [], ◌∷◌, ◌++◌, length, ◌<◌, ◌+◌}
+use Rattle.std.proofs.Common.{sym, subst, [], ◌∷◌, ◌++◌, length}
 use Rattle.spl_field.specs.SmallField.{small_ops}
 use Rattle.theory_rows.specs.Rows.{IsPolynomialRow}
-use Rattle.spl_lattice.proofs.RowReduction.{IsInserting, IsStep, inserting_start, inserting_step, inserting_end}
+use Rattle.spl_lattice.proofs.RowReduction.{IsInserting, inserting_step, inserting_end}
 use Rattle.spl_lattice.proofs.RowReduction.{found_step, none_leads}
 use Rattle.spl_lattice.proofs.splits.insert.Goals as goal
 

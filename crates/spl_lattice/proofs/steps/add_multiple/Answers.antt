@@ -2,7 +2,7 @@ use Rattle.std.proofs.Common.{sym, ◌∙◌, ap, subst, arith, ◌+◌, get_or,
 use Rattle.std.proofs.lemmas.List.{get_or_default}
 use Rattle.spl_field.specs.SmallField.{small_ops}
 use Rattle.spl_lattice.specs.Steps.{IsSumWithMultiple}
-use Rattle.spl_lattice.proofs.RowSteps.{RowDoneBelow, row_done-none, row_done-more}
+use Rattle.spl_lattice.proofs.RowSteps.{RowDoneBelow, row_done-more}
 use Rattle.spl_lattice.proofs.steps.add_multiple.Goals as goal
 
 pub loop-j-preserved : goal.loop-j-preserved
