@@ -6,6 +6,7 @@ pub mod OneRefusal
 mod Elements
 mod Filling
 mod Constants
+mod CanonicalLines
 mod EntryFaults
 mod Admitted
 mod FieldDecisions

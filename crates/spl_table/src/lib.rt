@@ -10,3 +10,4 @@ pub mod reader;
 pub mod refusal;
 pub mod table;
 pub mod triple;
+pub mod writing;
