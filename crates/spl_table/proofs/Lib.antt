@@ -7,6 +7,9 @@ mod Elements
 mod Filling
 mod Constants
 mod CanonicalLines
+mod CanonicalTriples
+mod CanonicalBytes
+mod CanonicalReading
 mod EntryFaults
 mod Admitted
 mod FieldDecisions

@@ -5,6 +5,7 @@
 // table is and what is wrong with each other text; then the type `Table`, `read_table` and `first_failed_triple`.
 #![tactic(auto)]
 
+pub mod canonical_laws;
 pub mod laws;
 pub mod reader;
 pub mod refusal;
