@@ -11,6 +11,7 @@ use spl_table::reader::read_table;
 use spl_table::refusal::{Kind, Refusal, TableFault};
 use spl_table::table::Table;
 use spl_table::triple::first_failed_triple;
+use spl_table::writing::write_table;
 use spl_words::fault::Fault;
 use spl_words::{algebras, show, small, texts};
 use std::alloc::{AllocError, Global};
@@ -157,6 +158,7 @@ fn decision(alloc: Global, table: &Table, out: &mut Vec<u8>) -> Result<(), Fault
 fn on_table(alloc: Global, call: &str, table: &Table, out: &mut Vec<u8>) -> Result<(), Fault> {
     match call {
         "read_table" => contents(alloc, table, out),
+        "write_table" => Ok(show::text(out, write_table(alloc, table)?.as_slice())?),
         "first_failed_triple" => triple(alloc, table, out),
         "identity_or_refutation" => identity(alloc, table, out),
         "faults" => faults(alloc, table, out),
