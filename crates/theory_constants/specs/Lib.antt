@@ -1,2 +1,3 @@
 pub mod Scaled
 pub mod ScalingLaws
+pub mod Residues

@@ -1,11 +1,23 @@
-// What stays of an algebra, by structure constants in any field, when its constants are changed.
+// What stays of an algebra, by structure constants in any field, when its constants are changed, and what a matrix
+// sends to 0, by its residues at a place.
 ghost use Rattle.theory_rings.specs.Ops.{Ops, FieldLaws};
+ghost use Rattle.theory_rings.specs.Elements.{Elem, elements};
+ghost use Rattle.theory_spaces.specs.Valuation.{ValuationOn};
+ghost use Rattle.theory_residue.specs.Residue.{ResidueOn};
 ghost use Rattle.theory_tables.specs.Structure.{Structure};
 ghost use Rattle.theory_constants.specs.ScalingLaws.{ScalingLaw};
+ghost use Rattle.theory_constants.specs.Residues.{KernelsByResidues};
 
 /// The algebra whose constants are c times those of another, c not 0: its products are c times those of the other, so
 /// the same triples of basis elements associate, the multiples of identities by 1/c are its identities, and it has the
 /// same central elements and the same radical of the trace form.
 pub fn multiple_of_constants<E>()
     ensures scaling { (o : Ops E) → FieldLaws o → (A : Structure E) → ScalingLaw o A }
+{}
+
+/// A matrix with entries in a valuation ring: where that of the residues sends 0 alone to 0, so does the matrix; where
+/// what it sends to 0 is on one line, so is what the matrix sends to 0.
+pub fn kernels_by_residues<E, R>()
+    ensures kernels { (o : Ops E) (L : FieldLaws o) (r : Ops R) (N : FieldLaws r) (Z : ValuationOn (elements o L))
+        (q : Elem o) (D : ResidueOn (elements o L) Z q (elements r N)) → KernelsByResidues o L r N Z q D }
 {}
