@@ -1,2 +1,4 @@
 pub mod Scaling
 pub mod Residues
+pub mod Nucleus
+pub mod Subfield

@@ -1,3 +1,5 @@
 pub mod Scaled
 pub mod ScalingLaws
 pub mod Residues
+pub mod Nucleus
+pub mod Subfield

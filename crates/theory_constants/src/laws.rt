@@ -7,6 +7,8 @@ ghost use Rattle.theory_residue.specs.Residue.{ResidueOn};
 ghost use Rattle.theory_tables.specs.Structure.{Structure};
 ghost use Rattle.theory_constants.specs.ScalingLaws.{ScalingLaw};
 ghost use Rattle.theory_constants.specs.Residues.{KernelsByResidues};
+ghost use Rattle.theory_constants.specs.Nucleus.{NucleusLaw};
+ghost use Rattle.theory_constants.specs.Subfield.{ExtensionLaw};
 
 /// The algebra whose constants are c times those of another, c not 0: its products are c times those of the other, so
 /// the same triples of basis elements associate, the multiples of identities by 1/c are its identities, and it has the
@@ -20,4 +22,17 @@ pub fn multiple_of_constants<E>()
 pub fn kernels_by_residues<E, R>()
     ensures kernels { (o : Ops E) (L : FieldLaws o) (r : Ops R) (N : FieldLaws r) (Z : ValuationOn (elements o L))
         (q : Elem o) (D : ResidueOn (elements o L) Z q (elements r N)) → KernelsByResidues o L r N Z q D }
+{}
+
+/// The elements g with (x·g)·y = x·(g·y) for all x and y are closed under sums, multiples and products. So an algebra
+/// is associative where tuples span it, each such a g or the product of two before it.
+pub fn middle_nucleus<E>()
+    ensures nucleus { (o : Ops E) → FieldLaws o → (A : Structure E) → NucleusLaw o A }
+{}
+
+/// Over a field that contains that of the constants the same triples of basis elements associate, and the same tuples
+/// over the smaller field are identities and central.
+pub fn extended_field<E, R>()
+    ensures extension { (o : Ops E) → FieldLaws o → (r : Ops R) → FieldLaws r → (f : E → R) → (A : Structure E)
+        → ExtensionLaw o r f A }
 {}
