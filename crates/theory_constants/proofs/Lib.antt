@@ -2,3 +2,4 @@ pub mod Scaling
 pub mod Residues
 pub mod Nucleus
 pub mod Subfield
+pub mod Systems

@@ -9,6 +9,7 @@ ghost use Rattle.theory_constants.specs.ScalingLaws.{ScalingLaw};
 ghost use Rattle.theory_constants.specs.Residues.{KernelsByResidues};
 ghost use Rattle.theory_constants.specs.Nucleus.{NucleusLaw};
 ghost use Rattle.theory_constants.specs.Subfield.{ExtensionLaw};
+ghost use Rattle.theory_constants.specs.Systems.{SystemLaw};
 
 /// The algebra whose constants are c times those of another, c not 0: its products are c times those of the other, so
 /// the same triples of basis elements associate, the multiples of identities by 1/c are its identities, and it has the
@@ -35,4 +36,10 @@ pub fn middle_nucleus<E>()
 pub fn extended_field<E, R>()
     ensures extension { (o : Ops E) → FieldLaws o → (r : Ops R) → FieldLaws r → (f : E → R) → (A : Structure E)
         → ExtensionLaw o r f A }
+{}
+
+/// A linear system over a field has the same answer over a field that contains it: what solves or refutes it there does
+/// so here, and a tuple over the smaller field is sent to 0 in both or in neither.
+pub fn systems_over_larger_fields<E, R>()
+    ensures systems { (o : Ops E) → FieldLaws o → (r : Ops R) → FieldLaws r → (f : E → R) → SystemLaw o r f }
 {}
