@@ -30,7 +30,8 @@ use Rattle.spl_table.specs.CanonicalTable.{triples, constant_of, is_nonzero, can
 use Rattle.spl_table.specs.CanonicalTable.{canonical_of, canonical_table_text, IsWritable}
 use Rattle.spl_table.specs.declared.table.Table.{Table}
 use Rattle.spl_table.proofs.Admitted.{characteristic_most}
-use Rattle.spl_table.proofs.Places.{place, place-lt}
+use Rattle.spl_table.specs.Reading.{place}
+use Rattle.spl_table.proofs.Places.{place-lt}
 use Rattle.spl_table.proofs.CanonicalTriples.{Rising, rising_triples, right_entries, length_triples, In-triples}
 use Rattle.spl_table.proofs.CanonicalTriples.{none_named, one_named}
 use Rattle.spl_table.proofs.CanonicalBytes.{IsShortList, IsShortEntry, IsShortHead, IsPiece, IsPiece-spelling}

@@ -13,10 +13,10 @@ use Rattle.spl_text.specs.Text.{FractionText}
 use Rattle.spl_fraction.specs.CanonicalWords.{words_of}
 use Rattle.spl_table.specs.TableText.{Entry, Head, dimension_of, constant_at, IsInRange, IsAfter, IsRightEntry}
 use Rattle.spl_table.specs.TableText.{AreRightEntries}
-use Rattle.spl_table.specs.Reading.{place_of, IsPrevious}
+use Rattle.spl_table.specs.Reading.{place, place_of, IsPrevious}
 use Rattle.spl_table.specs.CanonicalTable.{first_numbers, triples_from_pair, triples_from, triples, constant_of}
 use Rattle.spl_table.specs.CanonicalTable.{is_nonzero, canonical_entry, nonzero_entries}
-use Rattle.spl_table.proofs.Places.{place, after_previous}
+use Rattle.spl_table.proofs.Places.{after_previous}
 
 abbrev pub Triple : Type 0
 Triple = ℕ × ℕ × ℕ
