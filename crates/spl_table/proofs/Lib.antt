@@ -10,6 +10,7 @@ mod CanonicalLines
 mod CanonicalTriples
 mod CanonicalBytes
 mod CanonicalReading
+mod CanonicalDegrees
 mod EntryFaults
 mod Admitted
 mod FieldDecisions

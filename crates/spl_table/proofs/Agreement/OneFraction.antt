@@ -19,23 +19,23 @@ use Rattle.theory_fractions.proofs.Lifting.{eq_of_coefficients, has-mul, has-zer
 use Rattle.theory_fractions.proofs.LowestTerms.{fraction_of_lowest}
 
 module _ (o : Ops ℕ) (L : FieldLaws o) where
-  abbrev F : FieldOn (Elem o)
+  abbrev pub F : FieldOn (Elem o)
   F = elements o L
 
-  abbrev P : CommRingOn (Poly F.cring)
+  abbrev pub P : CommRingOn (Poly F.cring)
   P = field_polynomials F
 
-  abbrev poly : List ℕ → Poly F.cring
+  abbrev pub poly : List ℕ → Poly F.cring
   poly xs = polynomial_of o L xs
 
   module _ (num den : List ℕ) (over_num : IsOver o num) (over_den : IsOver o den)
       (k : ℕ) (nonzero : at o den k ≢ o.zero) where
-    den-ne-zero : poly den ≢ P.zero
+    pub den-ne-zero : poly den ≢ P.zero
     den-ne-zero e = nonzero (has_polynomial_of o L den over_den k
         ∙ ap (λ (p : Poly F.cring). (coefficient F.cring p k).0) e ∙ sym (has-zero o L k))
 
     module _ (w : Pair ℕ) (low : IsLowestTerms o w.0 w.1) (is : IsFraction o w num den) where
-      lowest : Lowest F (poly w.0) (poly w.1)
+      pub lowest : Lowest F (poly w.0) (poly w.1)
       lowest = (is_fraction-parts o L w (fraction_of_lowest o L w.0 w.1 low)).2
 
       num_back : values o L (poly w.0).0 ≡ w.0
@@ -44,7 +44,7 @@ module _ (o : Ops ℕ) (L : FieldLaws o) where
       den_back : values o L (poly w.1).0 ≡ w.1
       den_back = values_back o L w.1 (record { over = low.denominator_over; trimmed = low.denominator_trimmed })
 
-      value : SameFraction P (poly w.0) (poly w.1) (poly num) (poly den)
+      pub value : SameFraction P (poly w.0) (poly w.1) (poly num) (poly den)
       value =
           eq_of_coefficients o L (P.◌⊗◌ (poly w.0) (poly den)) (P.◌⊗◌ (poly num) (poly w.1))
           (convolution_of o (at o w.0) (at o den)) (convolution_of o (at o num) (at o w.1))

@@ -18,7 +18,7 @@ use Rattle.spl_text.proofs.NumberLists.{last-from_IsTrimmed}
 use Rattle.spl_fraction.specs.Fractions.{field_of as base_of}
 use Rattle.spl_fraction.specs.FractionsOver.{small_laws}
 use Rattle.spl_table.specs.TableText.{Entry, Head, TableText, size_of, constant_at, IsOverZero, AreRightEntries}
-use Rattle.spl_table.specs.TableText.{IsWellFormed}
+use Rattle.spl_table.specs.TableText.{HasSmallDegrees, IsWellFormed}
 use Rattle.spl_table.specs.Table.{ops_of, denominator_of, IsConstant, AreConstants, IsTableOf, HasSameAlgebra}
 use Rattle.spl_table.specs.declared.table.Table.{Table}
 use Rattle.spl_table.proofs.Constants.{IsOver-small, denominator_elements}
@@ -29,12 +29,13 @@ use Rattle.spl_table.proofs.Agreement.OneFraction.{one_fraction}
 -- ---- the fraction that right entries give a triple
 
 -- a fraction of a right entry
-record IsRightValue (q : ℕ) (v : FractionText) : Type 0 where
-  form : IsFractionText v
-  elements : AllByRecursion (AllByRecursion (λ c. c < q)) (lists_of v)
-  denominator : IsOverZero v → ⊥
+pub record IsRightValue (q : ℕ) (v : FractionText) : Type 0 where
+  pub form : IsFractionText v
+  pub elements : AllByRecursion (AllByRecursion (λ c. c < q)) (lists_of v)
+  pub denominator : IsOverZero v → ⊥
+  pub degrees : HasSmallDegrees v
 
-right_value : (h : Head) (previous : Option Entry) (es : List Entry) → AreRightEntries h previous es → (i j k : ℕ)
+pub right_value : (h : Head) (previous : Option Entry) (es : List Entry) → AreRightEntries h previous es → (i j k : ℕ)
     (v : FractionText) → constant_at es i j k ≡ Some v → IsRightValue (size_of h) v
 right_value h previous [] right i j k v at = absurd (cc)
 right_value h previous (e ∷ es) right i j k v at =
@@ -42,7 +43,12 @@ right_value h previous (e ∷ es) right i j k v at =
   where
     own : IsRightValue (size_of h) e.value
     own = let is = right.0 in let form = is.form in let range = is.range in
-        record { form = form.fraction; elements = range.elements; denominator = is.denominator }
+        record {
+          form = form.fraction;
+          elements = range.elements;
+          denominator = is.denominator;
+          degrees = is.degrees;
+        }
 
     go : (b : Bool) → cond b (Some e.value) (constant_at es i j k) ≡ Some v
         → (constant_at es i j k ≡ Some v → IsRightValue (size_of h) v) → IsRightValue (size_of h) v
@@ -50,7 +56,7 @@ right_value h previous (e ∷ es) right i j k v at =
     go false same later = later same
 
 -- its denominator isn't 0
-nonzero_at : (v : FractionText) → IsFractionText v → (IsOverZero v → ⊥)
+pub nonzero_at : (v : FractionText) → IsFractionText v → (IsOverZero v → ⊥)
     → (k : ℕ) × (get_or (denominator_of v.denominator) k 0 ≢ 0)
 nonzero_at v is other = go v.denominator is.denominator other
   where
