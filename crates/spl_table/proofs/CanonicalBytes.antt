@@ -1,6 +1,6 @@
 -- The canonical text of a table is text, within the limit of a table text.
-use Rattle.std.proofs.Common.{◌≡◌, ℕ, zero, suc, ◌+◌, ◌-◌, ◌*◌, ◌^◌, ◌<◌, ◌≤◌, ◌&&◌, ◌||◌, Bool, true, leb, eqb, List, [], ◌∷◌}
-use Rattle.std.proofs.Common.{◌++◌, length, Option, Some, None, refl, inl, inr, lit<, arith}
+use Rattle.std.proofs.Common.{◌≡◌, ℕ, zero, suc, ◌+◌, ◌-◌, ◌*◌, ◌^◌, ◌<◌, ◌≤◌, ◌&&◌, ◌||◌, Bool, true, leb, eqb, List}
+use Rattle.std.proofs.Common.{[], ◌∷◌, ◌++◌, length, Option, Some, None, refl, inl, inr, lit<, arith}
 use Rattle.std.proofs.Common.{length-append}
 use Rattle.std.specs.Prelude.{codes, decimal}
 use Rattle.std.specs.List.{flat_map, list_all, AllByRecursion}
@@ -10,8 +10,8 @@ use Rattle.std.proofs.lemmas.List.{get_or_append_left, get_or-append_right}
 use Rattle.std.proofs.lemmas.Fmt.{digits_decimal, length-decimal-le}
 use Rattle.std.proofs.lemmas.Str.Parse.{IsNumeralModel, digit_at}
 use Rattle.spl_text.specs.Text.{IsTextByte, IsText, FractionText, numbers_text, fraction_text, lists_of}
-use Rattle.spl_table.specs.TableText.{Entry, Head, first_line, field_line, degree_line, head_lines, entry_line, end_line}
-use Rattle.spl_table.specs.TableText.{spelling, TableText}
+use Rattle.spl_table.specs.TableText.{Entry, Head, first_line, field_line, degree_line, head_lines, entry_line}
+use Rattle.spl_table.specs.TableText.{end_line, spelling, TableText}
 
 -- text of at most so many bytes
 pub record IsPiece (most : ℕ) (bytes : List ℕ) : Type 0 where
@@ -49,7 +49,8 @@ byte_from_test b test =
 
 text_from_test : (word : List ℕ) → list_all is_text_byte word ≡ true → IsText word
 text_from_test [] test i below = absurd (omega arith)
-text_from_test (b ∷ word) test zero below = byte_from_test b (and_parts (is_text_byte b) (list_all is_text_byte word) test).0
+text_from_test (b ∷ word) test zero below =
+    byte_from_test b (and_parts (is_text_byte b) (list_all is_text_byte word) test).0
 text_from_test (b ∷ word) test (suc i) below =
     text_from_test word (and_parts (is_text_byte b) (list_all is_text_byte word) test).1 i (omega arith)
 

@@ -1,6 +1,6 @@
 -- Lowest terms are of no greater degree than what they were made of, so the table of a text has a canonical text, which
 -- reads as the same table.
-use Rattle.std.proofs.Common.{◌≡◌, ◌≢◌, ℕ, zero, suc, ◌+◌, ◌*◌, ◌/◌, ◌%◌, ◌^◌, ◌<◌, ◌≤◌, List, [], ◌∷◌, length, get_or}
+use Rattle.std.proofs.Common.{◌≡◌, ◌≢◌, ℕ, zero, suc, ◌+◌, ◌*◌, ◌/◌, ◌%◌, ◌^◌, ◌<◌, ◌≤◌, List, [], length, get_or}
 use Rattle.std.proofs.Common.{Option, Some, None, refl, sym, ap, ap₂, subst, ◌∙◌, arith}
 use Rattle.std.proofs.Math.Nat.{div-add-mod, mod-lt, div-lt_iff_lt-mul, mul_comm, mul-le-mul}
 use Rattle.std.proofs.lemmas.List.{get_or_past, get_or_default}
@@ -18,7 +18,7 @@ use Rattle.theory_rings.proofs.Fractions.Lowest.{Lowest, IsMonic-ne-zero}
 use Rattle.theory_fractions.specs.PolynomialLists.{IsOver}
 use Rattle.theory_fractions.specs.Fraction.{Pair, IsLowestTerms, IsFraction}
 use Rattle.theory_fractions.proofs.ListPolynomials.{has_polynomial_of, length-polynomial_of}
-use Rattle.spl_field.specs.SmallField.{characteristic, modulus_of, small_ops, size_of as elements_of}
+use Rattle.spl_field.specs.SmallField.{modulus_of, small_ops, size_of as elements_of}
 use Rattle.spl_field.specs.FieldByDigits.{IsAdmitted}
 use Rattle.spl_field.specs.declared.small.SmallField.{SmallField}
 use Rattle.spl_text.specs.Text.{FractionText}
@@ -26,12 +26,12 @@ use Rattle.spl_fraction.specs.FractionsOver.{small_laws}
 use Rattle.spl_table.specs.TableText.{TableText, size_of, constant_at, HasSmallDegrees, IsWellFormed}
 use Rattle.spl_table.specs.Refusal.{whole, IsTableText, IsOnlyTableText}
 use Rattle.spl_table.specs.Reading.{place}
-use Rattle.spl_table.specs.Table.{field_of, algebra_of, denominator_of, IsConstant, IsTableOf, HasSameAlgebra}
+use Rattle.spl_table.specs.Table.{field_of, denominator_of, IsConstant, IsTableOf, HasSameAlgebra}
 use Rattle.spl_table.specs.CanonicalTable.{canonical_of, canonical_table_text, IsWritable}
 use Rattle.spl_table.specs.declared.table.Table.{Table}
 use Rattle.spl_table.proofs.Constants.{IsOver-small, denominator_elements}
 use Rattle.spl_table.proofs.TextLaws.{table_unique, no_table_fault}
-use Rattle.spl_table.proofs.Agreement.OneFraction.{F, P, poly, den-ne-zero, lowest, value}
+use Rattle.spl_table.proofs.Agreement.OneFraction.{P, poly, den-ne-zero, lowest, value}
 use Rattle.spl_table.proofs.Agreement.Tables.{IsRightValue, right_value, nonzero_at, tables_agree}
 use Rattle.spl_table.proofs.CanonicalReading.{well_formed, canonical_is_table_text, canonical_says_table}
 

@@ -1,6 +1,6 @@
 -- The canonical text of a table is a table text, and what it says is the table.
-use Rattle.std.proofs.Common.{◌≡◌, ℕ, zero, suc, ◌+◌, ◌*◌, ◌^◌, ◌<◌, ◌≤◌, Bool, true, false, nat_lt, List, [], ◌∷◌, length}
-use Rattle.std.proofs.Common.{get_or, Option, None, refl, sym, ap, subst, ◌∙◌, append-nil, arith}
+use Rattle.std.proofs.Common.{◌≡◌, ℕ, zero, suc, ◌+◌, ◌*◌, ◌^◌, ◌<◌, ◌≤◌, Bool, true, false, nat_lt, List, [], ◌∷◌}
+use Rattle.std.proofs.Common.{length, get_or, Option, None, refl, sym, ap, subst, ◌∙◌, append-nil, arith}
 use Rattle.std.specs.List.{AllByRecursion, filter}
 use Rattle.std.proofs.Math.Nat.{mul-le-mul, pow-suc, one-le-pow}
 use Rattle.std.proofs.lemmas.Bool.{lt-ltb, ltb-true}
@@ -67,7 +67,8 @@ words_say f w low =
     let den : at o (text_denominator (denominator_of w.1)) ≡ at o w.1 =
     ap (at o) (denominator_again o w.1 low.denominator_nonzero low.monic) in
     record {
-      products = λ k. ap (λ g. convolution_of o (at o w.0) g k) den ∙ ap (λ g. convolution_of o g (at o w.1) k) (sym num);
+      products = λ k. ap (λ g. convolution_of o (at o w.0) g k) den
+          ∙ ap (λ g. convolution_of o g (at o w.1) k) (sym num);
     }
 
 not_over_zero : (w : Pair ℕ) → IsOverZero (words_of w) → ⊥
@@ -77,7 +78,9 @@ not_over_zero w over =
 
 empty_of_zero : (u : List ℕ) → nat_lt 0 (length u) ≡ false → u ≡ []
 empty_of_zero [] e = refl
-empty_of_zero (c ∷ cs) e = absurd (let some : nat_lt 0 (length (c ∷ cs)) ≡ true = lt-ltb 0 (length (c ∷ cs)) (omega arith) in cc)
+empty_of_zero (c ∷ cs) e =
+    let some : nat_lt 0 (length (c ∷ cs)) ≡ true = lt-ltb 0 (length (c ∷ cs)) (omega arith) in
+    absurd (cc)
 
 length_le_pow : (p : ℕ) → 2 ≤ p → (n : ℕ) → n ≤ p ^ n
 length_le_pow p two zero = omega arith

@@ -233,7 +233,8 @@ module _ (A : Structure (Pair ℕ)) where
             → found (nonzero_entries A ts) ≡ None → found_with t ts b ≡ None
         name false other kept_too rest = rest
         name true same kept_too rest =
-            absurd (let left : is_nonzero (constant_of A t.0 t.1 t.2) ≡ false = ap is_nonzero (named t same) ∙ zero_here in cc)
+            let left : is_nonzero (constant_of A t.0 t.1 t.2) ≡ false = ap is_nonzero (named t same) ∙ zero_here in
+            absurd (cc)
 
         kept : (b : Bool) → is_nonzero (constant_of A t.0 t.1 t.2) ≡ b → found (nonzero_entries A ts) ≡ None
             → found (kept_with t ts b) ≡ None
@@ -255,7 +256,9 @@ module _ (A : Structure (Pair ℕ)) where
 
         kept : (b : Bool) → is_nonzero (constant_of A t.0 t.1 t.2) ≡ b
             → found (kept_with t ts b) ≡ Some (words_of value)
-        kept false left = absurd (let kept_too : is_nonzero (constant_of A t.0 t.1 t.2) ≡ true = ap is_nonzero here ∙ some in cc)
+        kept false left =
+            let kept_too : is_nonzero (constant_of A t.0 t.1 t.2) ≡ true = ap is_nonzero here ∙ some in
+            absurd (cc)
         kept true kept_too = name (names t) refl
     one_named some (t ∷ ts) (inr later) = kept (is_nonzero (constant_of A t.0 t.1 t.2)) (one_named some ts later)
       where

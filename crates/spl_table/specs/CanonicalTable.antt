@@ -52,7 +52,11 @@ nonzero_entries A ts =
 -- what it says
 abbrev pub canonical_of : Table → TableText
 canonical_of t = record {
-  head = record { characteristic = characteristic (field_of t); modulus = modulus_of (field_of t); degree = degree_of t };
+  head = record {
+    characteristic = characteristic (field_of t);
+    modulus = modulus_of (field_of t);
+    degree = degree_of t;
+  };
   entries = nonzero_entries (algebra_of t) (triples (algebra_of t).dim);
 }
 

@@ -4,8 +4,8 @@ ghost use Rattle.std.specs.List.{flat_map};
 ghost use Rattle.theory_rings.specs.Ops.{IsElem};
 ghost use Rattle.spl_table.specs.TableText.{entry_line, head_lines};
 ghost use Rattle.spl_table.specs.Table.{algebra_of, ops_of};
-ghost use Rattle.spl_table.specs.CanonicalTable.{triples, triples_from, triples_from_pair, constant_of, canonical_entry};
-ghost use Rattle.spl_table.specs.CanonicalTable.{nonzero_entries, canonical_of, canonical_table_text};
+ghost use Rattle.spl_table.specs.CanonicalTable.{triples, triples_from, triples_from_pair, constant_of};
+ghost use Rattle.spl_table.specs.CanonicalTable.{canonical_entry, nonzero_entries, canonical_of, canonical_table_text};
 
 use crate::table::Table;
 use spl_field::field::NoMemory;

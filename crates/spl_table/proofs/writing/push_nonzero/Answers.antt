@@ -12,5 +12,7 @@ pub returns : goal.returns
 returns c =
     on_ok c.push_entry.result
     (one_written (algebra_of c.args.table.now) c.args.out.now.items c.push_entry.new.out.items c.args.i c.args.j
-    c.args.k c.args.x.now c.requires.value (λ none. let yes = c.is_zero.ensures.1 (c.numerator.ensures.value ∙ none) in absurd (let no = c.if-is_zero.false in cc)))
+    c.args.k c.args.x.now c.requires.value (λ none.
+    let is = c.is_zero.ensures.1 (c.numerator.ensures.value ∙ none) in
+    absurd (let is_not = c.if-is_zero.false in cc)))
     c.push_entry.ensures
