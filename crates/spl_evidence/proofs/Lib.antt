@@ -1,5 +1,8 @@
 pub mod Fits
 mod LineTexts
+mod SpacedWords
+mod LineParts
+mod CanonicalWords
 mod Prefixes
 mod RightLines
 mod SameEvidence

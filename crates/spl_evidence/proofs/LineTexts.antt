@@ -1,5 +1,5 @@
 -- The text of a line: what it lacks, and that it is that of one line.
-use Rattle.std.proofs.Common.{◌≡◌, ◌⊎◌, ℕ, ◌+◌, ◌*◌, ◌<◌, cond, eqb, List, [], ◌∷◌, ◌++◌, length, get_or, refl, sym, ap}
+use Rattle.std.proofs.Common.{◌≡◌, ℕ, ◌+◌, ◌*◌, ◌<◌, cond, eqb, List, [], ◌∷◌, ◌++◌, length, get_or, refl, sym, ap}
 use Rattle.std.proofs.Common.{ap₂, subst, ◌∙◌, inl, inr, arith, append_assoc, append-nil}
 use Rattle.std.specs.Prelude.{codes, decimal}
 use Rattle.std.specs.List.{flat_map, AllByRecursion}
@@ -7,16 +7,13 @@ use Rattle.spl_text.specs.Text.{Lacks, IsNumber, FractionText, IsFractionText, f
 use Rattle.spl_text.proofs.Words.{Lacks-from_test, Lacks-cons, Lacks-append, Lacks-decimal, not_within, split_unique}
 use Rattle.spl_text.proofs.Words.{number_unique}
 use Rattle.spl_text.proofs.Fractions.{Lacks-fraction_text, fraction_unique}
+use Rattle.spl_evidence.specs.Reading.{EndsWord}
 use Rattle.spl_evidence.specs.Line.{Line, word_text, numbers_text, fractions_text, line_text, HasForm}
 use Rattle.spl_evidence.specs.declared.word.Word.{Word}
 use Rattle.spl_evidence.specs.declared.word.Word.TheVariants.{Triple, NoIdentity, Central, Ideal, Split, Left, Right}
 use Rattle.spl_evidence.specs.declared.word.Word.TheVariants.{Tuple, Map, Unit as UnitTuple, End}
 
 -- ---- words behind one another, a space before each
-
--- a text that begins with a space, or is empty
-abbrev pub EndsWord : List ℕ → Type 0
-EndsWord rest = (rest ≡ []) ⊎ ((after : List ℕ) × (rest ≡ 32 ∷ after))
 
 -- a word ends at the space of the next
 pub word_and_rest : (u v r s : List ℕ) → Lacks 32 u → Lacks 32 v → EndsWord r → EndsWord s → u ++ r ≡ v ++ s
@@ -71,7 +68,7 @@ Lacks-spaced text P lacks (x ∷ xs) p =
 number_lacks : (separator n : ℕ) → separator < 48 → IsNumber n → Lacks separator (decimal n)
 number_lacks separator n low is = Lacks-decimal separator n low is
 
-EndsWord-fractions : (ts : List FractionText) → EndsWord (fractions_text ts)
+pub EndsWord-fractions : (ts : List FractionText) → EndsWord (fractions_text ts)
 EndsWord-fractions [] = inl refl
 EndsWord-fractions (t ∷ ts) = inr (fraction_text t ++ fractions_text ts, refl)
 

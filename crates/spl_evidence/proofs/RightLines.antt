@@ -306,7 +306,7 @@ module _ (f : SmallField) where
     rights_after count j k ((a, b, x) ∷ xs) h first =
         whole-cons (Some (at_side count Right j k)) (multiplier_line Right (a, b, x))
         (map (multiplier_line Right) xs ++ end_line ∷ [])
-        (right_right (at_side count Right j k) a b x xs (first_of Right (End ∷ [])) (first (a, b, x) xs refl) h)
+        (right_right (at_side count Right j k) a b x xs (first_of Right (End ∷ [])) (λ e. first (a, b, x) xs refl) h)
         (rights_after (suc count) a b xs (AreMultipliers-tail (a, b, x) xs h) (second_goes_up a b x xs h))
 
     rights_behind_kind : (xs : List (ℕ × ℕ × Pair ℕ)) → AreMultipliers K (n * n) xs
@@ -316,7 +316,7 @@ module _ (f : SmallField) where
     rights_behind_kind ((a, b, x) ∷ xs) h =
         whole-cons (Some (at_side 0 NoIdentityWord 0 0)) (multiplier_line Right (a, b, x))
         (map (multiplier_line Right) xs ++ end_line ∷ [])
-        (right_right (at_side 0 NoIdentityWord 0 0) a b x xs (second_of Left Right (End ∷ [])) tt h)
+        (right_right (at_side 0 NoIdentityWord 0 0) a b x xs (second_of Left Right (End ∷ [])) (λ e. absurd cc) h)
         (rights_after 1 a b xs (AreMultipliers-tail (a, b, x) xs h) (second_goes_up a b x xs h))
 
     rights_behind_left : (count j k : ℕ) (xs : List (ℕ × ℕ × Pair ℕ)) → AreMultipliers K (n * n) xs
@@ -326,7 +326,7 @@ module _ (f : SmallField) where
     rights_behind_left count j k ((a, b, x) ∷ xs) h =
         whole-cons (Some (at_side count Left j k)) (multiplier_line Right (a, b, x))
         (map (multiplier_line Right) xs ++ end_line ∷ [])
-        (right_right (at_side count Left j k) a b x xs (second_of Left Right (End ∷ [])) tt h)
+        (right_right (at_side count Left j k) a b x xs (second_of Left Right (End ∷ [])) (λ e. absurd cc) h)
         (rights_after (suc count) a b xs (AreMultipliers-tail (a, b, x) xs h) (second_goes_up a b x xs h))
 
     lefts_after : (count j k : ℕ) (xs ys : List (ℕ × ℕ × Pair ℕ)) → AreMultipliers K (n * n) xs
@@ -339,7 +339,7 @@ module _ (f : SmallField) where
     lefts_after count j k ((a, b, x) ∷ xs) ys h g first =
         whole-cons (Some (at_side count Left j k)) (multiplier_line Left (a, b, x))
         (map (multiplier_line Left) xs ++ (map (multiplier_line Right) ys ++ end_line ∷ []))
-        (left_right (at_side count Left j k) a b x xs (first_of Left (Right ∷ End ∷ [])) (first (a, b, x) xs refl) h)
+        (left_right (at_side count Left j k) a b x xs (first_of Left (Right ∷ End ∷ [])) (λ e. first (a, b, x) xs refl) h)
         (lefts_after (suc count) a b xs ys (AreMultipliers-tail (a, b, x) xs h) g (second_goes_up a b x xs h))
 
     sides_whole : (xs ys : List (ℕ × ℕ × Pair ℕ)) → AreMultipliers K (n * n) xs → AreMultipliers K (n * n) ys
@@ -350,7 +350,7 @@ module _ (f : SmallField) where
     sides_whole ((a, b, x) ∷ xs) ys h g =
         whole-cons (Some (at_side 0 NoIdentityWord 0 0)) (multiplier_line Left (a, b, x))
         (map (multiplier_line Left) xs ++ (map (multiplier_line Right) ys ++ end_line ∷ []))
-        (left_right (at_side 0 NoIdentityWord 0 0) a b x xs (first_of Left (Right ∷ End ∷ [])) tt h)
+        (left_right (at_side 0 NoIdentityWord 0 0) a b x xs (first_of Left (Right ∷ End ∷ [])) (λ e. absurd cc) h)
         (lefts_after 1 a b xs ys (AreMultipliers-tail (a, b, x) xs h) g (second_goes_up a b x xs h))
 
     -- ---- matrices and units

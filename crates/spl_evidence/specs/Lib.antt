@@ -1,4 +1,5 @@
 pub mod Line
 pub mod Evidence
 pub mod Refusal
+pub mod Reading
 pub mod Claim

@@ -106,17 +106,9 @@ NumbersAreInOrder n b l = go l.word
     pair_goes_up : Type 0
     pair_goes_up = PairBefore b.j b.k (number_at l 0) (number_at l 1)
 
-    behind_left : Word → Type 0
-    behind_left Left = pair_goes_up
-    behind_left _ = Unit {0}
-
-    behind_right : Word → Type 0
-    behind_right Right = pair_goes_up
-    behind_right _ = Unit {0}
-
     go : Word → Type 0
-    go Left = behind_left b.last
-    go Right = behind_right b.last
+    go Left = b.last ≡ Left → pair_goes_up
+    go Right = b.last ≡ Right → pair_goes_up
     go Map = number_at l 0 ≡ b.count + 1
     go UnitTuple = (number_at l 0 - 1) * n + number_at l 1 + n * n ≡ b.count + 1
     go _ = Unit {0}

@@ -5,9 +5,13 @@
 // `write_evidence`.
 #![tactic(auto)]
 
+mod arguments;
+mod due;
 pub mod evidence;
 pub mod laws;
+mod line;
 mod lines;
 pub mod refusal;
+mod terms;
 pub mod word;
 pub mod writing;

@@ -1,6 +1,6 @@
 // The words that begin the lines of evidence.
 ghost use Rattle.std.specs.Prelude.{◌≡◌};
-ghost use Rattle.spl_evidence.specs.Line.{word_text};
+ghost use Rattle.spl_evidence.specs.Line.{word_text, number_count, fraction_count};
 
 /// The word of a line of evidence behind the first: the second line has that of a kind, the others have the rest.
 #[derive(Clone, Copy)]
@@ -47,6 +47,44 @@ impl Word {
             Word::Map => b"map",
             Word::Unit => b"unit",
             Word::End => b"end",
+        }
+    }
+
+    /// How many numbers follow the word.
+    pub(crate) fn number_count(self) -> usize
+        ensures { result ≡ number_count self }
+    {
+        match self {
+            Word::Triple => 3,
+            Word::Ideal => 1,
+            Word::Left => 2,
+            Word::Right => 2,
+            Word::Map => 1,
+            Word::Unit => 2,
+            Word::NoIdentity => 0,
+            Word::Central => 0,
+            Word::Split => 0,
+            Word::Tuple => 0,
+            Word::End => 0,
+        }
+    }
+
+    /// How many fractions follow them, over an algebra of dimension m.
+    pub(crate) fn fraction_count(self, m: usize) -> usize
+        ensures { result ≡ fraction_count m self }
+    {
+        match self {
+            Word::Left => 1,
+            Word::Right => 1,
+            Word::Tuple => m,
+            Word::Map => m,
+            Word::Unit => m,
+            Word::Triple => 0,
+            Word::NoIdentity => 0,
+            Word::Central => 0,
+            Word::Ideal => 0,
+            Word::Split => 0,
+            Word::End => 0,
         }
     }
 }
