@@ -3,6 +3,8 @@ mod LineTexts
 mod SpacedWords
 mod LineParts
 mod CanonicalWords
+mod Orders
+mod ReadLines
 mod Prefixes
 mod RightLines
 mod SameEvidence

@@ -146,7 +146,7 @@ fn is_pair_before(j: u32, k: u32, other_j: u32, other_k: u32) -> bool
 }
 
 /// The number at a place, and 0 where there is none.
-fn number_at(numbers: &[u32], place: usize) -> u32
+pub(crate) fn number_at(numbers: &[u32], place: usize) -> u32
     ensures { result ≡ get_or numbers.now place 0 }
 {
     match numbers.get(place) {
@@ -207,20 +207,28 @@ fn is_next(count: u32, number: u32) -> bool
     u64::from(number) == u64::from(count) + 1
 }
 
-/// Whether the unit tuple behind so many lines has this row and column.
+/// Whether the unit tuple behind so many lines has this row, which is counted from 1, and this column.
 fn is_next_unit(count: u32, n: u32, row: u32, column: u32) -> bool
-    requires small { n ≤ 5 }
-    requires row { 1 ≤ row }
-    ensures { IsTrue result ↔ ((row - 1) * n + column + n * n ≡ count + 1) }
+    requires { n ≤ 5 }
+    ensures { 1 ≤ row → (IsTrue result ↔ ((row - 1) * n + column + n * n ≡ count + 1)) }
 {
+    if row == 0 {
+        return false;
+    }
     let n = u64::from(n);
     (u64::from(row) - 1) * n + u64::from(column) + n * n == u64::from(count) + 1
 }
 
 /// Whether a line of this word and these numbers is in order behind the others.
-fn is_in_order_behind(before: &Before, n: u32, word: Word, first: u32, second: u32) -> bool
+pub(crate) fn is_in_order_behind(
+    before: &Before,
+    n: u32,
+    word: Word,
+    first: u32,
+    second: u32,
+) -> bool
     requires small { n ≤ 5 }
-    ensures { 1 ≤ first → (IsTrue result ↔ NumbersAreInOrder n before.now
+    ensures { (word ≡ UnitTuple → 1 ≤ first) → (IsTrue result ↔ NumbersAreInOrder n before.now
         (record { word = word; numbers = first ∷ second ∷ []; fractions = [] })) }
 {
     match word {
@@ -233,7 +241,7 @@ fn is_in_order_behind(before: &Before, n: u32, word: Word, first: u32, second: u
             is_pair_before(before.j, before.k, first, second),
         ),
         Word::Map => is_next(before.count, first),
-        Word::Unit => 1 <= first && is_next_unit(before.count, n, first, second),
+        Word::Unit => is_next_unit(before.count, n, first, second),
         Word::Triple => true,
         Word::NoIdentity => true,
         Word::Central => true,

@@ -11,6 +11,7 @@ pub mod evidence;
 pub mod laws;
 mod line;
 mod lines;
+mod reading;
 pub mod refusal;
 mod terms;
 pub mod word;

@@ -53,7 +53,7 @@ fn line_of<'a>(
 }
 
 /// The line that the text spells, where its word is one of these.
-fn line_of_words<'a>(
+pub(crate) fn line_of_words<'a>(
     alloc: Global,
     m: usize,
     q: u32,
