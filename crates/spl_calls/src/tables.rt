@@ -178,7 +178,7 @@ pub(crate) fn call(
         return Err(Fault::BadLine);
     };
     match read_table(alloc, texts::bytes_of(alloc, text)?.as_slice()) {
-        Ok((table, _)) => on_table(alloc, call, &table, out),
+        Ok(table) => on_table(alloc, call, &table, out),
         Err(TableFault::Memory) => Err(Fault::Memory(AllocError)),
         Err(TableFault::Refused { refusal: why }) => refusal(out, why),
     }

@@ -1,9 +1,10 @@
 -- What `decide` answers to the text of a table.
 use Rattle.std.specs.Prelude.{◌≡◌, ℕ, ◌*◌, List, []}
-use Rattle.std.proofs.Common.{inl, inr, sym, ◌∙◌, ap, subst}
-use Rattle.spl_table.specs.TableText.{TableText, line_of_end}
-use Rattle.spl_table.specs.Table.{degree_of, algebra_of, ops_of, IsTableOf}
+use Rattle.std.proofs.Common.{inl, inr, sym, ◌∙◌, subst}
+use Rattle.spl_table.specs.Front.{IsFrontOf}
+use Rattle.spl_table.specs.Table.{degree_of, algebra_of, ops_of}
 use Rattle.spl_table.specs.Refusal.{whole, IsTableText, IsRefusal}
+use Rattle.spl_table.specs.declared.reader.Front.{Front}
 use Rattle.spl_table.specs.declared.table.Table.{Table}
 use Rattle.spl_table.specs.declared.refusal.Refusal.{Refusal}
 use Rattle.spl_table.specs.declared.refusal.Kind.TheVariants.{NotBuilt}
@@ -17,16 +18,24 @@ use Rattle.spl_engine.specs.Kind.{IsEvidence, HasNoFault}
 use Rattle.spl_cli.specs.declared.status.Status.{Status}
 use Rattle.spl_cli.specs.declared.status.Status.TheVariants.{Done, Refused}
 use Rattle.spl_cli.specs.Forms.{IsDecide}
-use Rattle.spl_cli.specs.Report.{refusal_text, ShowsEvidence}
+use Rattle.spl_cli.specs.Report.{refusal_text, Stands, ShowsEvidence}
 use Rattle.spl_cli.specs.Run.{SinkState}
 use Rattle.spl_cli.specs.Finish.{Finishes, Answers}
 
 module _ (words : List (List ℕ)) (input : List ℕ) (sink sink' : SinkState) (status : Status) (form : IsDecide words)
-    (table : Table) (last : ℕ) (read : (t : TableText) × IsTableText whole input t [] × IsTableOf t table
-    × (last ≡ line_of_end t)) (bytes : List ℕ) where
+    (front : Front) (read : IsFrontOf whole input front) (bytes : List ℕ) where
+  abbrev stands : Stands input front.table
+  stands =
+      let is = read.is_text in
+      record {
+        text = read.text;
+        is_text = subst (λ (r : List ℕ). IsTableText whole input read.text r) is.follows is;
+        is_table = read.is_table;
+      }
+
   -- a table without a fault is refused at its last line
-  pub Answers-undecided : (refusal : Refusal) → HasNoFault (ops_of table) (algebra_of table)
-      → refusal.line ≡ last → refusal.kind ≡ NotBuilt → bytes ≡ refusal_text refusal
+  pub Answers-undecided : (refusal : Refusal) → HasNoFault (ops_of front.table) (algebra_of front.table)
+      → refusal.line ≡ front.lines → refusal.kind ≡ NotBuilt → bytes ≡ refusal_text refusal
       → Finishes Refused bytes sink sink' status → Answers words input sink sink' status
   Answers-undecided refusal no_fault line kind report finishes = record {
     ends = inr (
@@ -37,10 +46,10 @@ module _ (words : List (List ℕ)) (input : List ℕ) (sink sink' : SinkState) (
         record {
           refusal = refusal;
           cause = inr (record {
-            table = table;
-            stands = record { text = read.0; is_text = read.1; is_table = read.2 };
+            table = front.table;
+            stands = stands;
             no_fault = no_fault;
-            line = line ∙ read.3;
+            line = line ∙ read.lines;
             kind = kind;
           });
           report = report;
@@ -52,7 +61,7 @@ module _ (words : List (List ℕ)) (input : List ℕ) (sink sink' : SinkState) (
   }
 
   -- evidence is written
-  pub Answers-found : ShowsEvidence table bytes → Finishes Done bytes sink sink' status
+  pub Answers-found : ShowsEvidence front.table bytes → Finishes Done bytes sink sink' status
       → Answers words input sink sink' status
   Answers-found shows finishes = record {
     ends = inr (
@@ -60,12 +69,7 @@ module _ (words : List (List ℕ)) (input : List ℕ) (sink sink' : SinkState) (
       bytes,
       (
         form,
-        record {
-          table = table;
-          stands = record { text = read.0; is_text = read.1; is_table = read.2 };
-          shows =
-              shows;
-        },
+        record { table = front.table; stands = stands; shows = shows },
       ),
       finishes,
     );

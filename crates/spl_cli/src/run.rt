@@ -16,7 +16,7 @@ use spl_evidence::writing::write_evidence;
 use spl_field::field::NoMemory;
 use spl_outside::outside::{Failed, Sink, Source};
 use spl_outside::write::write_whole;
-use spl_table::reader::read_table;
+use spl_table::reader::read_whole;
 use spl_table::refusal::{Kind, Refusal, TableFault};
 use spl_table::table::Table;
 use std::alloc::Global;
@@ -57,18 +57,18 @@ fn report_on<K: Sink>(alloc: Global, input: &[u8], sink: &mut K) -> Status
     ensures { (words : List (List ℕ)) → IsDecide words → Answers words input.now
         (sink_state K.written K.faults K.steady sink.old) (sink_state K.written K.faults K.steady sink.new) result }
 {
-    match read_table(alloc, input) {
+    match read_whole(alloc, input) {
         Err(TableFault::Memory) => Status::Memory,
         Err(TableFault::Refused { refusal }) => finish(
             sink,
             refusal_line(refusal).as_str().as_bytes(),
             Status::Refused,
         ),
-        Ok((table, last)) => match evidence_on(alloc, &table) {
+        Ok(read) => match evidence_on(alloc, &read.table) {
             Err(_) => Status::Memory,
             Ok(None) => {
                 let refusal = Refusal {
-                    line: last,
+                    line: read.lines,
                     kind: Kind::NotBuilt,
                 };
                 finish(

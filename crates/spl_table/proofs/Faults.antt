@@ -1,6 +1,6 @@
 -- From the faults of single lines to those of a text.
-use Rattle.std.proofs.Common.{◌≡◌, ◌≢◌, ℕ, ◌+◌, ◌*◌, ◌%◌, ◌≤◌, List, [], ◌∷◌, ◌++◌, length, None, refl, sym, ap, subst}
-use Rattle.std.proofs.Common.{◌∙◌, inl, inr, append_assoc, append-nil, arith}
+use Rattle.std.proofs.Common.{◌≡◌, ◌≢◌, ℕ, ◌+◌, ◌*◌, ◌-◌, ◌%◌, ◌<◌, ◌≤◌, List, [], ◌∷◌, ◌++◌, length, None, refl, sym, ap, subst}
+use Rattle.std.proofs.Common.{◌∙◌, inl, inr, append_assoc, length-append, arith}
 use Rattle.std.specs.Prelude.{Result, Ok, Err, IfOk, IfErr}
 use Rattle.std.proofs.lemmas.Result.{IfErr-at_err}
 use Rattle.std.specs.List.{flat_map}
@@ -17,10 +17,13 @@ use Rattle.spl_fraction.specs.declared.field.Fractions.{Fractions}
 use Rattle.spl_table.specs.TableText.{Entry, Head, first_line, field_line, degree_line, head_lines, entry_line}
 use Rattle.spl_table.specs.TableText.{TableText, end_line, lines_before_end, spelling, line_of_end, IsRightHead}
 use Rattle.spl_table.specs.TableText.{IsWellFormed}
-use Rattle.spl_table.specs.Refusal.{Extent, whole, Begins, HasField, LacksLine, LineFault, last_of, IsAfterEnd, IsFaultOfLines}
-use Rattle.spl_table.specs.Refusal.{IsTableText, IsFirstFault, IsRefusal, IsNoTextAt, IsWithinLimit, table_limit}
+use Rattle.spl_table.specs.Refusal.{Extent, whole, front, Begins, HasField, LacksLine, LineFault, last_of, IsAfterEnd}
+use Rattle.spl_table.specs.Refusal.{IsFaultOfLines, IsFirstFault, IsRefusal, IsNoTextAt, IsWithinLimit, table_limit}
+use Rattle.spl_table.specs.Refusal.{IsTableText, IsRightToField}
+use Rattle.spl_table.specs.Front.{IsFrontOf}
 use Rattle.spl_table.specs.Table.{fractions_of, degree_of, algebra_of, AreConstants, IsTableOf}
 use Rattle.spl_table.specs.declared.table.Table.{Table}
+use Rattle.spl_table.specs.declared.reader.Front.{Front}
 use Rattle.spl_table.specs.Reading.{IfRefused, head_of, field_text, degree_text, IsFieldFault, IsDegreeFault}
 use Rattle.spl_table.specs.Reading.{IsFaultAfter, AreEntries}
 use Rattle.spl_table.specs.declared.refusal.Kind.{Kind}
@@ -306,31 +309,32 @@ module _ (x : Extent) (bytes rest : List ℕ) (h : Head) (right : IsRightHead h)
     all = spelled ∙ ap (λ t. head_lines h ++ t) read.spelled
         ∙ sym (append_assoc (head_lines h) (flat_map entry_line read.entries) (end_line ++ after))
 
-    pub bytes_after_end : length after ≢ 0 → IsAfterEnd bytes (number + 1)
-    bytes_after_end some = go after some all
-      where
-        go : (left : List ℕ) → length left ≢ 0 → bytes ≡ lines_before_end h read.entries ++ (end_line ++ left)
-            → IsAfterEnd bytes (number + 1)
-        go [] none e = absurd (none refl)
-        go (byte ∷ left) more e = record {
-          head = h;
-          entries = read.entries;
-          byte = byte;
-          rest = left;
-          begins = record { head = right; entries = read.right; spelled = e };
-          at_line = omega (arith, read.line_number);
-        }
+    abbrev pub text_read : TableText
+    text_read = record { head = h; entries = read.entries }
 
-    pub well_formed : IsWellFormed (record { head = h; entries = read.entries })
-    well_formed = record { head = right; entries = read.right }
+    spelled_text : bytes ≡ spelling text_read ++ after
+    spelled_text = all ∙ sym (append_assoc (lines_before_end h read.entries) end_line after)
 
-    pub spelled_whole : length after ≡ 0 → bytes ≡ spelling (record { head = h; entries = read.entries })
-    spelled_whole none = go after none all
-      where
-        go : (left : List ℕ) → length left ≡ 0 → bytes ≡ lines_before_end h read.entries ++ (end_line ++ left)
-            → bytes ≡ lines_before_end h read.entries ++ end_line
-        go [] e same = same ∙ ap (λ t. lines_before_end h read.entries ++ t) (append-nil end_line)
-        go (byte ∷ left) e same = absurd (omega arith)
+    -- what follows is no longer than the whole
+    pub size_read : length bytes ≡ length (spelling text_read) + length after
+    size_read = ap length spelled_text ∙ length-append (spelling text_read) after
+
+    pub front_read : IsText bytes → (f : Front) → IsTableOf text_read f.table → f.used ≡ length bytes - length after
+        → f.lines ≡ number → IsFrontOf front bytes f
+    front_read text f is_table used lines = record {
+      text = text_read;
+      rest = after;
+      is_text = record {
+        within = tt;
+        text = text;
+        well_formed = record { head = right; entries = read.right };
+        spelled = spelled_text;
+        follows = tt;
+      };
+      is_table = is_table;
+      used = omega (arith, used, size_read);
+      lines = lines ∙ read.line_number;
+    }
 
 -- ---- the whole text
 
@@ -373,35 +377,108 @@ is_first_fault x bytes within text at NoEnd w = (within, text, w)
 is_first_fault x bytes within text at AfterEnd w = (within, text, w)
 is_first_fault x bytes within text at NotBuilt w = (within, text, w)
 
+-- of an input that is text, the first fault of its lines is the first of those of the front form
+pub refused_lines : {T : Type 0} (bytes : List ℕ) → IsText bytes → (r : Result T TableFault)
+    → IfErr r (λ e. IfRefused e (IsFaultOfLines front bytes)) → (refusal : Refusal) → r ≡ Err (Refused refusal)
+    → IsRefusal front bytes refusal
+refused_lines bytes text r faults refusal is =
+    is_first_fault front bytes tt text refusal.line refusal.kind
+    (IfErr-at_err (λ e. IfRefused e (IsFaultOfLines front bytes)) is faults)
+
+pub refused_bytes : (bytes : List ℕ) (e : TableFault)
+    → IfRefused e (λ at kind. (kind ≡ NotText) × IsNoTextAt bytes at) → (refusal : Refusal) → e ≡ Refused refusal
+    → IsRefusal front bytes refusal
+refused_bytes bytes e fault refusal is =
+    let found = subst (λ (x : TableFault).
+    IfRefused x (λ at kind. (kind ≡ NotText) × IsNoTextAt bytes at)) is fault in
+    subst (λ (kind : Kind). IsFirstFault front bytes refusal.line kind) (sym found.0) (tt, found.1)
+
+-- ---- from the front form to the whole one
+
 module _ (bytes : List ℕ) (within : length bytes ≤ table_limit) where
-  pub refused_lines : {T : Type 0} → IsText bytes → (r : Result T TableFault)
-      → IfErr r (λ e. IfRefused e (IsFaultOfLines whole bytes)) → (refusal : Refusal) → r ≡ Err (Refused refusal)
-      → IsRefusal whole bytes refusal
-  refused_lines text r faults refusal is =
-      is_first_fault whole bytes within text refusal.line refusal.kind
-      (IfErr-at_err (λ e. IfRefused e (IsFaultOfLines whole bytes)) is faults)
+  whole_fault : (at : ℕ) (kind : Kind) → IsFirstFault front bytes at kind → IsFirstFault whole bytes at kind
+  whole_fault at TooLong w = absurd w.1
+  whole_fault at NotText w = (within, w.1)
+  whole_fault at Header w = (within, w.1, w.2)
+  whole_fault at FieldSize w = (within, w.1, w.2)
+  whole_fault at (FieldLaw element) w = (within, w.1, w.2)
+  whole_fault at Degree w = (within, w.1, w.2)
+  whole_fault at Characteristic w = (within, w.1, w.2)
+  whole_fault at EntryForm w = (within, w.1, w.2)
+  whole_fault at EntryRange w = (within, w.1, w.2)
+  whole_fault at EntryOrder w = (within, w.1, w.2)
+  whole_fault at ZeroDenominator w = (within, w.1, w.2)
+  whole_fault at PolyDegree w = (within, w.1, w.2)
+  whole_fault at NoEnd w = (within, w.1, w.2)
+  whole_fault at AfterEnd w = absurd (let f = w.2 in f.fault)
+  whole_fault at NotBuilt w = absurd (let f = w.2 in f.fault)
 
-  pub whole_text : IsText bytes → (r : Result (Table × ℕ) TableFault)
-      → IfOk r (λ x. (t : TableText) × IsWellFormed t × (bytes ≡ spelling t) × IsTableOf t x.0
-      × (x.1 ≡ line_of_end t))
-      → IfOk r (λ x. (t : TableText) × IsTableText whole bytes t [] × IsTableOf t x.0 × (x.1 ≡ line_of_end t))
-  whole_text text (Err e) w = tt
-  whole_text text (Ok x) w = (
-    w.0,
-    record {
-      within = within;
-      text = text;
-      well_formed = w.1;
-      spelled = w.2 ∙ sym (append-nil (spelling w.0));
-      follows = refl;
-    },
-    w.3,
-    w.4,
-  )
+  pub whole_refusal : (r : Refusal) → IsRefusal front bytes r → IsRefusal whole bytes r
+  whole_refusal r w = whole_fault r.line r.kind w
 
-  pub refused_bytes : (e : TableFault) → IfRefused e (λ at kind. (kind ≡ NotText) × IsNoTextAt bytes at)
-      → (refusal : Refusal) → e ≡ Refused refusal → IsRefusal whole bytes refusal
-  refused_bytes e fault refusal is =
-      let found = subst (λ (x : TableFault).
-      IfRefused x (λ at kind. (kind ≡ NotText) × IsNoTextAt bytes at)) is fault in
-      subst (λ (kind : Kind). IsFirstFault whole bytes refusal.line kind) (sym found.0) (within, found.1)
+  pub whole_right : IsRightToField front bytes → IsRightToField whole bytes
+  whole_right w =
+      record { within = within; text = w.text; p = w.p; m = w.m; field = w.field; admitted = w.admitted }
+
+  module _ (f : Front) (read : IsFrontOf front bytes f) where
+    spelled : bytes ≡ spelling read.text ++ read.rest
+    spelled = let is = read.is_text in is.spelled
+
+    size : length bytes ≡ f.used + length read.rest
+    size = ap length spelled ∙ length-append (spelling read.text) read.rest
+        ∙ ap (λ n. n + length read.rest) (sym read.used)
+
+    -- a byte follows the text
+    pub after_end : f.used < length bytes → IsFirstFault whole bytes (f.lines + 1) AfterEnd
+    after_end more = go read.rest spelled (omega (arith, size, more))
+      where
+        is : IsTableText front bytes read.text read.rest
+        is = read.is_text
+
+        right : IsWellFormed read.text
+        right = is.well_formed
+
+        go : (rest : List ℕ) → bytes ≡ spelling read.text ++ rest → 0 < length rest
+            → IsFirstFault whole bytes (f.lines + 1) AfterEnd
+        go [] e some = absurd (omega (arith, some))
+        go (byte ∷ rest) e some = (
+          within,
+          is.text,
+          record {
+            head = (let t = read.text in t.head);
+            entries = (let t = read.text in t.entries);
+            byte = byte;
+            rest = rest;
+            begins = record {
+              head = right.head;
+              entries = right.entries;
+              spelled = let t = read.text in
+                  e ∙ append_assoc (lines_before_end t.head t.entries) end_line (byte ∷ rest);
+            };
+            at_line = omega (arith, read.lines);
+          },
+        )
+
+    -- none does
+    pub is_whole : length bytes ≤ f.used → IsFrontOf whole bytes f
+    is_whole less = go read.rest spelled (omega (arith, size, less))
+      where
+        is : IsTableText front bytes read.text read.rest
+        is = read.is_text
+
+        go : (rest : List ℕ) → bytes ≡ spelling read.text ++ rest → length rest ≡ 0 → IsFrontOf whole bytes f
+        go [] e none = record {
+          text = read.text;
+          rest = [];
+          is_text = record {
+            within = within;
+            text = is.text;
+            well_formed = is.well_formed;
+            spelled = e;
+            follows = refl;
+          };
+          is_table = read.is_table;
+          used = read.used;
+          lines = read.lines;
+        }
+        go (byte ∷ rest) e none = absurd (omega (arith, none))

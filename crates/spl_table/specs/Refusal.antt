@@ -17,6 +17,10 @@ use Rattle.spl_table.specs.declared.refusal.Kind.TheVariants.{ZeroDenominator, P
 abbrev pub table_limit : ℕ
 table_limit = 8388608
 
+-- the most bytes of an input in whose front a table text stands
+abbrev pub front_limit : ℕ
+front_limit = 67108864
+
 -- a table text is the whole input, or stands in front of other text
 pub data Extent : Type 0 where
   whole : Extent

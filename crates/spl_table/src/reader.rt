@@ -1,11 +1,12 @@
 // Reading the text of a table.
-ghost use Rattle.std.specs.Prelude.{◌≡◌, ◌≢◌, ℕ, ◌≤◌, List, [], ◌++◌, length, IfOk, IfErr, IsErrOf, OnOk};
+ghost use Rattle.std.specs.Prelude.{◌≡◌, ◌≢◌, ℕ, ◌≤◌, List, [], length, IfOk, IfErr, IsErrOf, OnOk};
 ghost use Rattle.spl_field.specs.FieldByDigits.{IsAdmitted};
 ghost use Rattle.spl_text.specs.Text.{IsText};
-ghost use Rattle.spl_table.specs.TableText.{TableText, spelling, line_of_end, IsWellFormed};
+ghost use Rattle.spl_table.specs.TableText.{TableText};
 ghost use Rattle.spl_table.specs.Table.{IsTableOf};
-ghost use Rattle.spl_table.specs.Refusal.{whole, table_limit, IsTableText, IsNoTextAt, IsFaultOfLines, IsRefusal};
-ghost use Rattle.spl_table.specs.Refusal.{HasField, IsRightToField};
+ghost use Rattle.spl_table.specs.Refusal.{whole, front, front_limit, IsTableText, IsNoTextAt, IsFaultOfLines};
+ghost use Rattle.spl_table.specs.Refusal.{IsRefusal, HasField, IsRightToField};
+ghost use Rattle.spl_table.specs.Front.{IsFrontOf};
 ghost use Rattle.spl_table.specs.Reading.{IfRefused};
 ghost use Rattle.spl_table.specs.declared.refusal.Refusal.{Refusal};
 ghost use Rattle.spl_table.specs.declared.refusal.Kind.TheVariants.{NotText};
@@ -26,9 +27,17 @@ use std::alloc::Global;
 /// The most bytes of a table text.
 const TABLE_LIMIT: usize = 8 * 1024 * 1024;
 
+/// A table, and how far its text goes: the bytes and the lines up to and with the newline of the line `end`.
+#[derive(Drop)]
+pub struct Front {
+    pub table: Table,
+    pub used: usize,
+    pub lines: u32,
+}
+
 /// Whether all bytes are those of a text.
 fn check_text(bytes: &[u8]) -> Result<(), TableFault>
-    requires { length bytes.now ≤ table_limit }
+    requires { length bytes.now ≤ front_limit }
     ensures ok { OnOk result (IsText bytes.now) }
     ensures fault { IfErr result (λ e. IfRefused e (λ at kind. (kind ≡ NotText) × IsNoTextAt bytes.now at)) }
     ensures no_memory_needed { result ≢ Err TableFault.Memory }
@@ -39,11 +48,12 @@ fn check_text(bytes: &[u8]) -> Result<(), TableFault>
     }
 }
 
-/// The table of the lines, and the number of the line `end`.
-fn read_lines(alloc: Global, bytes: &[u8]) -> Result<(Table, u32), TableFault>
-    ensures ok { IfOk result (λ r. (t : TableText) × IsWellFormed t × (bytes.now ≡ spelling t) × IsTableOf t r.0
-        × (r.1 ≡ line_of_end t)) }
-    ensures fault { IfErr result (λ e. IfRefused e (IsFaultOfLines whole bytes.now)) }
+/// The table of the lines up to the line `end`.
+fn read_lines(alloc: Global, bytes: &[u8]) -> Result<Front, TableFault>
+    requires { IsText bytes.now }
+    ensures ok { IfOk result (IsFrontOf front bytes.now) }
+    ensures few { IfOk result (λ r. r.lines ≤ 15629) }
+    ensures fault { IfErr result (λ e. IfRefused e (IsFaultOfLines front bytes.now)) }
     ensures memory { IsErrOf result TableFault.Memory
         → (p : ℕ) × (m : List ℕ) × HasField bytes.now p m × IsAdmitted p m }
 {
@@ -59,19 +69,34 @@ fn read_lines(alloc: Global, bytes: &[u8]) -> Result<(Table, u32), TableFault>
     };
     let n = read_degree(third, fractions.field().p())?;
     let entries = read_entries(alloc, &fractions, n, rest)?;
-    if !entries.rest.is_empty() {
-        return Err(TableFault::at(entries.number + 1, Kind::AfterEnd));
-    }
     let table = Table::of(alloc, fractions, n, entries.constants)?;
-    Ok((table, entries.number))
+    Ok(Front {
+        table,
+        used: bytes.len() - entries.rest.len(),
+        lines: entries.number,
+    })
 }
 
-/// The table that the bytes stand for, where they are a table text, and the number of the line `end`. A refusal carries
-/// the first fault: too many bytes, a byte that is none of a text, or the first line at fault. Memory can be wanting
-/// only where nothing is wrong up to the numbers of the field.
-pub fn read_table(alloc: Global, bytes: &[u8]) -> Result<(Table, u32), TableFault>
-    ensures ok { IfOk result (λ r. (t : TableText) × IsTableText whole bytes.now t [] × IsTableOf t r.0
-        × (r.1 ≡ line_of_end t)) }
+/// The table whose text stands in front of the bytes, where one does, and how far it goes. A refusal carries the first
+/// fault: a byte anywhere that is none of a text, or the first line at fault up to the line `end`. Memory can be
+/// wanting only where nothing is wrong up to the numbers of the field.
+pub fn read_front(alloc: Global, bytes: &[u8]) -> Result<Front, TableFault>
+    requires { length bytes.now ≤ front_limit }
+    ensures ok { IfOk result (IsFrontOf front bytes.now) }
+    ensures few { IfOk result (λ r. r.lines ≤ 15629) }
+    ensures refused { (refusal : Refusal) → result ≡ Err (TableFault.Refused refusal)
+        → IsRefusal front bytes.now refusal }
+    ensures memory { IsErrOf result TableFault.Memory → IsRightToField front bytes.now }
+{
+    check_text(bytes)?;
+    read_lines(alloc, bytes)
+}
+
+/// The table whose text the bytes are, where they are a table text, and the numbers of its bytes and lines. A refusal
+/// carries the first fault: too many bytes, a byte that is none of a text, or the first line at fault. Memory can be
+/// wanting only where nothing is wrong up to the numbers of the field.
+pub fn read_whole(alloc: Global, bytes: &[u8]) -> Result<Front, TableFault>
+    ensures ok { IfOk result (IsFrontOf whole bytes.now) }
     ensures refused { (refusal : Refusal) → result ≡ Err (TableFault.Refused refusal)
         → IsRefusal whole bytes.now refusal }
     ensures memory { IsErrOf result TableFault.Memory → IsRightToField whole bytes.now }
@@ -79,6 +104,21 @@ pub fn read_table(alloc: Global, bytes: &[u8]) -> Result<(Table, u32), TableFaul
     if bytes.len() > TABLE_LIMIT {
         return Err(TableFault::at(0, Kind::TooLong));
     }
-    check_text(bytes)?;
-    read_lines(alloc, bytes)
+    let text = read_front(alloc, bytes)?;
+    if text.used < bytes.len() {
+        return Err(TableFault::at(text.lines + 1, Kind::AfterEnd));
+    }
+    Ok(text)
+}
+
+/// The table that the bytes stand for, where they are a table text; else it is refused, or wants memory, as
+/// `read_whole` says.
+pub fn read_table(alloc: Global, bytes: &[u8]) -> Result<Table, TableFault>
+    ensures ok { IfOk result (λ r. (t : TableText) × IsTableText whole bytes.now t [] × IsTableOf t r) }
+    ensures refused { (refusal : Refusal) → result ≡ Err (TableFault.Refused refusal)
+        → IsRefusal whole bytes.now refusal }
+    ensures memory { IsErrOf result TableFault.Memory → IsRightToField whole bytes.now }
+{
+    let text = read_whole(alloc, bytes)?;
+    Ok(text.table)
 }

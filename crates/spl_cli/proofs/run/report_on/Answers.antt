@@ -7,16 +7,16 @@ use Rattle.spl_cli.proofs.run.report_on.Goals as goal
 
 pub returns-in-Ok-None : goal.returns-in-Ok-None
 returns-in-Ok-None g c = λ words form.
-    Answers-undecided words _ _ _ _ form c.in-Ok.table c.in-Ok.last c.in-Ok.ensures.ok c.as_bytes-in-Ok-None.result.now
-    (record { line = c.in-Ok.last; kind = NotBuilt })
+    Answers-undecided words _ _ _ _ form c.in-Ok.read c.in-Ok.ensures.ok c.as_bytes-in-Ok-None.result.now
+    (record { line = c.in-Ok.read.lines; kind = NotBuilt })
     (rw c.in-Ok-None.field-0-is at c.in-Ok-None.ensures) refl refl
     (c.as_bytes-in-Ok-None.ensures.value ∙ c.as_str-in-Ok-None.ensures.value
     ∙ c.refusal_line-in-Ok-None.ensures) c.finish-in-Ok-None.ensures
 
 pub returns : goal.returns
 returns g c = λ words form.
-    let P : List ℕ → Type 0 = ShowsEvidence c.in-Ok.table in
-    Answers-found words _ _ _ _ form c.in-Ok.table c.in-Ok.last c.in-Ok.ensures.ok c.as_slice.result.now
+    let P : List ℕ → Type 0 = ShowsEvidence c.in-Ok.read.table in
+    Answers-found words _ _ _ _ form c.in-Ok.read c.in-Ok.ensures.ok c.as_slice.result.now
     (subst P (sym c.as_slice.ensures.value)
     (rw c.in-Ok-Some.field-0-is at c.in-Ok-Some.ensures)) c.finish-in-Ok-Some.ensures
 
