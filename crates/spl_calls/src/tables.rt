@@ -63,12 +63,7 @@ fn triple(alloc: Global, table: &Table, out: &mut Vec<u8>) -> Result<(), Fault> 
 /// `identity_or_refutation T`
 fn identity(alloc: Global, table: &Table, out: &mut Vec<u8>) -> Result<(), Fault> {
     match identity_or_refutation(alloc, table.fractions(), table.algebra())? {
-        One::Refuted { left, right } => {
-            show::word(out, "refuted")?;
-            let (k, m) = (table.fractions(), table.algebra().dim());
-            show::multipliers(alloc, out, k, m, "left", left.as_slice())?;
-            Ok(show::multipliers(alloc, out, k, m, "right", right.as_slice())?)
-        }
+        One::Refuted { .. } => Ok(show::word(out, "refuted")?),
         One::Here { tuple } => {
             show::word(out, "here")?;
             Ok(show::vector(alloc, out, table.fractions(), tuple.as_slice())?)

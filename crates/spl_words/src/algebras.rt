@@ -102,7 +102,7 @@ fn copy<F: Scalars>(
     products(alloc, f, &copy, out)
 }
 
-/// `identity A`: `here` and the identity, or `refuted` and the multipliers.
+/// `identity A`: `here` and the identity, or `refuted`.
 fn identity<F: Scalars>(
     alloc: Global,
     f: &F,
@@ -116,11 +116,7 @@ fn identity<F: Scalars>(
             show::word(out, "here")?;
             Ok(show::vector(alloc, out, f, tuple.as_slice())?)
         }
-        One::Refuted { left, right } => {
-            show::word(out, "refuted")?;
-            show::multipliers(alloc, out, f, algebra.dim(), "left", left.as_slice())?;
-            Ok(show::multipliers(alloc, out, f, algebra.dim(), "right", right.as_slice())?)
-        }
+        One::Refuted { .. } => Ok(show::word(out, "refuted")?),
     }
 }
 

@@ -1,7 +1,6 @@
 // Writing answers, in one line each: what is written comes behind a space where something stands before it.
 ghost use Rattle.std.specs.Prelude.{All};
 ghost use Rattle.theory_rings.specs.Ops.{IsElem};
-ghost use Rattle.theory_tables.specs.Claims.{AreMultipliers};
 
 use crate::scalars::Scalars;
 use spl_field::field::NoMemory;
@@ -231,27 +230,6 @@ pub fn space<F: Scalars>(
 {
     count(out, s.dim())?;
     rows(alloc, out, f, s.rows().as_slice())
-}
-
-/// The multipliers, each by its side, its pair and its value.
-pub fn multipliers<F: Scalars>(
-    alloc: Global,
-    out: &mut Vec<u8>,
-    f: &F,
-    _m: usize,
-    side: &str,
-    list: &[(usize, usize, F::Elem)],
-) -> Result<(), NoMemory>
-    requires { AreMultipliers (F.ops f.now) _m list.now }
-{
-    for (j, k, x) in list {
-        word(out, side)?;
-        count(out, *j)?;
-        count(out, *k)?;
-        gap(out)?;
-        f.write(alloc, x, out)?;
-    }
-    Ok(())
 }
 
 /// A text in one line: `|` for each newline, `^` for each carriage return and `~` for each tab.
