@@ -4,7 +4,6 @@ ghost use Rattle.theory_spaces.specs.Tuples.{IsTuple};
 ghost use Rattle.spl_fraction.specs.Fractions.{field_of};
 ghost use Rattle.spl_fraction.specs.FractionsOver.{fractions_over};
 ghost use Rattle.theory_tables.specs.Claims.{AreMultipliers};
-ghost use Rattle.theory_tables.specs.Split.{IsSquare};
 
 use spl_evidence::evidence::Evidence;
 use spl_evidence::writing::write_evidence;
@@ -12,7 +11,7 @@ use spl_field::field::Field;
 use spl_field::list::List;
 use spl_fraction::field::Fractions;
 use spl_fraction::tuples::Tuples;
-use spl_matrix::lists::{Maps, Multipliers};
+use spl_matrix::lists::Multipliers;
 use spl_words::fault::Fault;
 use spl_words::{args, lists, show};
 use std::alloc::Global;
@@ -111,41 +110,6 @@ fn ideal(alloc: Global, k: &Fractions, n: usize, rows: &str, out: &mut Vec<u8>) 
     Ok(show::text(out, write_evidence(alloc, k, n, &e)?.as_slice())?)
 }
 
-/// Matrices of size n, joined by plus signs.
-fn maps(alloc: Global, k: &Fractions, n: usize, word: &str) -> Result<Maps<Fractions>, Fault>
-    ensures { IfOk result (All (IsSquare (fractions_over (field_of k.now)) n)) }
-{
-    let mut maps = List::new(alloc);
-    for part in word.split('+') {
-        let map = lists::rows(alloc, k, n, part)?;
-        if map.len() != n {
-            return Err(Fault::BadLine);
-        }
-        maps.push(map)?;
-    }
-    Ok(maps)
-}
-
-/// `split N MAPS M`: the matrices of the basis elements, and the tuples of the matrix units.
-fn split(
-    alloc: Global,
-    k: &Fractions,
-    n: usize,
-    words: [&str; 2],
-    out: &mut Vec<u8>,
-) -> Result<(), Fault>
-    requires low { 2 ≤ n }
-    requires high { n ≤ 5 }
-{
-    let maps = maps(alloc, k, n, words[0])?;
-    let units = tuples(alloc, k, n * n, words[1])?;
-    if maps.len() != n * n || units.len() != n * n {
-        return Err(Fault::BadLine);
-    }
-    let e = Evidence::Split { maps, units };
-    Ok(show::text(out, write_evidence(alloc, k, n, &e)?.as_slice())?)
-}
-
 /// The text of evidence for an algebra of degree N.
 pub(crate) fn call(
     alloc: Global,
@@ -166,7 +130,6 @@ pub(crate) fn call(
         ("noidentity", [a, b, c, d]) => noidentity(alloc, k, n, [*a, *b, *c, *d], out),
         ("central", [tuple]) => central(alloc, k, n, tuple, out),
         ("ideal", [rows]) => ideal(alloc, k, n, rows, out),
-        ("split", [maps, units]) => split(alloc, k, n, [*maps, *units], out),
         _ => Err(Fault::BadLine),
     }
 }
