@@ -20,13 +20,13 @@ use Rattle.theory_rings.proofs.Polynomials.Constants.{constant-zero, constant-on
 use Rattle.theory_rings.proofs.Polynomials.Bezout.{field_polynomials}
 use Rattle.theory_rings.proofs.Fractions.Lowest.{Lowest, rational_functions, is_rational_functions}
 use Rattle.theory_rings.proofs.FiniteFields.ElementsByDigits.{prime_by_digits, characteristic_by_digits}
-use Rattle.spl_field.specs.SmallField.{characteristic, small_ops}
+use Rattle.spl_field.specs.SmallField.{characteristic, small_ops, small_laws}
 use Rattle.spl_field.specs.TableField.{is_field_by_digits}
 use Rattle.spl_field.specs.declared.small.SmallField.{SmallField}
 use Rattle.theory_fractions.specs.FractionOps.{RationalFunction, rational_function, fraction_ops}
 use Rattle.theory_fractions.proofs.FractionField.{rational_function-pair_of, rational_function_injective}
 use Rattle.theory_fractions.proofs.FractionField.{eq_zero_of_numerator}
-use Rattle.spl_fraction.specs.FractionsOver.{fractions_over, fractions_laws, small_laws}
+use Rattle.spl_fraction.specs.FractionsOver.{fractions_over, fractions_laws}
 
 -- where a prime p is 0, a number that p does not divide isn't
 pub times_one-nonzero : {K : Type 0} (F : FieldOn K) (p : ℕ) → IsPrime p → times F.monoid p F.one ≡ F.zero

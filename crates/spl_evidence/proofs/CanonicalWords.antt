@@ -6,11 +6,11 @@ use Rattle.std.proofs.lemmas.List.Elements.{All-push}
 use Rattle.theory_rings.specs.Ops.{Ops, IsElem}
 use Rattle.theory_fractions.specs.Fraction.{Pair}
 use Rattle.theory_fractions.proofs.ElementClauses.{lowest_of_elem}
-use Rattle.spl_field.specs.SmallField.{small_ops}
+use Rattle.spl_field.specs.SmallField.{small_ops, small_laws}
 use Rattle.spl_field.specs.declared.small.SmallField.{SmallField}
 use Rattle.spl_text.specs.Text.{Lacks, FractionText, IsFractionText, fraction_text}
 use Rattle.spl_text.proofs.Fractions.{fraction_unique}
-use Rattle.spl_fraction.specs.FractionsOver.{fractions_over, small_laws}
+use Rattle.spl_fraction.specs.FractionsOver.{fractions_over}
 use Rattle.spl_fraction.specs.CanonicalText.{IsCanonicalText}
 use Rattle.spl_fraction.specs.CanonicalWords.{words_of}
 use Rattle.spl_fraction.proofs.CanonicalTexts.{text_words, is_fraction_text}

@@ -14,11 +14,11 @@ use Rattle.theory_fractions.specs.Fraction.{Pair, IsLowestTerms}
 use Rattle.theory_fractions.proofs.ElementClauses.{lowest_of_elem, zero_is}
 use Rattle.theory_tables.specs.Claims.{AreMultipliers, PairBefore}
 use Rattle.theory_tables.specs.Split.{IsSquare}
-use Rattle.spl_field.specs.SmallField.{small_ops, size_of}
+use Rattle.spl_field.specs.SmallField.{small_ops, size_of, small_laws}
 use Rattle.spl_field.specs.declared.small.SmallField.{SmallField}
 use Rattle.theory_fractions.specs.PolynomialLists.{IsOver}
 use Rattle.spl_text.specs.Text.{IsNumber, FractionText, IsFractionText, lists_of, fraction_text}
-use Rattle.spl_fraction.specs.FractionsOver.{fractions_over, fractions_laws, small_laws}
+use Rattle.spl_fraction.specs.FractionsOver.{fractions_over, fractions_laws}
 use Rattle.spl_fraction.specs.CanonicalText.{canonical_text}
 use Rattle.spl_fraction.specs.CanonicalWords.{words_of, numbers_of}
 use Rattle.spl_fraction.proofs.CanonicalTexts.{text_words, is_fraction_text, canonical_unique, numbers_over}

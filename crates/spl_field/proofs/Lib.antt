@@ -6,3 +6,4 @@ pub mod NextProduct
 pub mod Inverses
 pub mod Sizes
 pub mod LawOrder
+pub mod EqualFields

@@ -5,6 +5,7 @@
 
 pub mod admission;
 mod digits;
+pub mod equal_fields;
 pub mod field;
 pub mod laws;
 pub mod list;

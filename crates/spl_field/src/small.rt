@@ -1,5 +1,5 @@
 // The fields of 2 to 256 elements.
-ghost use Rattle.std.specs.Prelude.{◌≡◌, ◌≢◌, ℕ, ◌*◌, ◌+◌, ◌^◌, ◌<◌, ◌≤◌, length, MatchOption, IfOk, OnOk, IsErrOf};
+ghost use Rattle.std.specs.Prelude.{◌≡◌, ◌≢◌, ℕ, ◌*◌, ◌+◌, ◌^◌, ◌<◌, ◌≤◌, length, All, MatchOption, IfOk, OnOk, IsErrOf};
 ghost use Rattle.std.specs.Prelude.{slice_index};
 ghost use Rattle.theory_rings.specs.FieldByDigits.{IsSumByDigits, IsProductByDigits};
 ghost use Rattle.spl_field.specs.FieldByDigits.{FitsField, IsAdmitted, IsFirstWithoutInverse, IsInverse};
@@ -37,6 +37,7 @@ pub struct SmallField {
     roots: Vec<u8>,
     ghost least: { 2 ≤ p },
     ghost some_number: { 1 ≤ length modulus.items },
+    ghost numbers_below: { All (λ m. m < p) modulus.items },
     ghost two_elements: { 2 ≤ size },
     ghost power: { size ≡ p ^ length modulus.items },
     ghost most: { size ≤ 256 },
@@ -50,6 +51,7 @@ pub struct SmallField {
     ghost inverses_full: { length inverses.items ≡ size },
     ghost inverses_below: { AreElements size size inverses.items },
     ghost inverses_are: { AreInverses p modulus.items size inverses.items },
+    ghost inverse_of_zero: { slice_index inverses.items 0 ≡ 0 },
     ghost roots_full: { length roots.items ≡ size },
     ghost roots_below: { AreElements size size roots.items },
     ghost roots_are: { (a : ℕ) → a < size → table_power size products.items (slice_index roots.items a) p ≡ a },

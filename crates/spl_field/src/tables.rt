@@ -81,6 +81,7 @@ fn inverse_entry(p: u16, modulus: &[u8], size: u16, a: u16) -> u8
     requires invertible { 0 < a → HasInverse p modulus.now a }
     ensures element { result < size }
     ensures value { 0 < a → IsProductByDigits p modulus.now a result 1 }
+    ensures zero { a ≡ 0 → result ≡ 0 }
 {
     if a == 0 {
         0
@@ -103,6 +104,7 @@ pub(crate) fn inverse_table(
     ensures elements { IfOk result (λ t. AreElements size size t.items) }
     ensures entries { IfOk result (λ t. (a : ℕ) → 0 < a → a < size
         → IsProductByDigits p modulus.now a (slice_index t.items a) 1) }
+    ensures zero { IfOk result (λ t. slice_index t.items 0 ≡ 0) }
 {
     let mut table = Vec::with_capacity(alloc, usize::from(size))?;
     for a in 0..size {

@@ -7,7 +7,7 @@ use Rattle.std.proofs.lemmas.List.Elements.{All-nil, All-cons, All-weaker, recur
 use Rattle.theory_rings.specs.Ops.{Ops, IsElem, FieldLaws}
 use Rattle.theory_rings.specs.Sum.{at}
 use Rattle.theory_rings.specs.Polynomial.{IsTrimmed, degree}
-use Rattle.spl_field.specs.SmallField.{small_ops}
+use Rattle.spl_field.specs.SmallField.{small_ops, small_laws}
 use Rattle.spl_field.specs.declared.small.SmallField.{SmallField}
 use Rattle.spl_poly.specs.Operations.{IsOver, without_zeros}
 use Rattle.spl_poly.proofs.Trimming.{without_zeros_unique}
@@ -16,7 +16,6 @@ use Rattle.spl_text.specs.Text.{coefficients_text, denominator_text}
 use Rattle.spl_text.proofs.NumberLists.{of_none}
 use Rattle.spl_text.proofs.Fractions.{fraction_unique}
 use Rattle.theory_fractions.specs.Fraction.{Pair, IsLowestTerms}
-use Rattle.spl_fraction.specs.FractionsOver.{small_laws}
 use Rattle.spl_fraction.specs.CanonicalText.{denominator_text as canonical_denominator, canonical_text, IsCanonicalText}
 use Rattle.spl_fraction.specs.CanonicalWords.{numbers_of, denominator_of, words_of}
 

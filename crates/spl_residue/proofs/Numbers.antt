@@ -9,9 +9,8 @@ use Rattle.theory_rings.specs.Enumerated.{Enumerated}
 use Rattle.theory_rings.specs.Polynomial.{IsTrimmed}
 use Rattle.theory_rings.proofs.FiniteFields.ElementsByDigits.{numbers_enumerated, size-numbers}
 use Rattle.theory_radical.proofs.Lifts.TowerFields.{dvd-pow}
-use Rattle.spl_field.specs.SmallField.{small_ops, size_of, characteristic}
+use Rattle.spl_field.specs.SmallField.{small_ops, size_of, characteristic, small_laws}
 use Rattle.spl_field.specs.declared.small.SmallField.{SmallField}
-use Rattle.spl_residue.specs.ResidueOver.{small_laws}
 
 pub small_numbers : (f : SmallField) → Enumerated (Elem (small_ops f))
 small_numbers f = numbers_enumerated (small_ops f) (small_laws f) (size_of f) (λ a h. ltb-true a (size_of f) h)

@@ -10,9 +10,9 @@ use Rattle.theory_remainders.specs.RemainderLaws.{IsRemainder, IsRemainderOf}
 use Rattle.theory_remainders.proofs.RemainderField.{is_remainder-nil, is_remainder-one}
 use Rattle.theory_remainders.proofs.RemainderValues.{elem_of, of_elem, zero_is, one_is, add_is, neg_smaller, neg_is, mul_is}
 use Rattle.theory_remainders.proofs.RemainderValues.{inv_is}
-use Rattle.spl_field.specs.SmallField.{small_ops}
+use Rattle.spl_field.specs.SmallField.{small_ops, small_laws}
 use Rattle.spl_field.specs.declared.small.SmallField.{SmallField}
-use Rattle.spl_residue.specs.ResidueOver.{small_laws, residues_over}
+use Rattle.spl_residue.specs.ResidueOver.{residues_over}
 
 module _ (f : SmallField) (m : List ℕ) (i : IsIrreducible (small_ops f) m) where
   abbrev o : Ops ℕ

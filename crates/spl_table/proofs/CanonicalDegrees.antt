@@ -18,11 +18,10 @@ use Rattle.theory_rings.proofs.Fractions.Lowest.{Lowest, IsMonic-ne-zero}
 use Rattle.theory_fractions.specs.PolynomialLists.{IsOver}
 use Rattle.theory_fractions.specs.Fraction.{Pair, IsLowestTerms, IsFraction}
 use Rattle.theory_fractions.proofs.ListPolynomials.{has_polynomial_of, length-polynomial_of}
-use Rattle.spl_field.specs.SmallField.{modulus_of, small_ops, size_of as elements_of}
+use Rattle.spl_field.specs.SmallField.{modulus_of, small_ops, size_of as elements_of, small_laws}
 use Rattle.spl_field.specs.FieldByDigits.{IsAdmitted}
 use Rattle.spl_field.specs.declared.small.SmallField.{SmallField}
 use Rattle.spl_text.specs.Text.{FractionText}
-use Rattle.spl_fraction.specs.FractionsOver.{small_laws}
 use Rattle.spl_table.specs.TableText.{TableText, size_of, constant_at, HasSmallDegrees, IsWellFormed}
 use Rattle.spl_table.specs.Refusal.{whole, IsTableText, IsOnlyTableText}
 use Rattle.spl_table.specs.Reading.{place}

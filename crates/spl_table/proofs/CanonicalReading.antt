@@ -14,12 +14,12 @@ use Rattle.theory_fractions.specs.Fraction.{Pair, IsLowestTerms, IsFraction}
 use Rattle.theory_fractions.specs.PolynomialLists.{IsOver}
 use Rattle.theory_fractions.proofs.ElementClauses.{lowest_of_elem, eq_zero, zero_is}
 use Rattle.theory_tables.specs.Structure.{Structure}
-use Rattle.spl_field.specs.SmallField.{characteristic, modulus_of, small_ops}
+use Rattle.spl_field.specs.SmallField.{characteristic, modulus_of, small_ops, small_laws}
 use Rattle.spl_field.specs.FieldByDigits.{FitsField}
 use Rattle.spl_field.specs.declared.small.SmallField.{SmallField}
 use Rattle.spl_text.specs.Text.{lists_of}
 use Rattle.spl_fraction.specs.CanonicalWords.{numbers_of, denominator_of, words_of}
-use Rattle.spl_fraction.specs.FractionsOver.{fractions_over, small_laws}
+use Rattle.spl_fraction.specs.FractionsOver.{fractions_over}
 use Rattle.spl_fraction.proofs.CanonicalTexts.{numbers_over, is_fraction_text, denominator-some}
 use Rattle.spl_table.specs.TableText.{Entry, Head, dimension_of, size_of, constant_at, IsInRange, IsAfter, IsOverZero}
 use Rattle.spl_table.specs.TableText.{IsRightEntry, IsWellFormed, AreRightEntries}

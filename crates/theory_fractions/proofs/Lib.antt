@@ -1,6 +1,7 @@
 pub mod Coefficients
 pub mod Lifting
 pub mod FractionField
+pub mod OperationsSame
 pub mod ListPolynomials
 pub mod LowestTerms
 pub mod FractionValues

@@ -11,3 +11,4 @@ pub mod RingPaths
 pub mod Congruences
 pub mod Representatives
 pub mod Elements
+pub mod LawsProof

@@ -12,10 +12,10 @@ use Rattle.theory_fractions.specs.Fraction.{Pair}
 use Rattle.theory_fractions.specs.FractionOps.{fraction_ops}
 use Rattle.theory_tables.specs.Structure.{Structure}
 use Rattle.theory_tables.specs.Algebras.{IsCentralSimple}
-use Rattle.spl_field.specs.SmallField.{characteristic, modulus_of, small_ops}
+use Rattle.spl_field.specs.SmallField.{characteristic, modulus_of, small_ops, small_laws}
 use Rattle.spl_field.specs.Tables.{entry_at, table_ops, AreSums, AreProducts}
 use Rattle.spl_field.specs.declared.small.SmallField.{SmallField}
-use Rattle.spl_fraction.specs.FractionsOver.{fractions_over, small_laws}
+use Rattle.spl_fraction.specs.FractionsOver.{fractions_over}
 use Rattle.spl_table.proofs.Agreement.Fractions.{with_others, central_simple_over}
 
 module _ (p : ℕ) (two_le : 2 ≤ p) (m : List ℕ) (q : ℕ) (some : 0 < q) where

@@ -11,12 +11,11 @@ use Rattle.theory_rings.specs.Polynomial.{IsTrimmed}
 use Rattle.theory_fractions.specs.Fraction.{Pair, IsLowestTerms, IsFraction}
 use Rattle.theory_tables.specs.Structure.{Structure}
 use Rattle.theory_tables.specs.Algebras.{IsCentralSimple}
-use Rattle.spl_field.specs.SmallField.{characteristic, modulus_of, small_ops, size_of as elements_of}
+use Rattle.spl_field.specs.SmallField.{characteristic, modulus_of, small_ops, size_of as elements_of, small_laws}
 use Rattle.spl_field.specs.declared.small.SmallField.{SmallField}
 use Rattle.spl_text.specs.Text.{FractionText, IsFractionText, IsNumberList, lists_of}
 use Rattle.spl_text.proofs.NumberLists.{last-from_IsTrimmed}
 use Rattle.spl_fraction.specs.Fractions.{field_of as base_of}
-use Rattle.spl_fraction.specs.FractionsOver.{small_laws}
 use Rattle.spl_table.specs.TableText.{Entry, Head, TableText, size_of, constant_at, IsOverZero, AreRightEntries}
 use Rattle.spl_table.specs.TableText.{HasSmallDegrees, IsWellFormed}
 use Rattle.spl_table.specs.Table.{ops_of, denominator_of, IsConstant, AreConstants, IsTableOf, HasSameAlgebra}

@@ -15,6 +15,8 @@ loop-a-preserved c =
       full = omega arith;
       elements = rw e (get_or-more c.loop-a.a
           (λ _ n. n < c.args.size) t v full c.loop-a.invariant.elements c.inverse_entry.ensures.element);
+      zero = rw e (get_or-more c.loop-a.a (λ k n. k ≡ 0 → n ≡ 0) t v full
+          c.loop-a.invariant.zero c.inverse_entry.ensures.zero);
       entries = rw e (get_or-more c.loop-a.a
           (λ k n. 0 < k → IsProductByDigits c.args.p c.args.modulus.now k n 1) t v full
           c.loop-a.invariant.entries c.inverse_entry.ensures.value);

@@ -6,5 +6,6 @@ abbrev pub invariant-loop-a : goal.invariant-loop-a
 invariant-loop-a l = record {
   full : length l.table.items ≡ l.a;
   elements : (k : ℕ) → k < l.a → get_or l.table.items k 0 < l.size;
+  zero : (k : ℕ) → k < l.a → k ≡ 0 → get_or l.table.items k 0 ≡ 0;
   entries : (k : ℕ) → k < l.a → 0 < k → IsProductByDigits l.p l.modulus k (get_or l.table.items k 0) 1;
 }

@@ -1,6 +1,5 @@
 use Rattle.std.proofs.Common.{[], ◌∷◌, refl, ◌∙◌}
-use Rattle.spl_field.specs.SmallField.{small_ops}
-use Rattle.spl_fraction.specs.FractionsOver.{small_laws}
+use Rattle.spl_field.specs.SmallField.{small_ops, small_laws}
 use Rattle.theory_fractions.proofs.SumsOfFractions.{product_same}
 use Rattle.theory_fractions.proofs.ProductsOfFractions.{lowest_negative}
 use Rattle.spl_fraction.proofs.arithmetic.negative_of.Goals as goal

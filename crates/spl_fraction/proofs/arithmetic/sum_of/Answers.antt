@@ -1,7 +1,6 @@
 use Rattle.std.proofs.Common.{sym, ◌∙◌, subst}
-use Rattle.spl_field.specs.SmallField.{small_ops}
+use Rattle.spl_field.specs.SmallField.{small_ops, small_laws}
 use Rattle.theory_fractions.specs.Fraction.{IsFractionSum}
-use Rattle.spl_fraction.specs.FractionsOver.{small_laws}
 use Rattle.theory_fractions.proofs.SumsOfFractions.{zero_sum, sum_zero, sum_comm}
 use Rattle.spl_fraction.proofs.arithmetic.sum_of.Goals as goal
 

@@ -1,5 +1,4 @@
-use Rattle.spl_field.specs.SmallField.{small_ops}
-use Rattle.spl_fraction.specs.FractionsOver.{small_laws}
+use Rattle.spl_field.specs.SmallField.{small_ops, small_laws}
 use Rattle.theory_fractions.proofs.SumsOfFractions.{product_same, denominators_nonzero, reduced_sum}
 use Rattle.spl_fraction.proofs.arithmetic.sum_of_fractions.Goals as goal
 

@@ -1,5 +1,4 @@
-use Rattle.spl_field.specs.SmallField.{small_ops}
-use Rattle.spl_fraction.specs.FractionsOver.{small_laws}
+use Rattle.spl_field.specs.SmallField.{small_ops, small_laws}
 use Rattle.theory_fractions.proofs.SumsOfFractions.{sum_same, lowest_sum_of_polynomials}
 use Rattle.spl_fraction.proofs.arithmetic.sum_of_polynomials.Goals as goal
 

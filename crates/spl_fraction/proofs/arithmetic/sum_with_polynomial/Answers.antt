@@ -1,6 +1,5 @@
 use Rattle.std.proofs.Common.{refl, ◌∙◌}
-use Rattle.spl_field.specs.SmallField.{small_ops}
-use Rattle.spl_fraction.specs.FractionsOver.{small_laws}
+use Rattle.spl_field.specs.SmallField.{small_ops, small_laws}
 use Rattle.theory_fractions.proofs.SumsOfFractions.{sum_same, product_same, lowest_sum_with_polynomial}
 use Rattle.spl_fraction.proofs.arithmetic.sum_with_polynomial.Goals as goal
 

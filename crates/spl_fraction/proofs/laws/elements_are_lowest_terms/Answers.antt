@@ -1,5 +1,4 @@
-use Rattle.spl_field.specs.SmallField.{small_ops}
-use Rattle.spl_fraction.specs.FractionsOver.{small_laws}
+use Rattle.spl_field.specs.SmallField.{small_ops, small_laws}
 use Rattle.theory_fractions.proofs.LowestTerms.{elem_iff_lowest}
 use Rattle.spl_fraction.proofs.laws.elements_are_lowest_terms.Goals as goal
 

@@ -1,8 +1,7 @@
 use Rattle.std.proofs.Common.{[], ◌∷◌, sym, ◌∙◌, ap, subst}
-use Rattle.spl_field.specs.SmallField.{small_ops}
+use Rattle.spl_field.specs.SmallField.{small_ops, small_laws}
 use Rattle.spl_text.specs.FractionWords.{text_of}
 use Rattle.theory_fractions.specs.Fraction.{IsLowestTerms}
-use Rattle.spl_fraction.specs.FractionsOver.{small_laws}
 use Rattle.spl_fraction.specs.CanonicalWords.{words_of}
 use Rattle.theory_fractions.proofs.Reducing.{lowest_over_one}
 use Rattle.spl_fraction.proofs.CanonicalTexts.{words_of_one, words_of_both, numerator_back, match_option_map}

@@ -1,5 +1,4 @@
-use Rattle.spl_field.specs.SmallField.{small_ops}
-use Rattle.spl_fraction.specs.FractionsOver.{small_laws}
+use Rattle.spl_field.specs.SmallField.{small_ops, small_laws}
 use Rattle.std.proofs.Common.{refl}
 use Rattle.theory_fractions.proofs.Reducing.{coprime_of_constant_left, coprime_of_constant_divisor, constant_of_coprime}
 use Rattle.spl_fraction.proofs.reduction.are_coprime.Goals as goal

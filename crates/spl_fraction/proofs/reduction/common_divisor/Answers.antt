@@ -1,5 +1,4 @@
-use Rattle.spl_field.specs.SmallField.{small_ops}
-use Rattle.spl_fraction.specs.FractionsOver.{small_laws}
+use Rattle.spl_field.specs.SmallField.{small_ops, small_laws}
 use Rattle.spl_fraction.proofs.Generators.{two_pushed, common_divisor_of_generator}
 use Rattle.spl_fraction.proofs.reduction.common_divisor.Goals as goal
 

@@ -1,5 +1,4 @@
-use Rattle.spl_field.specs.SmallField.{small_ops}
-use Rattle.spl_fraction.specs.FractionsOver.{small_laws}
+use Rattle.spl_field.specs.SmallField.{small_ops, small_laws}
 use Rattle.theory_fractions.proofs.Reducing.{quotients_coprime, quotient_nonzero, quotients_value}
 use Rattle.spl_fraction.proofs.reduction.divided.Goals as goal
 

@@ -1,5 +1,4 @@
-use Rattle.spl_field.specs.SmallField.{small_ops}
-use Rattle.spl_fraction.specs.FractionsOver.{small_laws}
+use Rattle.spl_field.specs.SmallField.{small_ops, small_laws}
 use Rattle.spl_fraction.proofs.Leads.{inverse_mul, inverse_nonzero}
 use Rattle.spl_fraction.proofs.reduction.inverse.Goals as goal
 

@@ -1,6 +1,5 @@
 use Rattle.std.proofs.Common.{⊎_elim}
-use Rattle.spl_field.specs.SmallField.{small_ops}
-use Rattle.spl_fraction.specs.FractionsOver.{small_laws}
+use Rattle.spl_field.specs.SmallField.{small_ops, small_laws}
 use Rattle.theory_fractions.proofs.Reducing.{zero_lowest_pair, zero_value_pair, coprime_of_constant_left}
 use Rattle.theory_fractions.proofs.Reducing.{coprime_of_constant_right, coprime_of_constant_divisor, divisor_nonzero}
 use Rattle.spl_fraction.proofs.reduction.reduced.Goals as goal

@@ -1,7 +1,6 @@
 use Rattle.std.proofs.Common.{sym, ◌∙◌, ap, subst}
-use Rattle.spl_field.specs.SmallField.{small_ops}
+use Rattle.spl_field.specs.SmallField.{small_ops, small_laws}
 use Rattle.theory_fractions.specs.Fraction.{IsLowestTerms, IsFraction}
-use Rattle.spl_fraction.specs.FractionsOver.{small_laws}
 use Rattle.theory_fractions.proofs.Reducing.{lowest_of_monic, monic_lowest, monic_value}
 use Rattle.spl_fraction.proofs.reduction.with_monic_denominator.Goals as goal
 

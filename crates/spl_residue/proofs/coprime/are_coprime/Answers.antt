@@ -1,6 +1,5 @@
-use Rattle.spl_field.specs.SmallField.{small_ops}
+use Rattle.spl_field.specs.SmallField.{small_ops, small_laws}
 use Rattle.theory_remainders.proofs.CoprimeLists.{same_divisors, same_divisors_next, coprime_iff_constant}
-use Rattle.spl_residue.specs.ResidueOver.{small_laws}
 use Rattle.spl_residue.proofs.coprime.are_coprime.Goals as goal
 
 pub steps-init : goal.steps-init

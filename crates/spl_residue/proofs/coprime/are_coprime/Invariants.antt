@@ -1,7 +1,6 @@
 use Rattle.std.proofs.Common.{length}
-use Rattle.spl_field.specs.SmallField.{small_ops}
+use Rattle.spl_field.specs.SmallField.{small_ops, small_laws}
 use Rattle.theory_remainders.proofs.CoprimeLists.{HasSameDivisors}
-use Rattle.spl_residue.specs.ResidueOver.{small_laws}
 use Rattle.spl_residue.proofs.coprime.are_coprime.Given as goal
 
 abbrev pub invariant-steps : goal.invariant-steps

@@ -2,8 +2,7 @@ use Rattle.std.proofs.Common.{sym, ◌∙◌, ap, subst, ◌≢◌, slice_index}
 use Rattle.theory_rings.specs.Ops.{IsElem}
 use Rattle.theory_rings.proofs.Rings.Elements.{at-elem}
 use Rattle.theory_fractions.proofs.Coefficients.{zero-mul_elem}
-use Rattle.spl_field.specs.SmallField.{small_ops}
-use Rattle.spl_residue.specs.ResidueOver.{small_laws}
+use Rattle.spl_field.specs.SmallField.{small_ops, small_laws}
 use Rattle.spl_residue.proofs.Numbers.{constant_item-ne-zero}
 use Rattle.spl_residue.proofs.inverse.constant_inverse.Goals as goal
 

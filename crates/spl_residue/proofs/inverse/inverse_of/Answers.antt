@@ -5,8 +5,7 @@ use Rattle.theory_remainders.proofs.Cofactors.{IsCofactor, first_cofactor, secon
 use Rattle.theory_remainders.proofs.Cofactors.{inverse_of_cofactor}
 use Rattle.theory_remainders.proofs.IrreducibleLists.{two_le_length}
 use Rattle.theory_remainders.proofs.RemainderValues.{coprime_to_modulus}
-use Rattle.spl_field.specs.SmallField.{small_ops}
-use Rattle.spl_residue.specs.ResidueOver.{small_laws}
+use Rattle.spl_field.specs.SmallField.{small_ops, small_laws}
 use Rattle.spl_residue.proofs.Numbers.{constant_list}
 use Rattle.spl_residue.proofs.inverse.inverse_of.Goals as goal
 

@@ -1,8 +1,7 @@
 use Rattle.std.proofs.Common.{length}
 use Rattle.theory_remainders.proofs.CoprimeLists.{HasSameDivisors}
 use Rattle.theory_remainders.proofs.Cofactors.{IsCofactor}
-use Rattle.spl_field.specs.SmallField.{small_ops}
-use Rattle.spl_residue.specs.ResidueOver.{small_laws}
+use Rattle.spl_field.specs.SmallField.{small_ops, small_laws}
 use Rattle.spl_residue.proofs.inverse.inverse_of.Given as goal
 
 abbrev pub invariant-steps : goal.invariant-steps

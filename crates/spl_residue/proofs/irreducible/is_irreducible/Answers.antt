@@ -5,8 +5,7 @@ use Rattle.theory_remainders.specs.RemainderLaws.{IsRemainderOf}
 use Rattle.theory_remainders.proofs.Divisions.{power_coefficients}
 use Rattle.theory_remainders.proofs.IrreducibleTest.{no_steps_variable, one_more, reducible, irreducible_of_steps}
 use Rattle.theory_remainders.proofs.IrreducibleTest.{degree_of_length, AreStepsDone}
-use Rattle.spl_field.specs.SmallField.{small_ops}
-use Rattle.spl_residue.specs.ResidueOver.{small_laws}
+use Rattle.spl_field.specs.SmallField.{small_ops, small_laws}
 use Rattle.spl_residue.proofs.Numbers.{small_numbers, size-small_numbers}
 use Rattle.spl_residue.proofs.irreducible.is_irreducible.Goals as goal
 

@@ -1,6 +1,5 @@
 use Rattle.theory_remainders.proofs.IrreducibleTest.{AreStepsDone}
-use Rattle.spl_field.specs.SmallField.{small_ops}
-use Rattle.spl_residue.specs.ResidueOver.{small_laws}
+use Rattle.spl_field.specs.SmallField.{small_ops, small_laws}
 use Rattle.spl_residue.proofs.Numbers.{small_numbers}
 use Rattle.spl_residue.proofs.irreducible.is_irreducible.Given as goal
 

@@ -1,6 +1,5 @@
-use Rattle.spl_field.specs.SmallField.{small_ops}
+use Rattle.spl_field.specs.SmallField.{small_ops, small_laws}
 use Rattle.theory_remainders.proofs.RemainderValues.{are_remainder_ops}
-use Rattle.spl_residue.specs.ResidueOver.{small_laws}
 use Rattle.spl_residue.proofs.laws.operations_are_of_remainders.Goals as goal
 
 pub returns : goal.returns

@@ -1,7 +1,6 @@
 use Rattle.std.proofs.Common.{sym, ◌∙◌}
-use Rattle.spl_field.specs.SmallField.{small_ops}
+use Rattle.spl_field.specs.SmallField.{small_ops, small_laws}
 use Rattle.theory_fractions.proofs.ProductsOfFractions.{neg_one-ne-zero}
-use Rattle.spl_residue.specs.ResidueOver.{small_laws}
 use Rattle.spl_residue.proofs.remainder.minus_one.Goals as goal
 
 pub returns-clause-nonzero : goal.returns-clause-nonzero

@@ -1,8 +1,7 @@
 use Rattle.std.proofs.Common.{◌∷◌, [], subst}
-use Rattle.spl_field.specs.SmallField.{small_ops}
+use Rattle.spl_field.specs.SmallField.{small_ops, small_laws}
 use Rattle.spl_poly.specs.Operations.{IsProduct}
 use Rattle.theory_remainders.proofs.Divisions.{minus_coefficients}
-use Rattle.spl_residue.specs.ResidueOver.{small_laws}
 use Rattle.spl_residue.proofs.remainder.negated.Goals as goal
 
 pub returns-clause-value : goal.returns-clause-value

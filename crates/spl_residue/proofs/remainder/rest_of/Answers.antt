@@ -1,7 +1,6 @@
 use Rattle.std.proofs.Common.{ap, length, arith}
-use Rattle.spl_field.specs.SmallField.{small_ops}
+use Rattle.spl_field.specs.SmallField.{small_ops, small_laws}
 use Rattle.theory_remainders.proofs.Divisions.{remainder_of_self}
-use Rattle.spl_residue.specs.ResidueOver.{small_laws}
 use Rattle.spl_residue.proofs.remainder.rest_of.Goals as goal
 
 pub returns-then-as_slice-clause-value : goal.returns-then-as_slice-clause-value

@@ -6,8 +6,8 @@ use Rattle.theory_remainders.specs.RemainderLaws.{IsRemainder}
 use Rattle.theory_remainders.proofs.IrreducibleLists.{two_le_length}
 use Rattle.theory_remainders.proofs.IrreducibleTest.{degree_of_length}
 use Rattle.theory_remainders.proofs.RemainderRoots.{no_powers, next_power, root_of_powers}
-use Rattle.spl_field.specs.SmallField.{small_ops, characteristic}
-use Rattle.spl_residue.specs.ResidueOver.{small_laws, residues_over}
+use Rattle.spl_field.specs.SmallField.{small_ops, characteristic, small_laws}
+use Rattle.spl_residue.specs.ResidueOver.{residues_over}
 use Rattle.spl_residue.proofs.Numbers.{small_numbers, size-small_numbers, size-div_mul}
 use Rattle.spl_residue.proofs.remainder.root_of.Goals as goal
 

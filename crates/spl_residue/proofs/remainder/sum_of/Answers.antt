@@ -1,6 +1,5 @@
-use Rattle.spl_field.specs.SmallField.{small_ops}
+use Rattle.spl_field.specs.SmallField.{small_ops, small_laws}
 use Rattle.theory_remainders.proofs.RemainderValues.{sum_smaller}
-use Rattle.spl_residue.specs.ResidueOver.{small_laws}
 use Rattle.spl_residue.proofs.remainder.sum_of.Goals as goal
 
 pub returns-clause-remainder : goal.returns-clause-remainder

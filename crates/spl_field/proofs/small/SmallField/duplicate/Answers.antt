@@ -1,4 +1,4 @@
-use Rattle.std.proofs.Common.{◌≡◌, ◌*◌, ◌^◌, ◌≤◌, length, List, ℕ, sym, ◌∙◌, subst, subst₂, slice_index, ◌<◌}
+use Rattle.std.proofs.Common.{◌≡◌, ◌*◌, ◌^◌, ◌≤◌, length, All, List, ℕ, sym, ◌∙◌, subst, subst₂, slice_index, ◌<◌}
 use Rattle.spl_field.specs.Tables.{table_power, AreElements, AreSums, AreNegatives, AreProducts, AreInverses}
 use Rattle.spl_field.proofs.small.SmallField.duplicate.Goals as goal
 
@@ -22,6 +22,7 @@ invariant_of-result c =
     record {
       least = f.least;
       some_number = subst (λ (m : List ℕ). 1 ≤ length m) em f.some_number;
+      numbers_below = subst (All (λ n. n < p)) em f.numbers_below;
       two_elements = f.two_elements;
       power = subst (λ (m : List ℕ). q ≡ p ^ length m) em f.power;
       most = f.most;
@@ -35,6 +36,7 @@ invariant_of-result c =
       inverses_full = subst (λ (t : List ℕ). length t ≡ q) ei f.inverses_full;
       inverses_below = subst (λ t. AreElements q q t) ei f.inverses_below;
       inverses_are = subst₂ (λ m t. AreInverses p m q t) em ei f.inverses_are;
+      inverse_of_zero = subst (λ (t : List ℕ). slice_index t 0 ≡ 0) ei f.inverse_of_zero;
       roots_full = subst (λ (t : List ℕ). length t ≡ q) er f.roots_full;
       roots_below = subst (λ t. AreElements q q t) er f.roots_below;
       roots_are = subst₂ (λ (t r : List ℕ). (a : ℕ) → a < q

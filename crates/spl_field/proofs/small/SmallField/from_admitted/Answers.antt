@@ -1,4 +1,4 @@
-use Rattle.std.proofs.Common.{◌≡◌, ℕ, ◌^◌, ◌<◌, ◌≤◌, List, length, slice_index, subst, sym}
+use Rattle.std.proofs.Common.{◌≡◌, ℕ, ◌^◌, ◌<◌, ◌≤◌, List, length, All, slice_index, subst, sym}
 use Rattle.theory_rings.specs.FieldByDigits.{IsSumByDigits}
 use Rattle.spl_field.specs.Tables.{table_power, AreSums, AreNegatives, AreProducts, AreInverses}
 use Rattle.spl_field.proofs.DigitLoops.{two_le_size}
@@ -35,6 +35,7 @@ invariant_of-result c =
     record {
       least = fits.least;
       some_number = some;
+      numbers_below = subst (All (λ n. n < p)) em fits.below;
       two_elements = two_le_size p c.args.modulus.now fits q c.requires.size;
       power = power;
       most = subst (λ n. n ≤ 256) (sym c.requires.size) fits.most;
@@ -48,6 +49,7 @@ invariant_of-result c =
       inverses_full = c.in_ok-inverse_table.ensures.full;
       inverses_below = c.in_ok-inverse_table.ensures.elements;
       inverses_are = I;
+      inverse_of_zero = c.in_ok-inverse_table.ensures.zero;
       roots_full = c.in_ok-roots.ensures.full;
       roots_below = c.in_ok-roots.ensures.elements;
       roots_are = roots_of_powers p fits.least m some q power sums negatives products inverses

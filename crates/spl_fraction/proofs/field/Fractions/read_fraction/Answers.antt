@@ -1,7 +1,6 @@
 use Rattle.std.proofs.Common.{ℕ}
-use Rattle.spl_field.specs.SmallField.{small_ops}
+use Rattle.spl_field.specs.SmallField.{small_ops, small_laws}
 use Rattle.theory_fractions.specs.Fraction.{Pair}
-use Rattle.spl_fraction.specs.FractionsOver.{small_laws}
 use Rattle.spl_fraction.specs.CanonicalText.{IsCanonicalText}
 use Rattle.theory_fractions.proofs.ElementClauses.{elem_of_lowest, lowest_of_elem}
 use Rattle.spl_fraction.proofs.CanonicalTexts.{some_of_match, read_again}

@@ -1,6 +1,5 @@
 use Rattle.std.proofs.Common.{◌≢◌, [], sym, ◌∙◌}
-use Rattle.spl_field.specs.SmallField.{small_ops}
-use Rattle.spl_fraction.specs.FractionsOver.{small_laws}
+use Rattle.spl_field.specs.SmallField.{small_ops, small_laws}
 use Rattle.theory_fractions.proofs.ElementClauses.{lowest_of_elem, elem_of_lowest, eq_zero, ne_zero, inv_is}
 use Rattle.spl_fraction.proofs.field.FractionsField.inv.Goals as goal
 

@@ -1,5 +1,4 @@
-use Rattle.spl_field.specs.SmallField.{small_ops}
-use Rattle.spl_fraction.specs.FractionsOver.{small_laws}
+use Rattle.spl_field.specs.SmallField.{small_ops, small_laws}
 use Rattle.theory_fractions.proofs.ElementClauses.{lowest_of_elem, elem_of_lowest, neg_is}
 use Rattle.spl_fraction.proofs.field.FractionsField.neg.Goals as goal
 

@@ -1,0 +1,5 @@
+use Rattle.spl_field.proofs.EqualFields.{equal_fields}
+use Rattle.spl_field.proofs.equal_fields.equal_fields.Goals as goal
+
+pub returns : goal.returns
+returns c = equal_fields

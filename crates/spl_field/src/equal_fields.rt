@@ -1,0 +1,10 @@
+// What fields by the same numbers have in common.
+ghost use Rattle.std.specs.Prelude.{◌≡◌};
+ghost use Rattle.spl_field.specs.SmallField.{characteristic, modulus_of, small_ops};
+ghost use Rattle.spl_field.specs.declared.small.SmallField.{SmallField};
+
+/// Fields by the same numbers have the same operations, that of the inverse of 0 among them.
+pub fn equal_fields()
+    ensures { (f g : SmallField) → characteristic f ≡ characteristic g → modulus_of f ≡ modulus_of g
+        → small_ops f ≡ small_ops g }
+{}
