@@ -7,3 +7,4 @@ pub mod Inverses
 pub mod Sizes
 pub mod LawOrder
 pub mod EqualFields
+pub mod AdmittedFields

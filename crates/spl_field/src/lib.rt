@@ -5,8 +5,8 @@
 
 pub mod admission;
 mod digits;
-pub mod equal_fields;
 pub mod field;
+pub mod field_laws;
 pub mod laws;
 pub mod list;
 pub mod small;

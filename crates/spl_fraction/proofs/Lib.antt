@@ -1,4 +1,5 @@
 pub mod Leads
 pub mod PlaceOrders
 pub mod CanonicalTexts
+pub mod FractionsSame
 pub mod Generators

@@ -19,7 +19,6 @@ use Rattle.theory_fractions.specs.PolynomialLists.{IsOver}
 use Rattle.theory_fractions.specs.Fraction.{Pair, IsLowestTerms, IsFraction}
 use Rattle.theory_fractions.proofs.ListPolynomials.{has_polynomial_of, length-polynomial_of}
 use Rattle.spl_field.specs.SmallField.{modulus_of, small_ops, size_of as elements_of, small_laws}
-use Rattle.spl_field.specs.FieldByDigits.{IsAdmitted}
 use Rattle.spl_field.specs.declared.small.SmallField.{SmallField}
 use Rattle.spl_text.specs.Text.{FractionText}
 use Rattle.spl_table.specs.TableText.{TableText, size_of, constant_at, HasSmallDegrees, IsWellFormed}
@@ -209,22 +208,16 @@ module _ (t : TableText) (right : IsWellFormed t) (T : Table) (is : IsTableOf t 
       omega (arith, square, T.dim)
 
   pub writable : IsWritable T
-  writable =
-      let head = right.head in
+  writable = λ n d below.
       let constants = is.constants in
-      record {
-        admitted = subst (λ p. IsAdmitted p (modulus_of f)) (sym is.characteristic)
-            (subst (IsAdmitted t.head.characteristic) (sym is.modulus) head.admitted);
-        degrees = λ n d below.
-            let at_n = triple_at T.algebra.dim n some_dim (omega (arith, below, T.count)) in
-            subst IsShort
-            (ap (λ p. get_or T.algebra.constants p ([], [])) at_n.same
-            ∙ get_or_default T.algebra.constants n ([], []) d below)
-            (constant_short f (constant_at t.entries (at_n.i + 1) (at_n.j + 1) (at_n.k + 1))
-            (right_values (at_n.i + 1) (at_n.j + 1) (at_n.k + 1))
-            (get_or T.algebra.constants (place T.algebra.dim at_n.i at_n.j at_n.k) ([], []))
-            (constants.at at_n.i at_n.j at_n.k at_n.first at_n.second at_n.third));
-      }
+      let at_n = triple_at T.algebra.dim n some_dim (omega (arith, below, T.count)) in
+      subst IsShort
+      (ap (λ p. get_or T.algebra.constants p ([], [])) at_n.same
+      ∙ get_or_default T.algebra.constants n ([], []) d below)
+      (constant_short f (constant_at t.entries (at_n.i + 1) (at_n.j + 1) (at_n.k + 1))
+      (right_values (at_n.i + 1) (at_n.j + 1) (at_n.k + 1))
+      (get_or T.algebra.constants (place T.algebra.dim at_n.i at_n.j at_n.k) ([], []))
+      (constants.at at_n.i at_n.j at_n.k at_n.first at_n.second at_n.third))
 
 -- ---- the laws
 

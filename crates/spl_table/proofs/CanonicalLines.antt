@@ -1,8 +1,11 @@
 -- The lines of the canonical text of a table, written one after the other.
-use Rattle.std.proofs.Common.{◌≡◌, ℕ, ◌+◌, ◌*◌, ◌<◌, true, nat_lt, List, [], ◌∷◌, ◌++◌, length, get_or}
-use Rattle.std.proofs.Common.{refl, sym, ap, ap₂, ◌∙◌, append_assoc, append-nil, arith}
-use Rattle.std.specs.Prelude.{codes, decimal}
-use Rattle.std.specs.List.{flat_map}
+use Rattle.std.proofs.Common.{◌≡◌, ℕ, suc, ◌+◌, ◌*◌, ◌<◌, true, nat_lt, List, [], ◌∷◌, ◌++◌, length, get_or}
+use Rattle.std.proofs.Common.{refl, sym, ap, ap₂, ◌∙◌, subst, append_assoc, append-nil, arith}
+use Rattle.std.specs.Prelude.{Bool, codes, decimal, map}
+use Rattle.std.specs.List.{flat_map, filter}
+use Rattle.std.proofs.lemmas.List.{map-append}
+use Rattle.std.proofs.lemmas.List.Concat.{flat_map-append}
+use Rattle.std.proofs.lemmas.List.Elements.{filter-append}
 use Rattle.std.proofs.lemmas.Bool.{lt-ltb}
 use Rattle.std.proofs.lemmas.List.{get_or_default}
 use Rattle.theory_rings.specs.Ops.{Ops}
@@ -18,11 +21,12 @@ use Rattle.spl_fraction.specs.Fractions.{field_of as base_of}
 use Rattle.spl_fraction.specs.FractionsOver.{fractions_over, fractions_laws}
 use Rattle.spl_fraction.specs.declared.field.Fractions.{Fractions}
 use Rattle.spl_fraction.proofs.CanonicalTexts.{text_words}
-use Rattle.spl_table.specs.TableText.{first_line, field_line, degree_line, entry_line}
+use Rattle.spl_table.specs.TableText.{Entry, first_line, field_line, degree_line, entry_line}
 use Rattle.spl_table.specs.Table.{fractions_of, field_of, algebra_of, ops_of}
-use Rattle.spl_table.specs.CanonicalTable.{constant_of, is_nonzero, canonical_entry, nonzero_entries}
+use Rattle.spl_table.specs.CanonicalTable.{first_numbers, constant_of, is_nonzero, canonical_entry, nonzero_entries}
 use Rattle.spl_table.specs.declared.table.Table.{Table}
 use Rattle.spl_table.proofs.Places.{place-lt}
+use Rattle.spl_table.proofs.CanonicalTriples.{flat_map_first}
 
 -- ---- the first three lines
 
@@ -77,6 +81,25 @@ module _ (A : Structure (Pair ℕ)) where
           ap (λ (w : Pair ℕ). nat_lt 0 (length w.0)) (sym is) ∙ ap (λ u. nat_lt 0 (length u)) e
           ∙ lt-ltb 0 (length (c ∷ cs)) (omega arith) in
           written ∙ ap (λ t. old ++ t) (sym (append-nil (entry_line (canonical_entry A i j k)))) ∙ rw here refl
+
+  lines-append : (xs ys : List (ℕ × ℕ × ℕ)) → lines (xs ++ ys) ≡ lines xs ++ lines ys
+  lines-append xs ys =
+      let is : ℕ × ℕ × ℕ → Bool = λ t. is_nonzero (constant_of A t.0 t.1 t.2) in
+      let entry : ℕ × ℕ × ℕ → Entry = λ t. canonical_entry A t.0 t.1 t.2 in
+      ap (λ ts. flat_map entry_line (map entry ts)) (filter-append is xs ys)
+      ∙ ap (flat_map entry_line) (map-append entry (filter is xs) (filter is ys))
+      ∙ flat_map-append entry_line (map entry (filter is xs)) (map entry (filter is ys))
+
+  -- the lines of the triples of one number more
+  pub lines_more : (old mid new : List ℕ) (f : ℕ → List (ℕ × ℕ × ℕ)) (n : ℕ)
+      → mid ≡ old ++ lines (flat_map f (first_numbers n)) → new ≡ mid ++ lines (f n)
+      → new ≡ old ++ lines (flat_map f (first_numbers (n + 1)))
+  lines_more old mid new f n before last =
+      let next : suc n ≡ n + 1 = omega arith in
+      subst (λ k. new ≡ old ++ lines (flat_map f (first_numbers k))) next
+      (last ∙ ap (λ t. t ++ lines (f n)) before ∙ append_assoc old (lines (flat_map f (first_numbers n))) (lines (f n))
+      ∙ ap (λ t. old ++ t) (sym (lines-append (flat_map f (first_numbers n)) (f n))
+      ∙ ap lines (flat_map_first f n)))
 
 -- ---- the row of a product
 

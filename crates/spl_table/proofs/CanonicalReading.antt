@@ -19,6 +19,7 @@ use Rattle.spl_field.specs.FieldByDigits.{FitsField}
 use Rattle.spl_field.specs.declared.small.SmallField.{SmallField}
 use Rattle.spl_text.specs.Text.{lists_of}
 use Rattle.spl_fraction.specs.CanonicalWords.{numbers_of, denominator_of, words_of}
+use Rattle.spl_field.proofs.AdmittedFields.{fields_are_admitted}
 use Rattle.spl_fraction.specs.FractionsOver.{fractions_over}
 use Rattle.spl_fraction.proofs.CanonicalTexts.{numbers_over, is_fraction_text, denominator-some}
 use Rattle.spl_table.specs.TableText.{Entry, Head, dimension_of, size_of, constant_at, IsInRange, IsAfter, IsOverZero}
@@ -152,10 +153,10 @@ module _ (T : Table) (w : IsWritable T) where
     num_over = numbers_over f value.0 low.numerator_over
 
     num_few : length value.0 ≤ 33
-    num_few = (w.degrees ((i * A.dim + j) * A.dim + k) ([], []) inside).0
+    num_few = (w ((i * A.dim + j) * A.dim + k) ([], []) inside).0
 
     den_few : length value.1 ≤ 33
-    den_few = (w.degrees ((i * A.dim + j) * A.dim + k) ([], []) inside).1
+    den_few = (w ((i * A.dim + j) * A.dim + k) ([], []) inside).1
 
     in_range : IsInRange h (canonical_entry A i j k)
     in_range = record {
@@ -206,7 +207,7 @@ module _ (T : Table) (w : IsWritable T) where
   pub well_formed : IsWellFormed (canonical_of T)
   well_formed = record {
     head = record {
-      admitted = w.admitted;
+      admitted = fields_are_admitted f;
       degree_low = T.degree_low;
       degree_high = T.degree_high;
       apart = T.apart;
@@ -216,7 +217,7 @@ module _ (T : Table) (w : IsWritable T) where
 
   short_head : IsShortHead h
   short_head =
-      let admitted = w.admitted in
+      let admitted = fields_are_admitted f in
       let fits : FitsField (characteristic f) (modulus_of f) = admitted.fits in
       let most = characteristic_most (characteristic f) (modulus_of f) fits in
       record {

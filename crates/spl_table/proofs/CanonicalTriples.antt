@@ -22,7 +22,7 @@ abbrev pub Triple : Type 0
 Triple = ℕ × ℕ × ℕ
 
 -- the triples of one number more
-flat_map_first : (f : ℕ → List Triple) (n : ℕ)
+pub flat_map_first : (f : ℕ → List Triple) (n : ℕ)
     → flat_map f (first_numbers n) ++ f n ≡ flat_map f (first_numbers (suc n))
 flat_map_first f n =
     ap (λ t. flat_map f (first_numbers n) ++ t) (sym (append-nil (f n)))

@@ -4,7 +4,6 @@ use Rattle.std.specs.Prelude.{ℕ, ◌+◌, ◌*◌, ◌≤◌, Bool, nat_lt, Li
 use Rattle.std.specs.List.{All, flat_map, filter}
 use Rattle.theory_rings.specs.Sum.{table}
 use Rattle.theory_fractions.specs.Fraction.{Pair}
-use Rattle.spl_field.specs.FieldByDigits.{IsAdmitted}
 use Rattle.spl_field.specs.SmallField.{characteristic, modulus_of}
 use Rattle.spl_fraction.specs.CanonicalWords.{words_of}
 use Rattle.theory_tables.specs.Structure.{Structure}
@@ -65,7 +64,6 @@ canonical_table_text t = spelling (canonical_of t)
 
 -- ---- which tables have such a text
 
--- the numbers of the field are admitted, and the numerators and denominators are of degree at most 32
-pub record IsWritable (t : Table) : Type 0 where
-  pub admitted : IsAdmitted (characteristic (field_of t)) (modulus_of (field_of t))
-  pub degrees : All (λ w. (length w.0 ≤ 33) × (length w.1 ≤ 33)) (algebra_of t).constants
+-- the numerators and denominators are of degree at most 32
+abbrev pub IsWritable : Table → Type 0
+IsWritable t = All (λ w. (length w.0 ≤ 33) × (length w.1 ≤ 33)) (algebra_of t).constants

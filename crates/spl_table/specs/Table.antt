@@ -9,7 +9,6 @@ use Rattle.spl_fraction.specs.Fractions.{field_of as base_of}
 use Rattle.spl_fraction.specs.FractionsOver.{fractions_over}
 use Rattle.spl_fraction.specs.declared.field.Fractions.{Fractions}
 use Rattle.theory_tables.specs.Structure.{Structure}
-use Rattle.theory_tables.specs.Algebras.{IsCentralSimple}
 use Rattle.spl_table.specs.TableText.{Entry, TableText, constant_at}
 use Rattle.spl_table.specs.declared.table.Table.{Table}
 
@@ -61,12 +60,10 @@ pub record IsTableOf (text : TableText) (table : Table) : Type 0 where
 
 -- ---- two tables
 
--- the tables have the same field, degree and constants, and where the algebra is central simple over the fractions of
--- the one, it is over those of the other
+-- the tables have the same field, with the same operations of its fractions, the same degree and the same constants
 pub record HasSameAlgebra (t u : Table) : Type 0 where
   pub characteristic : characteristic (field_of t) ≡ characteristic (field_of u)
   pub modulus : modulus_of (field_of t) ≡ modulus_of (field_of u)
+  pub operations : ops_of t ≡ ops_of u
   pub degree : degree_of t ≡ degree_of u
   pub algebra : algebra_of t ≡ algebra_of u
-  pub central_simple : IsCentralSimple (ops_of t) (algebra_of t)
-      → IsCentralSimple (ops_of u) (algebra_of u)

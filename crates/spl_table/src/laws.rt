@@ -29,8 +29,7 @@ pub fn each_text_has_a_table_or_a_refusal()
     ensures { (extent : Extent) → EachIsTextOrRefused extent }
 {}
 
-/// Two tables of one text have the same field, degree and constants, and over the fractions of both the algebra is
-/// central simple, or over neither.
+/// Two tables of one text have the same field, with the same operations, the same degree and the same constants.
 pub fn tables_of_one_text_agree()
     ensures { (text : TableText) → IsWellFormed text → (t u : Table) → IsTableOf text t → IsTableOf text u
         → HasSameAlgebra t u }

@@ -1,5 +1,4 @@
--- Two tables of one text have the same field, degree and constants, and over the fractions of both the algebra is
--- central simple, or over neither.
+-- Two tables of one text have the same field, with the same operations, the same degree and the same constants.
 use Rattle.std.proofs.Common.{◌≡◌, ◌≢◌, ℕ, ◌+◌, ◌*◌, ◌/◌, ◌%◌, ◌^◌, ◌<◌, ◌≤◌, ⊎_elim, Bool, true, false, cond, ◌&&◌, eqb, List, [], ◌∷◌, length}
 use Rattle.std.proofs.Common.{get_or, Option, Some, None, refl, sym, ap, ap₂, ◌∙◌, subst, arith}
 use Rattle.std.specs.Prelude.{IfSome}
@@ -10,19 +9,18 @@ use Rattle.theory_rings.specs.Ops.{Ops}
 use Rattle.theory_rings.specs.Polynomial.{IsTrimmed}
 use Rattle.theory_fractions.specs.Fraction.{Pair, IsLowestTerms, IsFraction}
 use Rattle.theory_tables.specs.Structure.{Structure}
-use Rattle.theory_tables.specs.Algebras.{IsCentralSimple}
 use Rattle.spl_field.specs.SmallField.{characteristic, modulus_of, small_ops, size_of as elements_of, small_laws}
 use Rattle.spl_field.specs.declared.small.SmallField.{SmallField}
 use Rattle.spl_text.specs.Text.{FractionText, IsFractionText, IsNumberList, lists_of}
 use Rattle.spl_text.proofs.NumberLists.{last-from_IsTrimmed}
+use Rattle.spl_field.proofs.EqualFields.{equal_fields}
+use Rattle.spl_fraction.proofs.FractionsSame.{fractions_same}
 use Rattle.spl_fraction.specs.Fractions.{field_of as base_of}
 use Rattle.spl_table.specs.TableText.{Entry, Head, TableText, size_of, constant_at, IsOverZero, AreRightEntries}
 use Rattle.spl_table.specs.TableText.{HasSmallDegrees, IsWellFormed}
 use Rattle.spl_table.specs.Table.{ops_of, denominator_of, IsConstant, AreConstants, IsTableOf, HasSameAlgebra}
 use Rattle.spl_table.specs.declared.table.Table.{Table}
 use Rattle.spl_table.proofs.Constants.{IsOver-small, denominator_elements}
-use Rattle.spl_table.proofs.Agreement.Fractions.{lowest_back}
-use Rattle.spl_table.proofs.Agreement.Fields.{small_same, central_simple_fields}
 use Rattle.spl_table.proofs.Agreement.OneFraction.{one_fraction}
 
 -- ---- the fraction that right entries give a triple
@@ -77,16 +75,7 @@ nonzero_at v is other = go v.denominator is.denominator other
 module _ (f g : SmallField) (p : characteristic f ≡ characteristic g) (m : modulus_of f ≡ modulus_of g) where
   -- a constant over g is one over f
   constant_back : (c : Option FractionText) (w : Pair ℕ) → IsConstant (small_ops g) c w → IsConstant (small_ops f) c w
-  constant_back None w is = is
-  constant_back (Some v) w is =
-      let P : Ops ℕ → Type 0 = λ N. IsLowestTerms N w.0 w.1 in
-      let Q : Ops ℕ → Type 0 = λ N. IsFraction N w v.numerator (denominator_of v.denominator) in
-      let neg = (small_ops g).neg in
-      let inv = (small_ops g).inv in
-      let same = subst Q (sym (small_same f g p m)) is.1 in (
-        lowest_back (small_ops f) neg inv w.0 w.1 (subst P (sym (small_same f g p m)) is.0),
-        record { products = same.products },
-      )
+  constant_back c w is = subst (λ o. IsConstant o c w) (sym (equal_fields f g p m)) is
 
   one_constant : (c : Option FractionText) → ((v : FractionText) → c ≡ Some v → IsRightValue (elements_of f) v)
       → (w x : Pair ℕ) → IsConstant (small_ops f) c w → IsConstant (small_ops g) c x → w ≡ x
@@ -163,9 +152,7 @@ module _ (t : TableText) (right : IsWellFormed t) (T U : Table) (is_T : IsTableO
   tables_agree = record {
     characteristic = same_p;
     modulus = same_modulus;
+    operations = fractions_same (base_of T.fractions) (base_of U.fractions) same_p same_modulus;
     degree = is_T.degree ∙ sym is_U.degree;
     algebra = λ i. record { dim = same_dim i; constants = same_constants i };
-    central_simple = λ w. subst (λ (A : Structure (Pair ℕ)). IsCentralSimple (ops_of U) A)
-        (λ i. record { dim = same_dim i; constants = same_constants i })
-        (central_simple_fields (base_of T.fractions) (base_of U.fractions) same_p same_modulus T.algebra T.over w);
   }

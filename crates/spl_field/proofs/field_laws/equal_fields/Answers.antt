@@ -1,5 +1,5 @@
 use Rattle.spl_field.proofs.EqualFields.{equal_fields}
-use Rattle.spl_field.proofs.equal_fields.equal_fields.Goals as goal
+use Rattle.spl_field.proofs.field_laws.equal_fields.Goals as goal
 
 pub returns : goal.returns
 returns c = equal_fields
