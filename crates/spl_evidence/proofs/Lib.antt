@@ -10,3 +10,4 @@ mod RightLines
 mod SameEvidence
 mod TextLaws
 mod Spellings
+pub mod SameFractions
