@@ -4,17 +4,18 @@ use Rattle.theory_rings.specs.Ops.{Ops, FieldLaws}
 use Rattle.theory_fractions.specs.Fraction.{Pair}
 use Rattle.spl_fraction.specs.FractionsOver.{fractions_laws}
 use Rattle.theory_tables.specs.Structure.{Structure, IsOver, IsAssociative}
-use Rattle.theory_tables.specs.Algebras.{HasIdentity, HasSmallCentre, IsCentralSimple}
+use Rattle.theory_tables.specs.Algebras.{HasIdentity, HasSmallCentre}
 use Rattle.theory_tables.specs.Traces.{IsNondegenerate}
 use Rattle.theory_tables.specs.Claims.{NoIdentityClaim, CentralClaim}
 use Rattle.theory_tables.specs.Laws.{ClaimsExclude}
 use Rattle.theory_tables.proofs.Algebras.Exclusions.{claims_exclude}
 use Rattle.theory_tables.proofs.Algebras.CentralSimple.{central_simple_by_trace_form}
-use Rattle.theory_tables.proofs.Split.SplitCentralSimple.{split_is_central_simple}
 use Rattle.spl_evidence.specs.declared.evidence.Evidence.{Evidence}
 use Rattle.spl_evidence.specs.declared.evidence.Evidence.TheVariants.{Triple as TripleEvidence, NoIdentity, Central}
 use Rattle.spl_evidence.specs.declared.evidence.Evidence.TheVariants.{Ideal, Split}
 use Rattle.spl_evidence.specs.Claim.{Claim}
+use Rattle.spl_evidence.specs.Shown.{IsNoMatrixAlgebra}
+use Rattle.spl_evidence.proofs.Shown.{claim_shows}
 use Rattle.spl_table.specs.Table.{field_of, degree_of, algebra_of, ops_of}
 use Rattle.spl_table.specs.declared.table.Table.{Table}
 use Rattle.spl_algebra.specs.Triple.{IsFirstFailed}
@@ -41,22 +42,16 @@ module _ (table : Table) where
   abbrev n : ℕ
   n = degree_of table
 
-  -- what evidence claims excludes that the algebra is central simple
-  excludes : (e : Evidence) → IsOfKind o A e → Claim o A n e → IsCentralSimple o A → ⊥
-  excludes (TripleEvidence i j k) kind c s = exclude.triple i j k c s.associative
-  excludes (NoIdentity left right) kind c s = let z = s.centre in
-      exclude.no_identity left right c (record { one = z.one; is_one = z.is_one })
-  excludes (Central tuple) kind c s = exclude.central tuple c s.centre
-  excludes (Ideal tuples) kind c s = exclude.ideal tuples c s
-  excludes (Split maps units) kind c s = kind
+  -- an algebra of whose kind the evidence is, and of which its claim holds, is no matrix algebra
+  excluded : (e : Evidence) → IsOfKind o A e → Claim o A n e → IsNoMatrixAlgebra o A
+  excluded (TripleEvidence i j k) kind c = claim_shows o L A over n table.dim (TripleEvidence i j k) c
+  excluded (NoIdentity left right) kind c = claim_shows o L A over n table.dim (NoIdentity left right) c
+  excluded (Central tuple) kind c = claim_shows o L A over n table.dim (Central tuple) c
+  excluded (Ideal tuples) kind c = claim_shows o L A over n table.dim (Ideal tuples) c
+  excluded (Split maps units) kind c = absurd kind
 
   evidence : (e : Evidence) → IsOfKind o A e → Claim o A n e → IsEvidence o A n e
-  evidence e kind claim = record {
-    kind = kind;
-    claim = claim;
-    not_central_simple = excludes e kind claim;
-    not_split = λ size some s. excludes e kind claim (split_is_central_simple o L A over size some s);
-  }
+  evidence e kind claim = record { kind = kind; claim = claim; no_matrix_algebra = excluded e kind claim }
 
   pub of_triple : (t : Triple) → IsFirstFailed o A t → IsEvidence o A n (TripleEvidence t.i t.j t.k)
   of_triple t h = evidence (TripleEvidence t.i t.j t.k) h record {

@@ -1,6 +1,6 @@
 -- Which kind of evidence a table has: the first that fits of a failed triple, no identity, a large centre, a degenerate
 -- trace form.
-use Rattle.std.specs.Prelude.{◌↔◌, ◌≤◌, ℕ, List}
+use Rattle.std.specs.Prelude.{◌↔◌, ℕ, List}
 use Rattle.theory_rings.specs.Ops.{Ops}
 use Rattle.theory_spaces.specs.Tuples.{IsTuple}
 use Rattle.theory_tables.specs.Subspace.{InSpan}
@@ -8,10 +8,10 @@ use Rattle.theory_tables.specs.Structure.{Structure, IsAssociative}
 use Rattle.theory_fractions.specs.Fraction.{Pair}
 use Rattle.theory_tables.specs.Algebras.{HasIdentity, HasSmallCentre, IsCentralSimple}
 use Rattle.theory_tables.specs.Traces.{InTraceRadical, IsNondegenerate}
-use Rattle.theory_tables.specs.Split.{IsSplit}
 use Rattle.spl_evidence.specs.declared.evidence.Evidence.{Evidence}
 use Rattle.spl_evidence.specs.declared.evidence.Evidence.TheVariants.{Triple, NoIdentity, Central, Ideal, Split}
 use Rattle.spl_evidence.specs.Claim.{Claim}
+use Rattle.spl_evidence.specs.Shown.{IsNoMatrixAlgebra}
 use Rattle.spl_algebra.specs.Triple.{IsFirstFailed}
 
 module _ (o : Ops (Pair ℕ)) (A : Structure (Pair ℕ)) where
@@ -43,8 +43,8 @@ module _ (o : Ops (Pair ℕ)) (A : Structure (Pair ℕ)) where
   pub record IsEvidence (n : ℕ) (e : Evidence) : Type 0 where
     pub kind : IsOfKind e
     pub claim : Claim o A n e
-    pub not_central_simple : IsCentralSimple o A → ⊥
-    pub not_split : (size : ℕ) → 1 ≤ size → IsSplit o A size → ⊥
+    pub no_matrix_algebra : IsNoMatrixAlgebra o A
+    pub open no_matrix_algebra use {not_central_simple, not_split}
 
   -- no kind fits, so that the algebra is central simple
   pub record HasNoFault : Type 0 where

@@ -1,4 +1,5 @@
 pub mod Fits
+pub mod Shown
 mod LineTexts
 mod SpacedWords
 mod LineParts

@@ -3,3 +3,4 @@ pub mod Evidence
 pub mod Refusal
 pub mod Reading
 pub mod Claim
+pub mod Shown
