@@ -5,3 +5,4 @@ pub mod MultiplierLists
 pub mod Places
 pub mod SideSpans
 pub mod Tests
+pub mod Verdicts

@@ -1,6 +1,6 @@
 -- Products and combinations of maps: by lists that were read, and by the numbers of places.
-use Rattle.std.specs.Prelude.{◌≡◌, ◌+◌, ◌*◌, ◌/◌, ◌%◌, ◌<◌, ◌==◌, ◌&&◌, ℕ, List, [], length, get_or, cond}
-use Rattle.std.proofs.Common.{sym, ◌∙◌, ap, ap₂}
+use Rattle.std.specs.Prelude.{◌≡◌, ◌↔◌, ◌+◌, ◌*◌, ◌/◌, ◌%◌, ◌<◌, ◌==◌, ◌&&◌, ℕ, List, [], length, get_or, cond}
+use Rattle.std.proofs.Common.{sym, ◌∙◌, ap, ap₂, arith}
 use Rattle.std.proofs.lemmas.Nat.{div-add-mod'}
 use Rattle.theory_rings.specs.Ops.{Ops, FieldLaws}
 use Rattle.theory_rings.specs.Sum.{at, sum_of}
@@ -8,6 +8,7 @@ use Rattle.theory_rings.proofs.Rings.Elements.{sum_of_congr}
 use Rattle.theory_spaces.specs.Tuples.{constant}
 use Rattle.theory_tables.specs.Matrix.{entry}
 use Rattle.theory_tables.specs.Structure.{Structure, IsOver, basis_of, product_of}
+use Rattle.theory_tables.proofs.Rows.Sums.{row_at}
 use Rattle.theory_tables.specs.Conditions.{map_entry, GiveMatrixUnits}
 use Rattle.spl_check.proofs.BasisProducts.{at-basis_product}
 use Rattle.spl_check.proofs.Places.{at_places, same_place, place-row, place-column}
@@ -41,20 +42,17 @@ module _ {E : Type 0} (o : Ops E) (L : FieldLaws o) (A : Structure E) (over : Is
       ap (λ (x : E). o.mul x (map_entry o maps k r s))
       (ap (λ (xs : List E). at o xs k) w ∙ at-basis_product o L A over i j k i_in j_in k_in))
 
-  -- the maps that were read
-  pub multiply_of_combines : (i j : ℕ) → i < A.dim → j < A.dim → (a b : List (List E)) (weights : List E)
-      → a ≡ get_or maps i [] → b ≡ get_or maps j [] → weights ≡ product_of o A (basis_of o A i) (basis_of o A j)
-      → (r s : ℕ) → CombinesAt o n maps a b weights r s → MultiplyAt i j r s
-  multiply_of_combines i j i_in j_in a b weights ea eb w r s h =
-      sym (ap₂ (λ (x y : List (List E)). sum_of o n (λ t. o.mul (entry o x r t) (entry o y t s))) ea eb)
-      ∙ h ∙ combination-is i j i_in j_in weights w r s
-
-  pub combines_of_multiply : (i j : ℕ) → i < A.dim → j < A.dim → (a b : List (List E)) (weights : List E)
-      → a ≡ get_or maps i [] → b ≡ get_or maps j [] → weights ≡ product_of o A (basis_of o A i) (basis_of o A j)
-      → (r s : ℕ) → MultiplyAt i j r s → CombinesAt o n maps a b weights r s
-  combines_of_multiply i j i_in j_in a b weights ea eb w r s h =
-      ap₂ (λ (x y : List (List E)). sum_of o n (λ t. o.mul (entry o x r t) (entry o y t s))) ea eb
-      ∙ h ∙ sym (combination-is i j i_in j_in weights w r s)
+  -- the maps x and y that were read in the list, by their rows a and b
+  pub combines_iff : (i j : ℕ) → i < A.dim → j < A.dim → (x y a b : List (List E)) (weights : List E)
+      → x ≡ get_or maps i x → a ≡ x → y ≡ get_or maps j y → b ≡ y
+      → weights ≡ product_of o A (basis_of o A i) (basis_of o A j) → (r s : ℕ)
+      → CombinesAt o n maps a b weights r s ↔ MultiplyAt i j r s
+  combines_iff i j i_in j_in x y a b weights x_is a_is y_is b_is w r s =
+      let products = ap₂ (λ (x y : List (List E)). sum_of o n (λ t. o.mul (entry o x r t) (entry o y t s)))
+      (row_at maps i x a (omega (arith, i_in, count)) x_is a_is)
+      (row_at maps j y b (omega (arith, j_in, count)) y_is b_is) in
+      let combined = combination-is i j i_in j_in weights w r s in
+      ((λ h. sym products ∙ h ∙ combined), (λ h. products ∙ h ∙ sym combined))
 
 module _ {E : Type 0} (o : Ops E) (A : Structure E) (n : ℕ) (maps : List (List (List E))) (units : List (List E))
     (count : length maps ≡ A.dim) where

@@ -19,6 +19,10 @@ module _ {E : Type 0} (o : Ops E) where
   pub IsTuple-read : (w w' : ℕ) (u v : List E) → w ≡ w' → u ≡ v → IsTuple o w u → IsTuple o w' v
   IsTuple-read w w' u v e f h = subst (IsTuple o w') f (subst (λ (n : ℕ). IsTuple o n u) e h)
 
+  pub SameSpan-read : (w w' : ℕ) (rows a b : List (List E)) → w ≡ w' → a ≡ b → SameSpan o w rows a
+      → SameSpan o w' rows b
+  SameSpan-read w w' rows a b e f h = subst (SameSpan o w' rows) f (subst (λ (n : ℕ). SameSpan o n rows a) e h)
+
 module _ {E : Type 0} (o : Ops E) (L : FieldLaws o) (A : Structure E) (over : IsOver o A) where
   pub IsElement-side_product : (is_left : Bool) (v : List E) (i : ℕ) → IsElement o A v
       → IsElement o A (side_product_of o A is_left v i)

@@ -3,7 +3,6 @@ ghost use Rattle.std.specs.Prelude.{◌≡◌, ◌<◌, ◌↔◌, ℕ, [], leng
 ghost use Rattle.theory_tables.specs.Matrix.{IsMatrix};
 ghost use Rattle.theory_tables.specs.Subspace.{InSpan, SameSpan, IsSubspace, AreIndependent};
 ghost use Rattle.theory_tables.specs.Structure.{IsOver, IsElement};
-ghost use Rattle.theory_tables.specs.Conditions.{IsClosedFromLeft, IsClosedFromRight};
 ghost use Rattle.spl_check.specs.Sides.{side_product_of};
 
 use spl_algebra::algebra::Algebra;
@@ -62,9 +61,9 @@ fn holds_products<F: Field>(
     Ok(true)
 }
 
-/// Whether the products of each basis element with each tuple, from the side, are combinations of the tuples. The
-/// subspace is their span.
-fn is_closed<F: Field>(
+/// Whether the products b_i·v, or v·b_i where the side is the right one, are combinations of the tuples, for each basis
+/// element b_i and each tuple v. The subspace is their span.
+pub fn is_closed<F: Field>(
     alloc: Global,
     f: &F,
     algebra: &Algebra<F>,
@@ -87,44 +86,6 @@ fn is_closed<F: Field>(
         }
     }
     Ok(true)
-}
-
-/// Whether b_i·v is a combination of the tuples, for each basis element b_i and each tuple v. The subspace is their
-/// span.
-pub fn is_closed_from_left<F: Field>(
-    alloc: Global,
-    f: &F,
-    algebra: &Algebra<F>,
-    space: &Subspace<F>,
-    tuples: &[Vector<F>],
-) -> Result<bool, NoMemory>
-    requires over { IsOver (F.ops f.now) algebra.now }
-    requires tuples { IsMatrix (F.ops f.now) algebra.now.dim tuples.now }
-    requires subspace { IsSubspace (F.ops f.now) space.now }
-    requires width { space.now.width ≡ algebra.now.dim }
-    requires span { SameSpan (F.ops f.now) algebra.now.dim space.now.rows tuples.now }
-    ensures { IfOk result (λ b. IsTrue b ↔ IsClosedFromLeft (F.ops f.now) algebra.now tuples.now) }
-{
-    is_closed(alloc, f, algebra, space, true, tuples)
-}
-
-/// Whether v·b_i is a combination of the tuples, for each basis element b_i and each tuple v. The subspace is their
-/// span.
-pub fn is_closed_from_right<F: Field>(
-    alloc: Global,
-    f: &F,
-    algebra: &Algebra<F>,
-    space: &Subspace<F>,
-    tuples: &[Vector<F>],
-) -> Result<bool, NoMemory>
-    requires over { IsOver (F.ops f.now) algebra.now }
-    requires tuples { IsMatrix (F.ops f.now) algebra.now.dim tuples.now }
-    requires subspace { IsSubspace (F.ops f.now) space.now }
-    requires width { space.now.width ≡ algebra.now.dim }
-    requires span { SameSpan (F.ops f.now) algebra.now.dim space.now.rows tuples.now }
-    ensures { IfOk result (λ b. IsTrue b ↔ IsClosedFromRight (F.ops f.now) algebra.now tuples.now) }
-{
-    is_closed(alloc, f, algebra, space, false, tuples)
 }
 
 /// Whether the tuples are independent: their span, the subspace, has as many dimensions as there are tuples.

@@ -129,7 +129,7 @@ impl<F: Field> Matrix<F> {
 }
 
 /// Equal rows.
-pub(crate) fn copied<F: Field>(
+pub fn copied<F: Field>(
     alloc: Global,
     f: &F,
     rows: &[Vector<F>],
