@@ -22,7 +22,7 @@ map-push : (a : List (Pair ℕ)) (x : Pair ℕ) → map words_of (a ++ x ∷ [])
 map-push [] x = refl
 map-push (y ∷ a) x = ap (λ t. words_of y ∷ t) (map-push a x)
 
-length-map : (a : List (Pair ℕ)) → length (map words_of a) ≡ length a
+pub length-map : (a : List (Pair ℕ)) → length (map words_of a) ≡ length a
 length-map [] = refl
 length-map (x ∷ a) = ap (λ n. suc n) (length-map a)
 
@@ -30,8 +30,10 @@ module _ (f : SmallField) where
   abbrev K : Ops (Pair ℕ)
   K = fractions_over f
 
-  form : (t : FractionText) → IsCanonical f t → IsFractionText t
-  form t h = subst IsFractionText (sym h.2) (is_fraction_text f h.0 (lowest_of_elem (small_ops f) (small_laws f) h.0 h.1))
+  pub form : (t : FractionText) → IsCanonical f t → IsFractionText t
+  form t h =
+      subst IsFractionText (sym h.2)
+      (is_fraction_text f h.0 (lowest_of_elem (small_ops f) (small_laws f) h.0 h.1))
 
   pub canonical_lacks : (t : FractionText) → IsCanonical f t → Lacks 32 (fraction_text t)
   canonical_lacks t h = fraction_lacks t (form t h)

@@ -12,3 +12,4 @@ mod SameEvidence
 mod TextLaws
 mod Spellings
 pub mod SameFractions
+mod Readers

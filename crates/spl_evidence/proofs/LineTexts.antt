@@ -76,7 +76,8 @@ pub numbers_and_rest : (ns ms : List ℕ) (r s : List ℕ) → length ns ≡ len
     → AllByRecursion IsNumber ms → EndsWord r → EndsWord s → numbers_text ns ++ r ≡ numbers_text ms ++ s
     → (ns ≡ ms) × (r ≡ s)
 numbers_and_rest ns ms r s same p q er es e =
-    spaced_unique decimal IsNumber (λ n is. Lacks-decimal 32 n (omega arith) is) number_unique ns ms r s same p q er es e
+    spaced_unique decimal IsNumber (λ n is. Lacks-decimal 32 n (omega arith) is) number_unique ns ms r s same p q er
+    es e
 
 pub fractions_unique : (ts us : List FractionText) → length ts ≡ length us → AllByRecursion IsFractionText ts
     → AllByRecursion IsFractionText us → fractions_text ts ≡ fractions_text us → ts ≡ us

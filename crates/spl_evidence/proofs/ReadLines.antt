@@ -12,7 +12,7 @@ use Rattle.spl_evidence.specs.declared.word.Before.{Before}
 use Rattle.spl_evidence.specs.declared.line.LineWords.{LineWords}
 use Rattle.spl_evidence.specs.declared.refusal.EvidenceKind.TheVariants.{EvForm, EvRange, EvOrder}
 
-not_false : (b : Bool) → b ≡ false → IsTrue b → ⊥
+pub not_false : (b : Bool) → b ≡ false → IsTrue b → ⊥
 not_false b e t = let both = sym t ∙ e in absurd cc
 
 module _ (f : SmallField) (n : ℕ) (before : Option Before) (text : List ℕ) (words : List Word) (q : ℕ)

@@ -20,7 +20,7 @@ use Rattle.spl_evidence.specs.declared.evidence.Evidence.{Evidence}
 use Rattle.spl_evidence.specs.declared.evidence.Evidence.TheVariants.{Triple, NoIdentity, Central, Ideal, Split}
 use Rattle.spl_evidence.specs.declared.word.Word.{Word}
 use Rattle.spl_evidence.specs.declared.word.Word.TheVariants.{Left, Right, End}
-use Rattle.spl_evidence.proofs.RightLines.{words_unique, flat_over}
+use Rattle.spl_evidence.proofs.RightLines.ElementWords.{words_unique, flat_over}
 
 -- items that are told by what a function gives of them
 module _ {X Y : Type 0} (P : X → Type 0) (g : X → Y) (unique : (x y : X) → P x → P y → g x ≡ g y → x ≡ y) where
@@ -134,7 +134,7 @@ module _ (f : SmallField) (n : ℕ) (few : IsNumber (n * n)) where
       → map_line i x ≡ map_line i y → x ≡ y
   map_line_unique i x y p q e =
       let flat = words_list_unique (flat_map (λ r. r) x) (flat_map (λ r. r) y)
-      (flat_over f n few x p.shape).0 (flat_over f n few y q.shape).0 (ap (λ (l : Line). l.fractions) e) in
+      (flat_over f n x p.shape).0 (flat_over f n y q.shape).0 (ap (λ (l : Line). l.fractions) e) in
       rows_unique n x y (p.height ∙ sym q.height) (λ k d below. (p.shape k d below).right_length)
       (λ k d below. (q.shape k d below).right_length) flat
 

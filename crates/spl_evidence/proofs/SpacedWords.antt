@@ -1,6 +1,6 @@
 -- Words behind one another, a space before each: those that were read, and those that are still to come.
-use Rattle.std.proofs.Common.{◌≡◌, ◌≢◌, ◌⊎◌, ◌↔◌, ℕ, ◌+◌, ◌<◌, ◌≤◌, Bool, true, List, [], ◌∷◌, ◌++◌, length, drop, refl, sym, ap}
-use Rattle.std.proofs.Common.{ap₂, subst, ◌∙◌, inl, inr, arith, append_assoc, append-nil}
+use Rattle.std.proofs.Common.{◌≡◌, ◌≢◌, ◌⊎◌, ◌↔◌, ℕ, ◌+◌, ◌<◌, ◌≤◌, Bool, true, List, [], ◌∷◌, ◌++◌, length}
+use Rattle.std.proofs.Common.{drop, refl, sym, ap, ap₂, subst, ◌∙◌, inl, inr, arith, append_assoc, append-nil}
 use Rattle.std.specs.Prelude.{decimal, IsTrue}
 use Rattle.std.specs.List.{flat_map, AllByRecursion}
 use Rattle.std.proofs.lemmas.List.{length-append}
@@ -16,12 +16,12 @@ pub AllByRecursion-push : {X : Type 0} (P : X → Type 0) (xs : List X) (x : X) 
 AllByRecursion-push P [] x p h = (h, tt)
 AllByRecursion-push P (y ∷ xs) x p h = (p.0, AllByRecursion-push P xs x p.1 h)
 
-AllByRecursion-front : {X : Type 0} (P : X → Type 0) (xs ys : List X) → AllByRecursion P (xs ++ ys)
+pub AllByRecursion-front : {X : Type 0} (P : X → Type 0) (xs ys : List X) → AllByRecursion P (xs ++ ys)
     → AllByRecursion P xs
 AllByRecursion-front P [] ys p = tt
 AllByRecursion-front P (x ∷ xs) ys p = (p.0, AllByRecursion-front P xs ys p.1)
 
-AllByRecursion-after : {X : Type 0} (P : X → Type 0) (xs ys : List X) → AllByRecursion P (xs ++ ys)
+pub AllByRecursion-after : {X : Type 0} (P : X → Type 0) (xs ys : List X) → AllByRecursion P (xs ++ ys)
     → AllByRecursion P ys
 AllByRecursion-after P [] ys p = p
 AllByRecursion-after P (x ∷ xs) ys p = AllByRecursion-after P xs ys p.1
@@ -223,6 +223,7 @@ module _ (whole rest : List ℕ) (count : ℕ) (below : Bool) (q : ℕ) (read : 
       (read.fractions, read.many, read.so_far.each, read.so_far.spelled ∙ go rest none, read.elements)
     where
       go : (r : List ℕ) → length r ≡ 0
-          → flat_map (λ t. 32 ∷ fraction_text t) read.fractions ++ r ≡ flat_map (λ t. 32 ∷ fraction_text t) read.fractions
+          → flat_map (λ t. 32 ∷ fraction_text t) read.fractions ++ r
+          ≡ flat_map (λ t. 32 ∷ fraction_text t) read.fractions
       go [] e = append-nil (flat_map (λ t. 32 ∷ fraction_text t) read.fractions)
       go (b ∷ r) e = absurd (omega arith)

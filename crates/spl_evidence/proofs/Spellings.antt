@@ -1,10 +1,10 @@
 -- How fractions, rows, matrices and unit tuples are spelled one after the other.
-use Rattle.std.proofs.Common.{◌≡◌, ℕ, suc, ◌+◌, ◌/◌, ◌%◌, ◌<◌, List, [], ◌∷◌, ◌++◌, length, take, get_or, map, refl, sym, ap}
-use Rattle.std.proofs.Common.{ap₂, ◌∙◌, arith, append_assoc, append-nil}
+use Rattle.std.proofs.Common.{◌≡◌, ℕ, suc, ◌+◌, ◌/◌, ◌%◌, ◌<◌, List, [], ◌∷◌, ◌++◌, length, take, get_or, map}
+use Rattle.std.proofs.Common.{refl, sym, ap, ap₂, ◌∙◌, arith, append_assoc, append-nil}
 use Rattle.std.specs.Prelude.{codes}
 use Rattle.std.specs.List.{flat_map}
 use Rattle.std.proofs.Math.Seq.{take-suc, take-length}
-use Rattle.std.proofs.lemmas.List.{length-take}
+use Rattle.std.proofs.lemmas.List.{length-take, map-append}
 use Rattle.std.proofs.lemmas.List.Concat.{flat_map-append}
 use Rattle.std.proofs.lemmas.List.Folds.{flat_map-map}
 use Rattle.theory_fractions.specs.Fraction.{Pair}
@@ -21,10 +21,6 @@ pub fractions_spelled : (a : List (Pair ℕ))
     → flat_map (λ x. codes " " ++ fraction_text (words_of x)) a ≡ fractions_text (map words_of a)
 fractions_spelled a = sym (flat_map-map (λ t. codes " " ++ fraction_text t) words_of a)
 
-map-append : (a b : List (Pair ℕ)) → map words_of (a ++ b) ≡ map words_of a ++ map words_of b
-map-append [] b = refl
-map-append (x ∷ a) b = ap (λ t. words_of x ∷ t) (map-append a b)
-
 pub rows_spelled : (rows : List (List (Pair ℕ)))
     → flat_map (λ row. fractions_text (map words_of row)) rows ≡ fractions_text
     (map words_of (flat_map (λ row. row) rows))
@@ -33,7 +29,7 @@ rows_spelled (row ∷ rows) =
     let flat = flat_map (λ r. r) rows in
     ap (λ t. fractions_text (map words_of row) ++ t) (rows_spelled rows)
     ∙ sym (flat_map-append (λ t. codes " " ++ fraction_text t) (map words_of row) (map words_of flat))
-    ∙ ap fractions_text (sym (map-append row flat))
+    ∙ ap fractions_text (sym (map-append words_of row flat))
 
 pub lines_text-append : (ls ks : List Line) → lines_text (ls ++ ks) ≡ lines_text ls ++ lines_text ks
 lines_text-append ls ks = flat_map-append (λ l. line (line_text l)) ls ks

@@ -17,7 +17,7 @@ use Rattle.spl_evidence.specs.declared.refusal.EvidenceKind.{EvidenceKind}
 use Rattle.spl_evidence.specs.declared.refusal.EvidenceKind.TheVariants.{EvHeader, EvNoEnd, EvForm, EvRange, EvOrder}
 use Rattle.spl_evidence.specs.declared.refusal.EvidenceKind.TheVariants.{EvTerms, EvAfterEnd}
 use Rattle.spl_evidence.proofs.Prefixes.{Stops-nothing, Stops-fault, same_lines, fault_unique, no_fault}
-use Rattle.spl_evidence.proofs.RightLines.{lines_whole}
+use Rattle.spl_evidence.proofs.RightLines.EvidenceLines.{lines_whole}
 use Rattle.spl_evidence.proofs.SameEvidence.{same_evidence}
 
 module _ (f : SmallField) (n : ℕ) where

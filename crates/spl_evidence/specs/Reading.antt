@@ -1,16 +1,21 @@
 -- What the parts of the reader answer. Contracts of private functions alone cite it.
-use Rattle.std.specs.Prelude.{◌≡◌, ◌⊎◌, ◌↔◌, ◌*◌, ◌<◌, ℕ, IsTrue, List, [], ◌∷◌, Option}
+use Rattle.std.specs.Prelude.{◌≡◌, ◌⊎◌, ◌↔◌, ◌+◌, ◌*◌, ◌<◌, ℕ, IsTrue, List, [], ◌∷◌, ◌++◌, length, Option, Some}
 use Rattle.std.specs.List.{AllByRecursion}
 use Rattle.spl_text.specs.Text.{lists_of}
 use Rattle.spl_field.specs.SmallField.{size_of}
 use Rattle.spl_field.specs.declared.small.SmallField.{SmallField}
-use Rattle.spl_evidence.specs.Line.{Line, HasForm, fractions_text, line_text}
-use Rattle.spl_evidence.specs.Refusal.{IsDue, IsInRange, IsInOrder}
+use Rattle.spl_fraction.specs.FractionsOver.{fractions_over}
+use Rattle.spl_evidence.specs.Line.{Line, HasForm, fractions_text, line_text, lines_text}
+use Rattle.spl_evidence.specs.Evidence.{Fits, kind_line, body_lines, end_line}
+use Rattle.spl_evidence.specs.Refusal.{IsDue, IsInRange, IsInOrder, AreRight, behind_all, IsFaultBehind}
+use Rattle.spl_evidence.specs.declared.evidence.Evidence.{Evidence}
+use Rattle.spl_evidence.specs.declared.word.Word.{Word}
 use Rattle.spl_evidence.specs.declared.word.Before.{Before}
 use Rattle.spl_evidence.specs.declared.refusal.EvidenceKind.{EvidenceKind}
 use Rattle.spl_evidence.specs.declared.refusal.EvidenceFault.{EvidenceFault}
 use Rattle.spl_evidence.specs.declared.refusal.EvidenceFault.TheVariants.{Refused, Memory}
 use Rattle.spl_evidence.specs.declared.line.LineWords.{LineWords}
+use Rattle.spl_evidence.specs.declared.reader.Reader.{Reader}
 
 -- a word of a line ends where the line does, or at a space
 abbrev pub EndsWord : List ℕ → Type 0
@@ -38,3 +43,36 @@ pub record IsReadAt (f : SmallField) (n : ℕ) (before : Option Before) (text : 
   pub order : IsInOrder n before line
   pub spelled : text ≡ line_text line
   pub words : IsLineOf (size_of f) line w
+
+-- ---- a reader among the lines
+
+-- the reader has read these lines, which are right where they stand
+pub record Reads (f : SmallField) (n : ℕ) (old : Reader) (lines : List Line) (new : Reader) : Type 0 where
+  pub right : AreRight f n old.before lines
+  pub spelled : old.rest.now ≡ lines_text lines ++ new.rest.now
+  pub number : new.number ≡ old.number + length lines
+  pub before : new.before ≡ behind_all f n old.before lines
+
+-- right lines, the first of which the reader stands at, and then a fault
+abbrev pub IsFaultFrom : SmallField → ℕ → Reader → ℕ → EvidenceKind → Type 0
+IsFaultFrom f n r at kind = IsFaultBehind f n r.before r.number r.rest.now at kind
+
+-- so many lines stand behind the line of this kind, which announces so many tuples
+pub record StandsBehind (kind : Word) (tuples count : ℕ) (before : Option Before) : Type 0 where
+  pub last : Word
+  pub j : ℕ
+  pub k : ℕ
+  pub is : before ≡ Some (record { kind = kind; tuples = tuples; count = count; last = last; j = j; k = k })
+
+-- one line more can be counted
+pub record HasRoom (r : Reader) : Type 0 where
+  pub number : r.number < 4294967295
+  pub count : (b : Before) → r.before ≡ Some b → b.count < 4294967295
+
+-- ---- evidence behind the line of its kind
+
+-- the evidence fits and has the line of this kind, and its other lines are the rest of the text
+pub record IsBehindKind (f : SmallField) (n : ℕ) (first : Line) (rest : List ℕ) (e : Evidence) : Type 0 where
+  pub fits : Fits (fractions_over f) n e
+  pub kind : kind_line e ≡ first
+  pub spelled : rest ≡ lines_text (body_lines n e ++ end_line ∷ [])

@@ -6,7 +6,7 @@ ghost use Rattle.spl_evidence.specs.Line.{Line};
 ghost use Rattle.spl_evidence.specs.Refusal.{greatest, due_sides, due_words, IsInRange, NumbersAreInOrder};
 ghost use Rattle.spl_evidence.specs.Refusal.{up_to, end_at};
 ghost use Rattle.spl_evidence.specs.Reading.{IsLineOf};
-ghost use Rattle.spl_evidence.specs.declared.word.Word.TheVariants.{Left, Right, Tuple, Map, Unit as UnitTuple};
+ghost use Rattle.spl_evidence.specs.declared.word.Word.TheVariants.{Left, Right, Tuple, Map, Unit as UnitTuple, End};
 
 use crate::arguments::both;
 use crate::line::LineWords;
@@ -156,7 +156,7 @@ pub(crate) fn number_at(numbers: &[u32], place: usize) -> u32
 }
 
 /// Whether it is the word `left`.
-fn is_left(word: Word) -> bool
+pub(crate) fn is_left(word: Word) -> bool
     ensures { IsTrue result ↔ (word ≡ Left) }
 {
     match word {
@@ -190,6 +190,25 @@ fn is_right(word: Word) -> bool
         Word::Map => false,
         Word::Unit => false,
         Word::End => false,
+    }
+}
+
+/// Whether it is the word `end`.
+pub(crate) fn is_end(word: Word) -> bool
+    ensures { IsTrue result ↔ (word ≡ End) }
+{
+    match word {
+        Word::End => true,
+        Word::Triple => false,
+        Word::NoIdentity => false,
+        Word::Central => false,
+        Word::Ideal => false,
+        Word::Split => false,
+        Word::Left => false,
+        Word::Right => false,
+        Word::Tuple => false,
+        Word::Map => false,
+        Word::Unit => false,
     }
 }
 

@@ -1,5 +1,5 @@
 // Writing evidence.
-ghost use Rattle.std.specs.Prelude.{◌≡◌, ℕ, ◌<◌, ◌≤◌, ◌∷◌, ◌++◌, IfOk, OnOk};
+ghost use Rattle.std.specs.Prelude.{◌≡◌, ℕ, ◌<◌, ◌≤◌, List, ◌∷◌, ◌++◌, IfOk, OnOk};
 ghost use Rattle.std.specs.List.{All};
 ghost use Rattle.theory_rings.specs.Ops.{IsElem};
 ghost use Rattle.theory_fractions.specs.Fraction.{Pair};
@@ -69,7 +69,8 @@ fn push_split(
     requires maps { All (All (All (IsElem (fractions_over (field_of f.now))))) maps.now }
     requires units { All (All (IsElem (fractions_over (field_of f.now)))) units.now }
     ensures { OnOk result (out.new.items
-        ≡ out.old.items ++ lines_text (kind_line (Split maps.now units.now) ∷ body_lines n (Split maps.now units.now))) }
+        ≡ out.old.items ++ lines_text (kind_line (Split maps.now units.now) ∷ body_lines n
+        (Split maps.now units.now))) }
 {
     out.extend_from_slice(b"split\n")?;
     push_maps(alloc, f, maps.as_slice(), out)?;
@@ -101,7 +102,8 @@ fn push_body(
     }
 }
 
-/// The text of the evidence on an algebra of degree n, which is of dimension n². The one fault is want of memory.
+/// The text of the evidence on an algebra of degree n, which is of dimension n². The one fault is want of memory. The
+/// bytes that were read as the evidence are written again.
 pub fn write_evidence(
     alloc: Global,
     f: &Fractions,
@@ -111,7 +113,9 @@ pub fn write_evidence(
     requires low { 2 ≤ n }
     requires high { n ≤ 5 }
     requires fits { Fits (fractions_over (field_of f.now)) n e.now }
-    ensures { IfOk result (λ text. IsEvidenceText (fractions_over (field_of f.now)) n text.items e.now) }
+    ensures text { IfOk result (λ text. IsEvidenceText (fractions_over (field_of f.now)) n text.items e.now) }
+    ensures again { (bytes : List ℕ) → IsEvidenceText (fractions_over (field_of f.now)) n bytes e.now
+        → IfOk result (λ text. text.items ≡ bytes) }
 {
     let mut text = Vec::from_slice(alloc, b"spl-evidence 1\n")?;
     push_body(alloc, f, n, e, &mut text)?;

@@ -45,5 +45,9 @@ returns c =
     let l = c.loop in
     let w = l.invariant.so_far.words in
     let all : length l.fractions ≡ c.args.count =
-    omega (arith, l.invariant.many, c.loop-test.false, l.auto.counter-end) in
-    (all, l.invariant.so_far.elems, ends_of (field_of c.args.f.now) c.args.text.now l.rest.now l.fractions l.invariant.so_far, w.spelled)
+    omega (arith, l.invariant.many, c.loop-test.false, l.auto.counter-end) in (
+      all,
+      l.invariant.so_far.elems,
+      ends_of (field_of c.args.f.now) c.args.text.now l.rest.now l.fractions l.invariant.so_far,
+      w.spelled,
+    )

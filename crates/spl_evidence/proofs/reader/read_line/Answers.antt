@@ -2,7 +2,7 @@ use Rattle.std.proofs.Common.{◌≡◌, refl, ap, ◌∙◌}
 use Rattle.spl_field.specs.SmallField.{size_of}
 use Rattle.spl_fraction.specs.Fractions.{field_of}
 use Rattle.spl_evidence.proofs.ReadLines.{form_fault, range_fault, order_fault, line_read}
-use Rattle.spl_evidence.proofs.reading.read_line.Goals as goal
+use Rattle.spl_evidence.proofs.reader.read_line.Goals as goal
 
 pub returns-in_default-clause-fault : goal.returns-in_default-clause-fault
 returns-in_default-clause-fault c =

@@ -2,7 +2,7 @@ use Rattle.std.proofs.Common.{◌↔◌, sym, subst}
 use Rattle.std.specs.Prelude.{IsTrue}
 use Rattle.spl_evidence.specs.Refusal.{IsInOrder}
 use Rattle.spl_evidence.proofs.Orders.{order_of}
-use Rattle.spl_evidence.proofs.reading.is_in_order.Goals as goal
+use Rattle.spl_evidence.proofs.reader.is_in_order.Goals as goal
 
 pub returns-in-Some : goal.returns-in-Some
 returns-in-Some c =

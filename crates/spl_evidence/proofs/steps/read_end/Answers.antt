@@ -1,0 +1,18 @@
+use Rattle.std.proofs.Common.{◌*◌, [], ◌∷◌}
+use Rattle.spl_fraction.specs.Fractions.{field_of}
+use Rattle.spl_evidence.specs.Refusal.{due_words}
+use Rattle.spl_evidence.specs.declared.word.Word.TheVariants.{End}
+use Rattle.spl_evidence.proofs.Readers.Passing.{err_behind}
+use Rattle.spl_evidence.proofs.Readers.LineSteps.{first_due}
+use Rattle.spl_evidence.proofs.steps.read_end.Goals as goal
+
+pub read_plain-requires-clause-some_due : goal.read_plain-requires-clause-some_due
+read_plain-requires-clause-some_due c =
+    (End, first_due (due_words (c.args.n * c.args.n) c.args.reader.now.before) End c.requires.due)
+
+pub returns-clause-fault : goal.returns-clause-fault
+returns-clause-fault c =
+    let f = field_of c.args.f.now in
+    let r = c.in_ok-read_plain.ensures.ok in
+    err_behind f c.args.n c.args.reader.now c.read_plain.new.reader (r.0 ∷ []) r.1 c.read_nothing.result
+    (c.read_nothing.ensures.fault f)
