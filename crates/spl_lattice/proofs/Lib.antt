@@ -4,3 +4,4 @@ pub mod RowSteps
 pub mod RowReduction
 pub mod ExtendedRows
 pub mod RowLattices
+pub mod Division

@@ -65,17 +65,17 @@ module _ {E : Type 0} (o : Ops E) (L : FieldLaws o) where
 
   module _ (v w p : ℕ) (high by new : List (List E)) (hh : IsPolynomialRow o v high) (hb : IsPolynomialRow o v by)
       (hn : IsPolynomialRow o v new) (r : IsRowRest o p high by new) where
-    q : Poly (let F = G o L in F.cring)
+    abbrev q : Poly (let F = G o L in F.cring)
     q = up o L r.quotient
 
-    step : (j : ℕ) → up_row o L new j ≡ P.◌⊕◌ (up_row o L high j) (P.◌⊗◌ (P.neg q) (up_row o L by j))
-    unfolding q
-    step j = ⊎_elim
-        (λ (l : j < length high). (let x = r.whole in
-        lift-sum_with_multiple o L (get_or high j []) r.multiple (get_or by j []) (get_or new j [])
-        (entry-over o L v high hh j) r.multiple_over (entry-over o L v by hb j) (entry-over o L v new hn j) (x.entries j l))
+    pub rest-entry : (j : ℕ) → up_row o L new j ≡ P.◌⊕◌ (up_row o L high j) (P.◌⊗◌ (P.neg q) (up_row o L by j))
+    rest-entry j = ⊎_elim
+        (λ (l : j < length high). (let s = r.less in let x = s.whole in
+        lift-sum_with_multiple o L (get_or high j []) s.multiple (get_or by j []) (get_or new j [])
+        (entry-over o L v high hh j) s.multiple_over (entry-over o L v by hb j) (entry-over o L v new hn j)
+        (x.entries j l)
         ∙ ap (λ t. P.◌⊕◌ (up_row o L high j) (P.◌⊗◌ t (up_row o L by j)))
-        (lift-negative o L r.quotient r.multiple r.quotient_over r.multiple_over r.negative))
+        (lift-negative o L r.quotient s.multiple r.quotient_over s.multiple_over s.negative)))
         (λ (l : length high ≤ j).
         let g : v ≤ j = (let e = hh.width in omega arith) in
         ap (up o L) (entry_past o L v new hn j g) ∙ lift_nil o L
@@ -86,7 +86,6 @@ module _ {E : Type 0} (o : Ops E) (L : FieldLaws o) where
         (cases_lt j (length high))
 
     whole : up_row o L high p ≡ P.◌⊕◌ (P.◌⊗◌ q (up_row o L by p)) (up o L r.rest)
-    unfolding q
     whole = (let d = r.division in
         eq_of_coefficients o L (up_row o L high p) (P.◌⊕◌ (P.◌⊗◌ (up o L r.quotient) (up_row o L by p)) (up o L r.rest))
         (at o (get_or high p []))
@@ -98,19 +97,19 @@ module _ {E : Type 0} (o : Ops E) (L : FieldLaws o) where
         (has-lift o L r.quotient r.quotient_over) (has-lift o L (get_or by p []) (entry-over o L v by hb p)))
         (has-lift o L r.rest r.rest_over)) d.whole)
 
-    rest_lower : HasLeadingPosition w high p → HasLeadingPosition w by p
+    pub rest_lower : HasLeadingPosition w high p → HasLeadingPosition w by p
         → length (get_or by p []) ≤ length (get_or high p []) → height w new < height w high
     rest_lower lh lb le = lowered o L w high by new p q (up o L r.rest) 0 (entry-over o L v high hh)
         (entry-trimmed o L v high hh) (entry-over o L v by hb) (entry-trimmed o L v by hb) (entry-over o L v new hn)
         (entry-trimmed o L v new hn) lh lb le
         (let d = r.division in let e = length_of_degree (get_or by p []) lb.nonzero in let s = d.smaller in
         below_of_length o L r.rest (degree (get_or by p [])) r.rest_over r.rest_trimmed (omega arith))
-        whole step
+        whole rest-entry
 
     rest_transformed : (basis zeros : List (List (List E))) (i : ℕ) → i < length basis → get_or basis i [] ≡ by
         → RowsTransformed o L ((basis ++ zeros) ++ high ∷ []) ((basis ++ zeros) ++ new ∷ [])
     rest_transformed basis zeros i l e = transformed-multiple o L basis zeros high new i (P.neg q) l
-        (λ j. step j ∙ ap (λ b. P.◌⊕◌ (up_row o L high j) (P.◌⊗◌ (P.neg q) (up_row o L b j))) (sym e))
+        (λ j. rest-entry j ∙ ap (λ b. P.◌⊕◌ (up_row o L high j) (P.◌⊗◌ (P.neg q) (up_row o L b j))) (sym e))
 
   -- ---- a step
 

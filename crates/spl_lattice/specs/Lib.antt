@@ -2,3 +2,4 @@ pub mod Ideal
 pub mod Steps
 pub mod Reduction
 pub mod ReducedForm
+pub mod Division

@@ -36,18 +36,22 @@ module _ {E : Type 0} (o : Ops E) where
     pub count : length new ≡ length row
     pub entries : (j : ℕ) → j < length row → IsSumWithMultiple o (get_or row j []) m (get_or by j []) (get_or new j [])
 
+  -- the new row is the old one less q times another
+  pub record IsRowLess (row : List (List E)) (q : List E) (by new : List (List E)) : Type 0 where
+    pub multiple : List E
+    pub multiple_over : IsOver o multiple
+    pub negative : IsNegative q multiple
+    pub whole : IsRowWithMultiple row multiple by new
+
   -- the new row is the old one less q times another, where q is the quotient of their entries at p
   pub record IsRowRest (p : ℕ) (row by new : List (List E)) : Type 0 where
     pub quotient : List E
     pub rest : List E
-    pub multiple : List E
     pub quotient_over : IsOver o quotient
     pub rest_over : IsOver o rest
     pub rest_trimmed : IsTrimmed o.zero rest
-    pub multiple_over : IsOver o multiple
     pub division : IsDivision o (get_or row p []) (get_or by p []) quotient rest
-    pub negative : IsNegative quotient multiple
-    pub whole : IsRowWithMultiple row multiple by new
+    pub less : IsRowLess row quotient by new
 
   -- the row, or the one of the basis at i whose place it takes, is brought to its rest by the one that stands there then
   pub record IsLowering (p i : ℕ) (basis : List (List (List E))) (row : List (List E))

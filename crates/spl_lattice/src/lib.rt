@@ -10,6 +10,7 @@ mod euclid;
 pub mod generator;
 pub mod lattices;
 pub mod matrix;
+pub mod members;
 mod positions;
 pub mod reduced;
 pub mod rows;

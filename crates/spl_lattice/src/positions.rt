@@ -1,8 +1,10 @@
 // Leading positions of rows of polynomials.
 ghost use Rattle.std.specs.Prelude.{◌≡◌, ◌≢◌, ℕ, ◌+◌, ◌<◌, ◌≤◌, length, MatchOption, slice_index};
-ghost use Rattle.theory_rows.specs.LeadingPositions.{HasLeadingPosition, IsZeroUpTo};
+ghost use Rattle.theory_rows.specs.LeadingPositions.{HasLeadingPosition, HaveLeadingPositions, IsZeroUpTo};
+ghost use Rattle.spl_lattice.specs.Division.{CanDivide};
 ghost use Rattle.spl_lattice.specs.Reduction.{LeadsSoFar};
 
+use crate::rows::PolyRow;
 use spl_poly::poly::Poly;
 
 /// Of the places, that of the entry of greater degree, and the later one where both have the same.
@@ -60,4 +62,19 @@ pub(crate) fn conflict(places: &[usize], row: &[Poly], w: usize) -> Option<usize
 {
     let p = leading_position(row, w)?;
     place_of(places, p)
+}
+
+/// Of reduced rows with these leading positions, that which leads where the given row does, with no greater degree.
+pub(crate) fn divisor(places: &[usize], rows: &[PolyRow], row: &[Poly], w: usize) -> Option<usize>
+    requires width { w ≤ length row.now }
+    requires reduced { HaveLeadingPositions w rows.now places.now }
+    ensures { MatchOption result ((i : ℕ) → CanDivide w rows.now places.now row.now i → ⊥)
+        (CanDivide w rows.now places.now row.now) }
+{
+    let i = conflict(places, row, w)?;
+    let p = places[i];
+    if row[p].as_slice().len() < rows[i].as_slice()[p].as_slice().len() {
+        return None;
+    }
+    Some(i)
 }

@@ -4,7 +4,7 @@ ghost use Rattle.theory_rings.specs.Polynomial.{IsTrimmed};
 ghost use Rattle.theory_rows.specs.Rows.{IsPolynomialRow};
 ghost use Rattle.spl_field.specs.SmallField.{small_ops};
 ghost use Rattle.spl_poly.specs.Operations.{IsOver};
-ghost use Rattle.spl_lattice.specs.Reduction.{IsNegative, IsRowWithMultiple, IsRowRest};
+ghost use Rattle.spl_lattice.specs.Reduction.{IsNegative, IsRowWithMultiple, IsRowLess, IsRowRest};
 ghost use Rattle.spl_lattice.specs.Steps.{IsSumWithMultiple};
 
 use crate::euclid::{constant, know_laws};
@@ -69,6 +69,24 @@ fn add_multiple(
     Ok(row)
 }
 
+/// The row less q times another.
+pub(crate) fn less_multiple(
+    alloc: Global,
+    f: &SmallField,
+    row: PolyRow,
+    q: &Poly,
+    by: &PolyRow,
+) -> Result<PolyRow, NoMemory>
+    requires row { IsPolynomialRow (small_ops f.now) (length row) row }
+    requires q_over { IsOver (small_ops f.now) q.now }
+    requires by { IsPolynomialRow (small_ops f.now) (length row) by.now }
+    ensures value { IfOk result (IsRowLess (small_ops f.now) row q.now by.now) }
+    ensures row { IfOk result (IsPolynomialRow (small_ops f.now) (length row)) }
+{
+    let multiple = negative(alloc, f, q)?;
+    Ok(add_multiple(alloc, f, row, &multiple, by.as_slice())?)
+}
+
 /// The row less a multiple of another, by which its entry at p becomes the remainder by that of the other.
 pub(crate) fn without_multiple(
     alloc: Global,
@@ -85,6 +103,5 @@ pub(crate) fn without_multiple(
     ensures row { IfOk result (IsPolynomialRow (small_ops f.now) (length row)) }
 {
     let division = row.as_slice()[p].divide(alloc, f, &by.as_slice()[p])?;
-    let multiple = negative(alloc, f, &division.quotient)?;
-    Ok(add_multiple(alloc, f, row, &multiple, by.as_slice())?)
+    Ok(less_multiple(alloc, f, row, &division.quotient, by)?)
 }

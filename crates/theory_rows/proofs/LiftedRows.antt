@@ -110,35 +110,38 @@ module _ {E : Type 0} (o : Ops E) (L : FieldLaws o) where
       → comb M n c v t ≡ sum Q.monoid n (λ i. Q.◌⊗◌ (c i) (v i t))
   comb_at n c v t = map-sum M.monoid Q.monoid (λ f. f t) refl (λ f g. refl) n (λ i. M.◌•◌ (c i) (v i))
 
+  -- entry j of the combination of the rows with weights c
+  abbrev pub combined : List (List E) → List (List (List E)) → ℕ → Poly G.cring
+  combined c rows j = sum Q.monoid (length rows) (λ i. Q.◌⊗◌ (up_row c i) (up_rows rows i j))
+
+  pub has-combined : (c : List (List E)) (rows : List (List (List E))) → ((i : ℕ) → IsOver o (get_or c i []))
+      → ((i j : ℕ) → IsOver o (get_or (get_or rows i []) j [])) → (j : ℕ)
+      → Has o L (combined c rows j) (λ k. sum_of o (length rows)
+      (λ i. convolution_of o (at o (get_or c i [])) (at o (get_or (get_or rows i []) j [])) k))
+  has-combined c rows hc hr j = has-sum o L (length rows) (λ i. Q.◌⊗◌ (up_row c i) (up_rows rows i j))
+      (λ i. convolution_of o (at o (get_or c i [])) (at o (get_or (get_or rows i []) j [])))
+      (λ i l. has-mul o L (up_row c i) (up_rows rows i j) (at o (get_or c i []))
+      (at o (get_or (get_or rows i []) j [])) (has-lift o L (get_or c i []) (hc i))
+      (has-lift o L (get_or (get_or rows i []) j []) (hr i j)))
+
   module _ (c : List (List E)) (rows : List (List (List E))) (x : List (List E))
       (hc : (i : ℕ) → IsOver o (get_or c i [])) (hr : (i j : ℕ) → IsOver o (get_or (get_or rows i []) j []))
       (hx : (j : ℕ) → IsOver o (get_or x j [])) where
-    abbrev whole : ℕ → Poly G.cring
-    whole j = sum Q.monoid (length rows) (λ i. Q.◌⊗◌ (up_row c i) (up_rows rows i j))
-
-    has_whole : (j : ℕ) → Has o L (whole j) (λ k. sum_of o (length rows)
-        (λ i. convolution_of o (at o (get_or c i [])) (at o (get_or (get_or rows i []) j [])) k))
-    has_whole j = has-sum o L (length rows) (λ i. Q.◌⊗◌ (up_row c i) (up_rows rows i j))
-        (λ i. convolution_of o (at o (get_or c i [])) (at o (get_or (get_or rows i []) j [])))
-        (λ i l. has-mul o L (up_row c i) (up_rows rows i j) (at o (get_or c i []))
-        (at o (get_or (get_or rows i []) j [])) (has-lift o L (get_or c i []) (hc i))
-        (has-lift o L (get_or (get_or rows i []) j []) (hr i j)))
-
     pub up_combination : IsRowCombination o c rows x → up_row x ≡ comb M (length rows) (up_row c) (up_rows rows)
     up_combination e = fun_ext (λ j.
-        eq_of_coefficients o L (up_row x j) (whole j) (at o (get_or x j []))
+        eq_of_coefficients o L (up_row x j) (combined c rows j) (at o (get_or x j []))
         (λ k. sum_of o (length rows)
         (λ i. convolution_of o (at o (get_or c i [])) (at o (get_or (get_or rows i []) j [])) k))
-        (has-lift o L (get_or x j []) (hx j)) (has_whole j) (e j)
+        (has-lift o L (get_or x j []) (hx j)) (has-combined c rows hc hr j) (e j)
         ∙ sym (comb_at (length rows) (up_row c) (up_rows rows) j))
 
     pub combination_of_up : ((j : ℕ) → up_row x j ≡ comb M (length rows) (up_row c) (up_rows rows) j)
         → IsRowCombination o c rows x
     combination_of_up e j =
-        coefficients_of_eq o L (up_row x j) (whole j) (at o (get_or x j []))
+        coefficients_of_eq o L (up_row x j) (combined c rows j) (at o (get_or x j []))
         (λ k. sum_of o (length rows)
         (λ i. convolution_of o (at o (get_or c i [])) (at o (get_or (get_or rows i []) j [])) k))
-        (has-lift o L (get_or x j []) (hx j)) (has_whole j)
+        (has-lift o L (get_or x j []) (hx j)) (has-combined c rows hc hr j)
         (e j ∙ comb_at (length rows) (up_row c) (up_rows rows) j)
 
   -- ---- weights
