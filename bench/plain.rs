@@ -259,6 +259,85 @@ fn matrix(f: &Field, height: usize, width: usize) -> Vec<Vec<u8>> {
     rows
 }
 
+fn add(f: &Field, a: &[u8], b: &[u8]) -> Vec<u8> {
+    let (long, short) = if a.len() < b.len() { (b, a) } else { (a, b) };
+    let mut out = long.to_vec();
+    for (x, y) in out.iter_mut().zip(short) {
+        *x = f.sum(*x, *y);
+    }
+    trimmed(out)
+}
+
+type Row = Vec<Vec<u8>>;
+
+/// Rows that are reduced in the first columns, with the places where they lead, and rows that are 0 there.
+#[derive(Default)]
+struct Split {
+    basis: Vec<Row>,
+    places: Vec<usize>,
+    zeros: Vec<Row>,
+}
+
+/// The last of the first w columns in which the row reaches its greatest degree there.
+fn leading_position(row: &Row, w: usize) -> Option<usize> {
+    let place = (0..w).max_by_key(|j| row[*j].len())?;
+    (!row[place].is_empty()).then_some(place)
+}
+
+/// Brings the row in, by the algorithm of Mulders and Storjohann.
+fn insert(f: &Field, w: usize, split: &mut Split, mut row: Row) {
+    while let Some(p) = leading_position(&row, w) {
+        let Some(i) = split.places.iter().position(|q| *q == p) else {
+            split.places.push(p);
+            split.basis.push(row);
+            return;
+        };
+        if row[p].len() < split.basis[i][p].len() {
+            std::mem::swap(&mut row, &mut split.basis[i]);
+        }
+        let by = &split.basis[i];
+        let quotient = divide(f, &row[p], &by[p]).0;
+        let multiple = multiply(f, &quotient, &[f.negative(1)]);
+        for (x, y) in row.iter_mut().zip(by).filter(|(_, y)| !y.is_empty()) {
+            *x = add(f, x, &multiply(f, &multiple, y));
+        }
+    }
+    split.zeros.push(row);
+}
+
+/// The rows, each followed by its unit row, reduced in the first columns.
+fn split(f: &Field, rows: &[Row]) -> Split {
+    let w = rows[0].len();
+    let mut split = Split::default();
+    for (i, row) in rows.iter().enumerate() {
+        let units = (0..rows.len()).map(|k| if k == i { vec![1] } else { Vec::new() });
+        insert(f, w, &mut split, row.iter().cloned().chain(units).collect());
+    }
+    split
+}
+
+fn polynomials(f: &Field, height: usize, width: usize) -> Vec<Row> {
+    let mut seed = 3;
+    let mut rows = Vec::new();
+    for _ in 0..height {
+        seed = next(seed / 5 + 1);
+        let mut state = seed;
+        let mut row = Vec::new();
+        for j in 0..width {
+            state = next(if j % 25 == 0 { seed } else { state });
+            row.push(items(f, 9, state / 3 + 5));
+        }
+        rows.push(row);
+    }
+    rows
+}
+
+/// The checksum of the entries from w on, or up to w.
+fn sums(rows: &[Row], w: usize, tails: bool) -> u32 {
+    let entries = rows.iter().flat_map(|row| if tails { &row[w..] } else { &row[..w] });
+    entries.flatten().fold(0, |sum, c| sum % 65521 * 31 + u32::from(*c))
+}
+
 /// The last of count values.
 fn last<T>(count: u64, compute: impl Fn() -> T) -> T {
     for _ in 1..count {
@@ -287,6 +366,17 @@ fn report(word: &str, f: &Field, count: u64) -> Option<String> {
             let (solved, v) = last(count, || solve(black_box(f), 25, black_box(&m), &right));
             Some(format!("{} {}", if solved { "solved" } else { "refuted" }, checksum(&v)))
         }
+        "reduce" => {
+            let rows = polynomials(f, 25, 25);
+            let basis = last(count, || split(black_box(f), black_box(&rows))).basis;
+            let (sum, transform) = (sums(&basis, 25, false), sums(&basis, 25, true));
+            Some(format!("rows {} checksum {sum} transform {transform}", basis.len()))
+        }
+        "wide" => {
+            let rows = polynomials(f, 26, 1250);
+            let zeros = last(count, || split(black_box(f), black_box(&rows))).zeros;
+            Some(format!("rows {} checksum {}", zeros.len(), sums(&zeros, 1250, true)))
+        }
         _ => None,
     }
 }
@@ -296,6 +386,7 @@ fn answer(words: &[String]) -> Option<String> {
     let (word, size, count) = match words[..] {
         [word @ ("mul" | "divide"), size, count] => (word, size, count),
         [word @ ("kernel" | "solve"), count] => (word, "256", count),
+        [word @ ("reduce" | "wide"), count] => (word, "5", count),
         _ => return None,
     };
     let count = count.parse().ok().filter(|count| *count > 0)?;
@@ -311,7 +402,7 @@ fn main() {
     match answer(&words) {
         Some(line) => println!("{line}"),
         None => println!(
-            "usage: mul Q COUNT | divide Q COUNT | kernel COUNT | solve COUNT, Q = 5 or 256"
+            "usage: mul Q COUNT | divide Q COUNT | kernel COUNT | solve COUNT | reduce COUNT | wide COUNT, Q = 5 or 256"
         ),
     }
 }

@@ -1,10 +1,12 @@
-// What is measured: products and divisions of polynomials, kernels and linear systems, each computed as often as asked.
+// What is measured: products and divisions of polynomials, kernels and linear systems, reductions of matrices of
+// polynomials and kernels of wide ones, each computed as often as asked.
 //
 // It prints what it computed last, and never a time: that is taken from outside, at a large count, as by
 // `time spl_bench mul 256 100000`. The words are in `USAGE`; `bench/README.md` says how to compare it with plain Rust.
 #![tactic(auto)]
 
 mod entries;
+mod lattices;
 mod matrices;
 mod polynomials;
 
@@ -15,7 +17,7 @@ use std::env;
 
 /// What is printed where the words are others.
 const USAGE: &str =
-    "usage: mul Q COUNT | divide Q COUNT | kernel COUNT | solve COUNT, Q = 5 or 256";
+    "usage: mul Q COUNT | divide Q COUNT | kernel COUNT | solve COUNT | reduce COUNT | wide COUNT, Q = 5 or 256";
 
 /// The field with as many elements as the word says; None where it is none that is measured.
 fn field(alloc: Global, size: &str) -> Result<Option<SmallField>> {
@@ -33,6 +35,8 @@ fn line(alloc: Global, word: &str, f: &SmallField, count: u64) -> Result<Option<
         "divide" => Ok(Some(polynomials::divide(alloc, f, count)?)),
         "kernel" => Ok(Some(matrices::kernel(alloc, f, count)?)),
         "solve" => Ok(Some(matrices::solve(alloc, f, count)?)),
+        "reduce" => Ok(Some(lattices::reduction(alloc, f, count)?)),
+        "wide" => Ok(Some(lattices::wide_kernel(alloc, f, count)?)),
         _ => Ok(None),
     }
 }
@@ -56,6 +60,9 @@ fn report(alloc: Global, words: &[String]) -> Result<Option<String>> {
         }
         [word, count] if word.as_str() == "kernel" || word.as_str() == "solve" => {
             answer(alloc, word.as_str(), "256", count.as_str())
+        }
+        [word, count] if word.as_str() == "reduce" || word.as_str() == "wide" => {
+            answer(alloc, word.as_str(), "5", count.as_str())
         }
         _ => Ok(None),
     }

@@ -1,5 +1,6 @@
 // Products and divisions of polynomials.
 ghost use Rattle.std.specs.Prelude.{◌≢◌, [], IfOk};
+ghost use Rattle.theory_rings.specs.Polynomial.{IsTrimmed};
 ghost use Rattle.spl_field.specs.SmallField.{small_ops};
 ghost use Rattle.spl_poly.specs.Operations.{IsOver};
 
@@ -17,8 +18,9 @@ const SHORT: usize = 32;
 const LONG: usize = 63;
 
 /// A polynomial with n coefficients, none of which is 0.
-fn poly(alloc: Global, f: &SmallField, n: usize, seed: u32) -> Result<Poly, NoMemory>
-    ensures { IfOk result (IsOver (small_ops f.now)) }
+pub(crate) fn poly(alloc: Global, f: &SmallField, n: usize, seed: u32) -> Result<Poly, NoMemory>
+    ensures over { IfOk result (IsOver (small_ops f.now)) }
+    ensures trimmed { IfOk result (IsTrimmed 0) }
 {
     let mut items = Vec::new(alloc);
     let size = f.size();
