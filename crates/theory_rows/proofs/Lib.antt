@@ -7,3 +7,5 @@ pub mod Lowering
 pub mod Splits
 pub mod Kernels
 pub mod SumsAndMeets
+pub mod FractionWeights
+pub mod FractionKernels

@@ -1,4 +1,5 @@
 pub mod Rows
 pub mod LeadingPositions
 pub mod Augmented
+pub mod FractionKernels
 pub mod RowLaws

@@ -1,4 +1,5 @@
 // Laws of rows of polynomials over a program's field.
+ghost use Rattle.theory_rows.specs.FractionKernels.{KernelIsBasisOverFractions};
 ghost use Rattle.theory_rows.specs.RowLaws.{PredictableDegrees, ReducedRowsAreIndependent};
 
 use theory_fractions::fraction_laws::ProgramField;
@@ -8,4 +9,10 @@ use theory_fractions::fraction_laws::ProgramField;
 pub fn degrees_are_predictable<F: ProgramField>()
     ensures degrees { PredictableDegrees F.ops }
     ensures independent { ReducedRowsAreIndependent F.ops }
+{}
+
+/// A basis of the weights, polynomials, with which rows combine to 0 is a basis, over the fractions, of the weights that
+/// are fractions with which they do.
+pub fn kernels_are_kernels_over_the_fractions<F: ProgramField>()
+    ensures basis { KernelIsBasisOverFractions F.ops F.laws }
 {}

@@ -53,11 +53,11 @@ module _ {D K : Type 0} {R : RingOn D} (X : DegreeOn R) (F : FieldOn K) (W : Deg
       ∙ ap (λ t. of v' ⊗ t) e ∙ sym (hom.map-mul v' u)
 
   -- v makes all of c 0, .., c (m − 1) elements of the ring
-  record Denominator (m : ℕ) (c : ℕ → K) (v : D) : Type 0 where
+  pub record Denominator (m : ℕ) (c : ℕ → K) (v : D) : Type 0 where
     pub nonzero : v ≡ R.zero → ⊥
     pub clears : (j : ℕ) → j < m → (u : D) × (of v ⊗ c j ≡ of u)
 
-  denominator : (m : ℕ) (c : ℕ → K) → (v : D) × Denominator m c v
+  pub denominator : (m : ℕ) (c : ℕ → K) → (v : D) × Denominator m c v
   denominator zero c = (R.one, record { nonzero = X.one-ne-zero; clears = λ j l. absurd (omega arith) })
   denominator (suc m) c =
       let d = denominator m c in

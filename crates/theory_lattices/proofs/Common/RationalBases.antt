@@ -44,7 +44,7 @@ module _ {k : Type 0} (F : FieldOn k) (Q : FieldOn (Rational F))
       (fraction_of_value P Low I x.0.0)
       (ring2 P (λ u v. (v ⊠ u ⊠ unit, u ⊠ (unit ⊠ v))) refl x.0.0 x.0.1)
 
-  fractions : IsFractionsOf (polynomial_degree F) Q W of
+  pub fractions : IsFractionsOf (polynomial_degree F) Q W of
   fractions = record {
     hom = of_hom P Low (polynomial_reduction F) Q H;
     keeps = record {
