@@ -84,7 +84,8 @@ module _ {E : Type 0} (o : Ops E) (L : FieldLaws o) where
         (entry_table o L (m * m) m (λ r. commutator_item o m cs (r / m) (r % m)) r j r_in j_in))
         ∙ commutator-sum (r / m) (r % m)
 
-    pub central_of_killed : IsKilled o (m * m) m (commutator_rows o m cs) v → IsCentral o (record { dim = m; constants = cs }) v
+    pub central_of_killed : IsKilled o (m * m) m (commutator_rows o m cs) v
+        → IsCentral o (record { dim = m; constants = cs }) v
     central_of_killed killed = record {
       tuple = tuple;
       commutes = λ i i_in. IsTuple-ext o m (product o m cs v (basis o m i)) (product o m cs (basis o m i) v)
@@ -102,7 +103,8 @@ module _ {E : Type 0} (o : Ops E) (L : FieldLaws o) where
           ∙ sym (at-basis_product o L m cs constants v i k tuple.of_elements i_in k_in));
     }
 
-    pub killed_of_central : IsCentral o (record { dim = m; constants = cs }) v → IsKilled o (m * m) m (commutator_rows o m cs) v
+    pub killed_of_central : IsCentral o (record { dim = m; constants = cs }) v
+        → IsKilled o (m * m) m (commutator_rows o m cs) v
     killed_of_central h r r_in =
         let i = r / m in
         let k = r % m in

@@ -88,8 +88,10 @@ module _ {E : Type 0} (o : Ops E) (L : FieldLaws o) (m : ℕ) where
               (subst (InSpan o m (first ++ right ∷ [])) right_is (InSpan-last first right shape2));
           only = λ other ideal h k. RowsIn-push first other right
               (RowsIn-push new other left (a.only other ideal h k)
-              (subst (InSpan o m other) (sym left_is) (ideal.ideal.left (basis o m n) row (IsTuple-basis o L m cs constants n) (tuple, k)).1))
-              (subst (InSpan o m other) (sym right_is) (ideal.ideal.right (basis o m n) row (IsTuple-basis o L m cs constants n) (tuple, k)).1);
+              (subst (InSpan o m other) (sym left_is)
+              (ideal.ideal.left (basis o m n) row (IsTuple-basis o L m cs constants n) (tuple, k)).1))
+              (subst (InSpan o m other) (sym right_is)
+              (ideal.ideal.right (basis o m n) row (IsTuple-basis o L m cs constants n) (tuple, k)).1);
         })
 
     pub HoldsMultiples-none : (rows more : List (List E)) → IsMatrix o m rows → more ≡ rows

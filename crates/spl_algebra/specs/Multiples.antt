@@ -19,7 +19,8 @@ module _ {E : Type 0} (o : Ops E) (m : ℕ) where
       pub keeps : RowsIn old new
       pub left : (i : ℕ) → i < n → InSpan o m new (product o m cs (basis o m i) row)
       pub right : (i : ℕ) → i < n → InSpan o m new (product o m cs row (basis o m i))
-      pub only : (other : List (List E)) → SpansIdeal o (record { dim = m; constants = cs }) other → RowsIn old other → InSpan o m other row
+      pub only : (other : List (List E)) → SpansIdeal o (record { dim = m; constants = cs }) other → RowsIn old other
+          → InSpan o m other row
           → RowsIn new other
 
     -- new has all combinations of the rows and the products of the first n of them with all basis elements, and lies in
@@ -29,10 +30,12 @@ module _ {E : Type 0} (o : Ops E) (m : ℕ) where
       pub keeps : RowsIn rows new
       pub left : (i r : ℕ) → i < m → r < n → InSpan o m new (product o m cs (basis o m i) (get_or rows r []))
       pub right : (i r : ℕ) → i < m → r < n → InSpan o m new (product o m cs (get_or rows r []) (basis o m i))
-      pub only : (other : List (List E)) → SpansIdeal o (record { dim = m; constants = cs }) other → RowsIn rows other → RowsIn new other
+      pub only : (other : List (List E)) → SpansIdeal o (record { dim = m; constants = cs }) other → RowsIn rows other
+          → RowsIn new other
 
     -- a subspace that holds the combinations of `by`, and lies in each ideal that does
     pub record IsBetween (by rows : List (List E)) : Type 0 where
       pub basis : IsReducedBasis o m rows
       pub holds : RowsIn by rows
-      pub least : (other : List (List E)) → SpansIdeal o (record { dim = m; constants = cs }) other → RowsIn by other → RowsIn rows other
+      pub least : (other : List (List E)) → SpansIdeal o (record { dim = m; constants = cs }) other → RowsIn by other
+          → RowsIn rows other

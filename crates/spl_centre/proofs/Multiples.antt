@@ -40,7 +40,8 @@ module _ {E : Type 0} (o : Ops E) (L : FieldLaws o) (m : ℕ) where
 
 module _ {E : Type 0} (o : Ops E) (L : FieldLaws o) (A : Structure E) where
   multiple-at : (a v : List E) (q : IsMultiple o A a v) (j : ℕ) → j < A.dim → at o v j ≡ o.mul q.factor (at o a j)
-  multiple-at a v q j j_in = ap (λ xs. at o xs j) q.is_multiple ∙ at-table o A.dim (λ k. o.mul q.factor (at o a k)) j j_in
+  multiple-at a v q j j_in = ap (λ xs. at o xs j) q.is_multiple
+      ∙ at-table o A.dim (λ k. o.mul q.factor (at o a k)) j j_in
 
   -- the span of one row is its multiples
   pub span_of_one : (a : List E) → IsTuple o A.dim a → (v : List E) → IsTuple o A.dim v

@@ -1,5 +1,6 @@
 -- Two fields by the same numbers have the same operations.
-use Rattle.std.proofs.Common.{◌≡◌, ℕ, ◌+◌, ◌*◌, ◌/◌, ◌%◌, ◌^◌, ◌<◌, ◌≤◌, nat_lt, nat_eq, List, length, get_or, slice_index, sym, ap₂}
+use Rattle.std.proofs.Common.{◌≡◌, ℕ, ◌+◌, ◌*◌, ◌/◌, ◌%◌, ◌^◌, ◌<◌, ◌≤◌, nat_lt, nat_eq, List, length, get_or}
+use Rattle.std.proofs.Common.{slice_index, sym, ap₂}
 use Rattle.std.proofs.Common.{◌∙◌, ap, subst, arith, ⊎_elim, lt-ltb}
 use Rattle.std.proofs.Math.Logic.{∥∥₁_elim}
 use Rattle.std.proofs.Math.Nat.{ℕ_set, div-add-mod, mod-lt, div-lt_iff_lt-mul, mul_comm}

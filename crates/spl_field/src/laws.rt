@@ -207,8 +207,8 @@ fn first_triple(t: &Tables, law: Law) -> Option<(u8, u8, u8)>
     None
 }
 
-/// Whether the tables are those of a field, with 0 as zero and 1 as one. The first law that fails is told, and the least
-/// triple of elements, in lexicographic order, at which it does. It takes no memory.
+/// Whether the tables are those of a field, with 0 as zero and 1 as one. The first law that fails is told, and the
+/// least triple of elements, in lexicographic order, at which it does. It takes no memory.
 pub fn check_laws(tables: &Tables) -> Result<(), LawAt>
     requires { AreTables tables.now.size tables.now.sum tables.now.product }
     ensures ok { OnOk result (AreFieldTables tables.now.size tables.now.sum tables.now.product) }

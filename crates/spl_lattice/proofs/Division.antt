@@ -75,7 +75,8 @@ module _ {E : Type 0} (w : ℕ) (rows : List (List (List E))) (places : List ℕ
       let e : k ≡ i = hp.differ k i d.within (omega (arith, hp.count))
       (position_unique w row (get_or places k 0) (get_or places i 0) d.leads h) in
       let x : length (get_or (get_or rows i []) (get_or places i 0) []) ≤ length (get_or row (get_or places i 0) []) =
-      subst (λ m. length (get_or (get_or rows m []) (get_or places m 0) []) ≤ length (get_or row (get_or places m 0) []))
+      subst (λ m. length (get_or (get_or rows m []) (get_or places m 0) [])
+      ≤ length (get_or row (get_or places m 0) []))
       e d.lower in omega arith
 
 -- ---- what is left
@@ -104,7 +105,8 @@ module _ {E : Type 0} (o : Ops E) (L : FieldLaws o) (w : ℕ) (rows : List (List
   parts c rest d j = eq_of_coefficients o L (up_row o L row j) (P.◌⊕◌ (combined o L c rows j) (up_row o L rest j))
       (at o (get_or row j []))
       (λ k. o.add (sum_of o n
-      (λ i. convolution_of o (at o (get_or c i [])) (at o (get_or (get_or rows i []) j [])) k)) (at o (get_or rest j []) k))
+      (λ i. convolution_of o (at o (get_or c i [])) (at o (get_or (get_or rows i []) j [])) k))
+      (at o (get_or rest j []) k))
       (has-lift o L (get_or row j []) (entry-over o L w row hr j))
       (has-add o L (combined o L c rows j) (up_row o L rest j)
       (λ k. sum_of o n (λ i. convolution_of o (at o (get_or c i [])) (at o (get_or (get_or rows i []) j [])) k))
@@ -113,14 +115,16 @@ module _ {E : Type 0} (o : Ops E) (L : FieldLaws o) (w : ℕ) (rows : List (List
       (has-lift o L (get_or rest j []) (entry-over o L w rest d.rest_row j))) (d.whole j)
 
   dividing_of_parts : (c rest : List (List E)) → IsPolynomialRow o n c → IsPolynomialRow o w rest
-      → ((j : ℕ) → up_row o L row j ≡ P.◌⊕◌ (combined o L c rows j) (up_row o L rest j)) → IsDividing o w rows row c rest
+      → ((j : ℕ) → up_row o L row j ≡ P.◌⊕◌ (combined o L c rows j) (up_row o L rest j))
+      → IsDividing o w rows row c rest
   dividing_of_parts c rest hc ht e = record {
     coordinates_row = hc;
     rest_row = ht;
     whole = λ j. coefficients_of_eq o L (up_row o L row j) (P.◌⊕◌ (combined o L c rows j) (up_row o L rest j))
         (at o (get_or row j []))
         (λ k. o.add (sum_of o n
-        (λ i. convolution_of o (at o (get_or c i [])) (at o (get_or (get_or rows i []) j [])) k)) (at o (get_or rest j []) k))
+        (λ i. convolution_of o (at o (get_or c i [])) (at o (get_or (get_or rows i []) j [])) k))
+        (at o (get_or rest j []) k))
         (has-lift o L (get_or row j []) (entry-over o L w row hr j))
         (has-add o L (combined o L c rows j) (up_row o L rest j)
         (λ k. sum_of o n (λ i. convolution_of o (at o (get_or c i [])) (at o (get_or (get_or rows i []) j [])) k))
@@ -231,7 +235,8 @@ module _ {E : Type 0} (o : Ops E) (L : FieldLaws o) (w : ℕ) (rows : List (List
     rest_in : InRowLattice o rows row → InRowLattice o rows rest
     rest_in h = lattice_of_span o L w rows hm rest d.rest_row (subst (InSpan (M o L) n (up_rows o L rows))
         (sym (fun_ext same))
-        (InSpan-add (M o L) n (up_rows o L rows) (up_row o L row) ((let N = M o L in N.neg) (comb (M o L) n (up_row o L c) (up_rows o L rows)))
+        (InSpan-add (M o L) n (up_rows o L rows) (up_row o L row)
+        ((let N = M o L in N.neg) (comb (M o L) n (up_row o L c) (up_rows o L rows)))
         (span_of_lattice o L w rows hm row hr h)
         (InSpan-neg (M o L) n (up_rows o L rows) (comb (M o L) n (up_row o L c) (up_rows o L rows))
         (record { weights = up_row o L c; combines = refl }))))

@@ -40,7 +40,8 @@ module _ {E : Type 0} (o : Ops E) (L : FieldLaws o) where
 
   pub split_start : (w v : ℕ) (basis : List (List (List E))) (places : List ℕ) (zeros : List (List (List E)))
       → IsSplit o w v basis places zeros → IsSplitOf o w v ((basis ++ zeros) ++ []) basis places zeros
-  split_start w v basis places zeros s = subst (λ r. IsSplitOf o w v r basis places zeros) (sym (append-nil (basis ++ zeros)))
+  split_start w v basis places zeros s = subst (λ r. IsSplitOf o w v r basis places zeros)
+      (sym (append-nil (basis ++ zeros)))
       (record { split = s; image = image_refl o v (basis ++ zeros) })
 
   module _ (w v : ℕ) (start : List (List (List E))) (n : ℕ) (f : ℕ → List (List E)) (hs : IsPolynomialMatrix o v start)

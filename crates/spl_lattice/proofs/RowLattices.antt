@@ -1,6 +1,7 @@
 -- What the reduction of rows with further columns gives: reduced rows with their transform, kernels, sums and meets of
 -- row lattices, on lists over a program's field.
-use Rattle.std.specs.Prelude.{◌≡◌, ℕ, ℤ, pos, suc, ◌+◌, ◌<◌, ◌≤◌, Bool, true, false, cond, nat_eq, List, [], ◌∷◌, ◌++◌, length, get_or}
+use Rattle.std.specs.Prelude.{◌≡◌, ℕ, ℤ, pos, suc, ◌+◌, ◌<◌, ◌≤◌, Bool, true, false, cond, nat_eq, List, [], ◌∷◌, ◌++◌}
+use Rattle.std.specs.Prelude.{length, get_or}
 use Rattle.std.specs.List.{All}
 use Rattle.std.proofs.Common.{refl, sym, ◌∙◌, ap, subst, arith, ⊎_elim}
 use Rattle.std.proofs.lemmas.Bool.{cases_lt}
@@ -34,17 +35,22 @@ either_way P false x y h g = g
 -- an entry that is not 0 is within the row
 pub length_of_entry : {X : Type 0} (row : List (List X)) (p : ℕ) → 0 < length (get_or row p []) → p < length row
 length_of_entry row p n = ⊎_elim (λ (l : p < length row). l)
-    (λ (l : length row ≤ p). let e = ap length (get_or_past row p [] l) in absurd (omega arith)) (cases_lt p (length row))
+    (λ (l : length row ≤ p). let e = ap length (get_or_past row p [] l) in absurd (omega arith))
+    (cases_lt p (length row))
 
 -- the degrees of one more row
 pub degrees_pushed : {E : Type 0} (rows : List (List (List E))) (places : List ℕ) (i : ℕ) (ds new : List ℤ) (d : ℤ)
     → length ds ≡ i → ((k : ℕ) → k < i → get_or ds k (pos 0) ≡ pos (row_degree rows places k)) → new ≡ ds ++ d ∷ []
     → d ≡ pos (row_degree rows places i)
-    → record { count : length new ≡ i + 1; each : (k : ℕ) → k < i + 1 → get_or new k (pos 0) ≡ pos (row_degree rows places k) }
+    → record {
+      count : length new ≡ i + 1;
+      each : (k : ℕ) → k < i + 1 → get_or new k (pos 0) ≡ pos (row_degree rows places k);
+    }
 degrees_pushed rows places i ds new d n h e ed = record {
   count = ap length e ∙ length-append ds (d ∷ []) ∙ ap (λ m. m + 1) n;
   each = λ k l. ⊎_elim
-      (λ (g : k < i). ap (λ xs. get_or xs k (pos 0)) e ∙ get_or_append_left ds (d ∷ []) (pos 0) k (omega (arith, g, n)) ∙ h k g)
+      (λ (g : k < i). ap (λ xs. get_or xs k (pos 0)) e ∙ get_or_append_left ds (d ∷ []) (pos 0) k (omega (arith, g, n))
+      ∙ h k g)
       (λ (g : i ≤ k). let q : length ds ≡ k = omega (arith, g, l, n) in
       let q' : i ≡ k = omega arith in
       ap (λ xs. get_or xs k (pos 0)) e ∙ ap (λ m. get_or (ds ++ d ∷ []) m (pos 0)) (sym q)
@@ -60,7 +66,8 @@ positions_of_width w [] places h p = record {
   leads = λ i l. absurd (omega arith);
   differ = p.differ;
 }
-positions_of_width w (r ∷ rs) places h p = subst (λ m. HaveLeadingPositions m (r ∷ rs) places) (sym (h 0 (omega arith))) p
+positions_of_width w (r ∷ rs) places h p =
+    subst (λ m. HaveLeadingPositions m (r ∷ rs) places) (sym (h 0 (omega arith))) p
 
 module _ {E : Type 0} (o : Ops E) (L : FieldLaws o) where
   abbrev Rows : Type 0
@@ -72,7 +79,8 @@ module _ {E : Type 0} (o : Ops E) (L : FieldLaws o) where
   unit_rows-matrix n = All-table (IsPolynomialRow o n) n (λ i. unit_row o.one n i) (λ i l. record {
     width = length-table n (λ k. cond (nat_eq k i) (o.one ∷ []) []);
     over = All-table (IsOver o) n (λ k. cond (nat_eq k i) (o.one ∷ []) [])
-        (λ k g. either_way (IsOver o) (nat_eq k i) (o.one ∷ []) [] (All-cons (IsElem o) o.one [] L.one-elem (All-nil (IsElem o)))
+        (λ k g. either_way (IsOver o) (nat_eq k i) (o.one ∷ []) []
+        (All-cons (IsElem o) o.one [] L.one-elem (All-nil (IsElem o)))
         (All-nil (IsElem o)));
     trimmed = All-table (IsTrimmed o.zero) n (λ k. cond (nat_eq k i) (o.one ∷ []) [])
         (λ k g. either_way (IsTrimmed o.zero) (nat_eq k i) (o.one ∷ []) [] L.one-nonzero tt);
@@ -87,7 +95,8 @@ module _ {E : Type 0} (o : Ops E) (L : FieldLaws o) where
 
   pub extended-matrix : (w t : ℕ) (rows tails : Rows) → IsPolynomialMatrix o w rows → IsPolynomialMatrix o t tails
       → length tails ≡ length rows → IsPolynomialMatrix o (w + t) (extended_by rows tails)
-  extended-matrix w t rows tails hr ht e = All-table (IsPolynomialRow o (w + t)) (length rows) (both_rows o L rows tails)
+  extended-matrix w t rows tails hr ht e =
+      All-table (IsPolynomialRow o (w + t)) (length rows) (both_rows o L rows tails)
       (both_polynomials o L w t rows tails hr ht e)
 
   pub units-length : (n : ℕ) → length (unit_rows o.one n) ≡ n
@@ -110,7 +119,11 @@ module _ {E : Type 0} (o : Ops E) (L : FieldLaws o) where
   no_split w v = record {
     basis_rows = All-nil (IsPolynomialRow o v);
     zero_rows = All-nil (IsPolynomialRow o v);
-    positions = record { count = refl; leads = λ i l. absurd (omega arith); differ = λ i k l g e. absurd (omega arith) };
+    positions = record {
+      count = refl;
+      leads = λ i l. absurd (omega arith);
+      differ = λ i k l g e. absurd (omega arith);
+    };
     zero = All-nil (IsZeroUpTo w);
   }
 
@@ -122,7 +135,8 @@ module _ {E : Type 0} (o : Ops E) (L : FieldLaws o) where
   -- what was brought in where no rows were
   pub from_nothing : (w v : ℕ) (b z X basis : Rows) (places : List ℕ) (zeros : Rows) → b ≡ [] → z ≡ []
       → IsSplitOf o w v ((b ++ z) ++ X) basis places zeros → IsSplitOf o w v X basis places zeros
-  from_nothing w v b z X basis places zeros eb ez h = subst (λ x. IsSplitOf o w v (([] ++ x) ++ X) basis places zeros) ez
+  from_nothing w v b z X basis places zeros eb ez h =
+      subst (λ x. IsSplitOf o w v (([] ++ x) ++ X) basis places zeros) ez
       (subst (λ x. IsSplitOf o w v ((x ++ z) ++ X) basis places zeros) eb h)
 
   -- ---- what was read, and in other words
@@ -142,7 +156,8 @@ module _ {E : Type 0} (o : Ops E) (L : FieldLaws o) where
     heads_reduced degrees d = record {
       places = places;
       positions = positions_of_width w b places (λ i l.
-          let r = row_at o L w b (subst (IsPolynomialMatrix o w) (sym eb) (heads-matrix o L w n basis h.basis_rows)) i l in
+          let r = row_at o L w b (subst (IsPolynomialMatrix o w) (sym eb) (heads-matrix o L w n basis h.basis_rows))
+          i l in
           r.width) heads_lead;
       degrees_are = d;
     }
@@ -164,7 +179,8 @@ module _ {E : Type 0} (o : Ops E) (L : FieldLaws o) where
       (image_of_up o L v (a ++ x ∷ []) (s ++ x ∷ []) ax sx (transformed-more o L a s x (up_image o L v a s ha hs h)))))
 
   -- one split after another
-  pub split_append : (w v : ℕ) (a b basis : Rows) (places : List ℕ) (zeros basis' : Rows) (places' : List ℕ) (zeros' : Rows)
+  pub split_append : (w v : ℕ) (a b basis : Rows) (places : List ℕ) (zeros basis' : Rows) (places' : List ℕ)
+      (zeros' : Rows)
       → IsPolynomialMatrix o v a → IsPolynomialMatrix o v b
       → IsSplitOf o w v a basis places zeros → IsSplitOf o w v ((basis ++ zeros) ++ b) basis' places' zeros'
       → IsSplitOf o w v (a ++ b) basis' places' zeros'
@@ -247,10 +263,12 @@ module _ {E : Type 0} (o : Ops E) (L : FieldLaws o) where
       sum_basis o L w a b basis ha hb x.basis_rows (split_independent w (a ++ b) basis places zeros hab s)
       (split_same w (a ++ b) basis places zeros hab s)
 
-  pub meet_of_splits : (w : ℕ) (a b left : Rows) (left_places : List ℕ) (left_zeros right : Rows) (right_places : List ℕ)
+  pub meet_of_splits : (w : ℕ) (a b left : Rows) (left_places : List ℕ) (left_zeros right : Rows)
+      (right_places : List ℕ)
       (right_zeros basis : Rows) (places : List ℕ) (zeros : Rows) → IsPolynomialMatrix o w a → IsPolynomialMatrix o w b
       → IsSplitOf o w w a left left_places left_zeros → IsSplitOf o w w b right right_places right_zeros
-      → IsSplitOf o w (w + w) (extended_by left left ++ extended_by right (zero_rows (length right) w)) basis places zeros
+      → IsSplitOf o w (w + w) (extended_by left left ++ extended_by right (zero_rows (length right) w))
+      basis places zeros
       → IsLatticeBasis o w (InLatticeMeet o a b) (tails_of w zeros)
   meet_of_splits w a b left lp lz right rp rz basis places zeros ha hb s t u =
       let l = s.split in
@@ -262,7 +280,8 @@ module _ {E : Type 0} (o : Ops E) (L : FieldLaws o) where
       (extended-matrix w w left left l.basis_rows l.basis_rows refl)
       (extended-matrix w w right (zero_rows (length right) w) r.basis_rows (zero_rows-matrix (length right) w)
       (zeros-length (length right) w)) in
-      meet_same o L w a b left right (tails_of w zeros) (split_same w a left lp lz ha s) (split_same w b right rp rz hb t)
+      meet_same o L w a b left right (tails_of w zeros) (split_same w a left lp lz ha s)
+      (split_same w b right rp rz hb t)
       (meet_basis o L w left right l.basis_rows r.basis_rows (split_independent w a left lp lz ha s)
       (split_independent w b right rp rz hb t) basis zeros places x.basis_rows x.zero_rows
       (moved w (w + w) X basis places zeros hX u) x.positions (none w (w + w) X basis places zeros hX u))

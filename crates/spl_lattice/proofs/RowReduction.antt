@@ -45,7 +45,8 @@ total-set {E} w rows i r l = go (length rows) refl
     h rs k = height w (get_or rs k [])
 
     go : (n : ℕ) → length rows ≡ n
-        → sum nat_monoid (length new) (h new) + height w (get_or rows i []) ≡ sum nat_monoid (length rows) (h rows) + height w r
+        → sum nat_monoid (length new) (h new) + height w (get_or rows i [])
+        ≡ sum nat_monoid (length rows) (h rows) + height w r
     go zero e = absurd (omega arith)
     go (suc n) e =
         let en = ap (λ m. sum nat_monoid m (h new)) (length-set rows i r ∙ e) in
@@ -79,7 +80,8 @@ module _ {E : Type 0} (o : Ops E) (L : FieldLaws o) where
         (λ (l : length high ≤ j).
         let g : v ≤ j = (let e = hh.width in omega arith) in
         ap (up o L) (entry_past o L v new hn j g) ∙ lift_nil o L
-        ∙ sym (ap (λ t. P.◌⊕◌ (up_row o L high j) (P.◌⊗◌ (P.neg q) t)) (ap (up o L) (entry_past o L v by hb j g) ∙ lift_nil o L)
+        ∙ sym (ap (λ t. P.◌⊕◌ (up_row o L high j) (P.◌⊗◌ (P.neg q) t)) (ap (up o L) (entry_past o L v by hb j g)
+        ∙ lift_nil o L)
         ∙ ap (λ t. P.◌⊕◌ (up_row o L high j) t) (mul-zero P.ring (P.neg q))
         ∙ add-zero P.monoid (up_row o L high j)
         ∙ ap (up o L) (entry_past o L v high hh j g) ∙ lift_nil o L))
@@ -157,7 +159,8 @@ module _ {E : Type 0} (o : Ops E) (L : FieldLaws o) where
           (λ (d : k ≡ i → ⊥). subst (λ r. HasLeadingPosition w r (get_or places k 0))
           (sym (get_or-set_other basis i k row [] d)) (x.leads k (omega (arith, g, length-set basis i row))))
           (cases_eq k i);
-      differ = λ k m g h. x.differ k m (omega (arith, g, length-set basis i row)) (omega (arith, h, length-set basis i row));
+      differ = λ k m g h. x.differ k m (omega (arith, g, length-set basis i row))
+          (omega (arith, h, length-set basis i row));
     })
 
     changed_split : IsSplit o w v changed places zeros
@@ -227,7 +230,8 @@ module _ {E : Type 0} (o : Ops E) (L : FieldLaws o) where
     positions_pushed = record {
       count = length-append places (p ∷ []) ∙ ap (λ k. k + 1) h.count ∙ sym (length-append basis (row ∷ []));
       leads = λ i g. ⊎_elim
-          (λ (a : i < length basis). subst (λ r. HasLeadingPosition w r (get_or (places ++ p ∷ []) i 0)) (sym (row_early i a))
+          (λ (a : i < length basis). subst (λ r. HasLeadingPosition w r (get_or (places ++ p ∷ []) i 0))
+          (sym (row_early i a))
           (subst (HasLeadingPosition w (get_or basis i [])) (sym (place_early i a)) (h.leads i a)))
           (λ (a : length basis ≤ i). let e : length basis ≡ i = omega (arith, g, more_rows) in
           subst (λ k. HasLeadingPosition w (get_or (basis ++ row ∷ []) k []) (get_or (places ++ p ∷ []) k 0)) e

@@ -57,7 +57,8 @@ module _ {E : Type 0} (o : Ops E) (L : FieldLaws o) where
   plus_nothing a m b r ha hm eb er =
       let hn : IsOver o b = subst (IsOver o) (sym eb) (All-nil (IsElem o)) in
       sum_with_multiple_of_lift o L a m b r ha hm hn (subst (IsOver o) (sym er) ha)
-      (ap up er ∙ sym (ap (λ z. Q.◌⊕◌ (up a) z) (ap (λ z. Q.◌⊗◌ (up m) z) (ap up eb ∙ lift_nil o L) ∙ mul-zero Q.ring (up m))
+      (ap up er ∙ sym (ap (λ z. Q.◌⊕◌ (up a) z) (ap (λ z. Q.◌⊗◌ (up m) z) (ap up eb ∙ lift_nil o L)
+      ∙ mul-zero Q.ring (up m))
       ∙ add-zero Q.monoid (up a)))
 
 -- the entries before j are done, and the others as they were
@@ -85,7 +86,8 @@ module _ {E : Type 0} (o : Ops E) (row : List (List E)) (m : List E) (by : List 
   row_done-more j new x d l hx tx e = record {
     count = length-set new j x ∙ d.count;
     done = λ k g. ⊎_elim
-        (λ (q : k ≡ j). subst (λ i. IsSumWithMultiple o (get_or row i []) m (get_or by i []) (get_or (slice_set new j x) i []))
+        (λ (q : k ≡ j). subst
+        (λ i. IsSumWithMultiple o (get_or row i []) m (get_or by i []) (get_or (slice_set new j x) i []))
         (sym q) (subst (IsSumWithMultiple o (get_or row j []) m (get_or by j []))
         (sym (get_or-set_same new j x [] (omega (arith, l, d.count))))
         (subst (λ a. IsSumWithMultiple o a m (get_or by j []) x) (d.kept j (omega arith)) e)))

@@ -16,8 +16,8 @@ pub record IsLowerKept {E : Type 0} (p i : ℕ) (basis : List (List (List E))) (
   pub either : ((new_basis ≡ basis) × (new_row ≡ row))
       ⊎ ((new_basis ≡ slice_set basis i row) × (new_row ≡ get_or basis i []))
 
--- a row that is 0 in its first w entries is one more of the zero rows, any other one more of the basis, with its leading
--- position
+-- a row that is 0 in its first w entries is one more of the zero rows, any other one more of the basis, with its
+-- leading position
 abbrev pub IsSettled : {E : Type 0} (w : ℕ) (basis : List (List (List E))) (places : List ℕ)
     (zeros : List (List (List E))) (row : List (List E)) (new_basis : List (List (List E))) (new_places : List ℕ)
     (new_zeros : List (List (List E))) → Type 0
@@ -53,7 +53,8 @@ module _ {E : Type 0} (o : Ops E) where
     pub division : IsDivision o (get_or row p []) (get_or by p []) quotient rest
     pub less : IsRowLess row quotient by new
 
-  -- the row, or the one of the basis at i whose place it takes, is brought to its rest by the one that stands there then
+  -- the row, or the one of the basis at i whose place it takes, is brought to its rest by the one that
+  -- stands there then
   pub record IsLowering (p i : ℕ) (basis : List (List (List E))) (row : List (List E))
       (new_basis : List (List (List E))) (new_row : List (List E)) : Type 0 where
     pub high : List (List E)

@@ -1,7 +1,8 @@
 // Rows with further columns, and the reduction of such rows in the first columns.
 ghost use Rattle.std.specs.Prelude.{◌≡◌, ℕ, ◌+◌, ◌≤◌, [], ◌∷◌, ◌++◌, length, IfOk, OnOk, All, cond, nat_eq};
 ghost use Rattle.theory_rows.specs.Rows.{IsPolynomialMatrix};
-ghost use Rattle.theory_rows.specs.Augmented.{heads_of, tails_of, extended_by, zero_row, zero_rows, unit_row, unit_rows};
+ghost use Rattle.theory_rows.specs.Augmented.{heads_of, tails_of, extended_by, zero_row, zero_rows, unit_row};
+ghost use Rattle.theory_rows.specs.Augmented.{unit_rows};
 ghost use Rattle.spl_field.specs.SmallField.{small_ops};
 ghost use Rattle.spl_poly.specs.Operations.{IsOver};
 ghost use Rattle.spl_lattice.specs.Reduction.{IsSplit, IsSplitOf};

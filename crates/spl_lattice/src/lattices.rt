@@ -20,7 +20,8 @@ use std::alloc::Global;
 /// rows. The one fault is want of memory.
 pub fn kernel(alloc: Global, f: &SmallField, rows: &PolyMatrix) -> Result<PolyMatrix, NoMemory>
     requires { IsPolynomialMatrix (small_ops f.now) (width_of rows.now) rows.now }
-    ensures { IfOk result (IsLatticeBasis (small_ops f.now) (length rows.now) (InRowKernel (small_ops f.now) rows.now)) }
+    ensures { IfOk result (IsLatticeBasis (small_ops f.now) (length rows.now)
+        (InRowKernel (small_ops f.now) rows.now)) }
 {
     know_laws(f);
     let w = width(rows);

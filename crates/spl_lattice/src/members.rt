@@ -74,7 +74,8 @@ fn divide_at(
     requires coordinate { i < length coordinates.old }
     requires place { p < length row }
     requires nonzero { get_or by.now p [] ≢ [] }
-    ensures value { IfOk result (λ r. IsDivisionStep (small_ops f.now) p i by.now row coordinates.old r coordinates.new) }
+    ensures value { IfOk result (λ r.
+        IsDivisionStep (small_ops f.now) p i by.now row coordinates.old r coordinates.new) }
     ensures row { IfOk result (IsPolynomialRow (small_ops f.now) (length row)) }
 {
     let division = row.as_slice()[p].divide(alloc, f, &by.as_slice()[p])?;
@@ -83,7 +84,8 @@ fn divide_at(
 }
 
 /// The coordinates of the row in the basis, by which the rows of the basis combine to it; None exactly where it is not
-/// in their lattice. Where the basis has no rows, the lattice holds rows of zeros alone. The one fault is want of memory.
+/// in their lattice. Where the basis has no rows, the lattice holds rows of zeros alone. The one fault is want of
+/// memory.
 pub fn member(
     alloc: Global,
     f: &SmallField,
@@ -94,7 +96,8 @@ pub fn member(
     requires row { IsPolynomialRow (small_ops f.now) (length row.now) row.now }
     ensures none { IfOk result (λ r. r ≡ None → InRowLattice (small_ops f.now) basis.now.basis row.now → ⊥) }
     ensures coordinates { IfOk result (λ r. IfSome r (IsPolynomialRow (small_ops f.now) (length basis.now.basis))) }
-    ensures combination { IfOk result (λ r. IfSome r (λ c. IsRowCombination (small_ops f.now) c basis.now.basis row.now)) }
+    ensures combination { IfOk result (λ r.
+        IfSome r (λ c. IsRowCombination (small_ops f.now) c basis.now.basis row.now)) }
 {
     know_laws(f);
     let w = row.len();

@@ -8,7 +8,8 @@ use Rattle.theory_fractions.specs.PolynomialLists.{IsSum, IsPolynomialList}
 use Rattle.theory_remainders.specs.Irreducible.{IsIrreducible}
 use Rattle.theory_remainders.specs.RemainderLaws.{IsRemainder, IsRemainderOf}
 use Rattle.theory_remainders.proofs.RemainderField.{is_remainder-nil, is_remainder-one}
-use Rattle.theory_remainders.proofs.RemainderValues.{elem_of, of_elem, zero_is, one_is, add_is, neg_smaller, neg_is, mul_is}
+use Rattle.theory_remainders.proofs.RemainderValues.{elem_of, of_elem, zero_is, one_is, add_is, neg_smaller, neg_is}
+use Rattle.theory_remainders.proofs.RemainderValues.{mul_is}
 use Rattle.theory_remainders.proofs.RemainderValues.{inv_is}
 use Rattle.spl_field.specs.SmallField.{small_ops, small_laws}
 use Rattle.spl_field.specs.declared.small.SmallField.{SmallField}

@@ -28,7 +28,8 @@ module _ {E R : Type 0} (o : Ops E) (L : FieldLaws o) (r : Ops R) (N : FieldLaws
   zero_of_map : (x : E) → IsElem o x → f x ≡ r.zero → x ≡ o.zero
   zero_of_map x hx e = ⊎_elim
       (λ z. ap (λ (y : Elem o). y.0) z)
-      (λ d. absurd (N.one-nonzero (sym (ap f (L.inv-mul x hx (λ z. d (Elem-path o (x, hx) (elements o L).zero z))) ∙ m.map-one)
+      (λ d. absurd (N.one-nonzero (sym (ap f (L.inv-mul x hx (λ z. d (Elem-path o (x, hx) (elements o L).zero z)))
+      ∙ m.map-one)
       ∙ m.map-mul (o.inv x) x (L.inv-elem x hx) hx ∙ ap (r.mul (f (o.inv x))) e
       ∙ mul-zero r N (f (o.inv x)) (m.map-elem (o.inv x) (L.inv-elem x hx)))))
       (eq_zero_or (elements o L).zero_test (x, hx))

@@ -4,7 +4,8 @@ use Rattle.std.specs.Prelude.{◌≡◌, ◌⊎◌, ◌<◌, ℕ, List, [], leng
 use Rattle.theory_rings.specs.Ops.{Ops, IsElem}
 use Rattle.theory_spaces.specs.Tuples.{tuple_zero, tuple_add, tuple_scale}
 use Rattle.theory_tables.specs.Matrix.{IsMatrix}
-use Rattle.theory_tables.specs.Structure.{Structure, IsOver, IsElement, IsAssociative, AssociatesAt, product_of, basis_of}
+use Rattle.theory_tables.specs.Structure.{Structure, IsOver, IsElement, IsAssociative, AssociatesAt, product_of}
+use Rattle.theory_tables.specs.Structure.{basis_of}
 use Rattle.theory_tables.specs.Algebras.{SpansAll}
 
 module _ {E : Type 0} (o : Ops E) (A : Structure E) where

@@ -26,8 +26,8 @@ module _ {E R : Type 0} (o : Ops E) (L : FieldLaws o) (r : Ops R) (N : FieldLaws
     pub integral : (i j : ℕ) → i < h → j < w → (x : Elem o) → x.0 ≡ entry o a i j → IsIntegral (elements o L) Z x
     pub residue : (i j : ℕ) → i < h → j < w → (x : Elem o) → x.0 ≡ entry o a i j → (D.res x).0 ≡ entry r b i j
 
-  -- where the matrix of the residues sends 0 alone to 0, so does the matrix; where it sends to 0 multiples of one vector
-  -- alone, the matrix sends to 0 multiples of each vector, not 0, that it sends to 0
+  -- where the matrix of the residues sends 0 alone to 0, so does the matrix; where it sends to 0 multiples of one
+  -- vector alone, the matrix sends to 0 multiples of each vector, not 0, that it sends to 0
   pub record KernelByResidues (h w : ℕ) (a : List (List E)) (b : List (List R)) : Type 0 where
     pub zero : KernelIsZero r h w b → KernelIsZero o h w a
     pub line : (g : List R) → IsTuple r w g → KernelIsOnLine r h w b g

@@ -110,7 +110,8 @@ module _ {E : Type 0} (o : Ops E) (L : FieldLaws o) (m a : List E) where
           es
 
   -- where the remainder is a constant, the cofactor over it is an inverse
-  pub inverse_of_cofactor : IsOver o m → IsOver o a → (c u : E) (s t w : List E) → IsElem o c → IsElem o u → o.mul u c ≡ o.one
+  pub inverse_of_cofactor : IsOver o m → IsOver o a → (c u : E) (s t w : List E) → IsElem o c → IsElem o u
+      → o.mul u c ≡ o.one
       → IsCofactor (c ∷ []) s
       → IsOver o t → IsOver o w → IsProduct o (u ∷ []) s t → IsRemainderOf o (at o t) m w → 1 < length m
       → IsRemainderOf o (convolution_of o (at o w) (at o a)) m (o.one ∷ [])

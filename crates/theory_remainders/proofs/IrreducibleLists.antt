@@ -63,7 +63,8 @@ module _ {E : Type 0} (o : Ops E) (L : FieldLaws o) where
           let da = degree-values a in
           let db = degree-values b in
           let d = degree-poly in
-          i.no_factors (values o L a.0) (values o L b.0) (IsPolynomialList-values o L a) (IsPolynomialList-values o L b) (omega arith) (omega arith)
+          i.no_factors (values o L a.0) (values o L b.0) (IsPolynomialList-values o L a) (IsPolynomialList-values o L b)
+          (omega arith) (omega arith)
           (coefficients_of_eq o L (poly m) (P.◌⊗◌ a b) (at o m)
           (convolution_of o (at o (values o L a.0)) (at o (values o L b.0)))
           (has_polynomial_of o L m hm.over)

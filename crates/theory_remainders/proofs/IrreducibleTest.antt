@@ -168,7 +168,8 @@ module _ {E : Type 0} (o : Ops E) (L : FieldLaws o) where
           (omega (arith, l, degree-polynomial_of o L a ha)))))
 
     -- as many steps as half the degree
-    pub irreducible_of_steps : (w : List E) (h : ℕ) → IsPolynomialList o a → 1 ≤ degree a → degree a ≤ suc (2 * h) → AreStepsDone h w
+    pub irreducible_of_steps : (w : List E) (h : ℕ) → IsPolynomialList o a → 1 ≤ degree a → degree a ≤ suc (2 * h)
+        → AreStepsDone h w
         → IsIrreducible o a
     irreducible_of_steps w h ha pos half done =
         let d = degree-polynomial_of o L a ha in

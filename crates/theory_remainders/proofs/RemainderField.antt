@@ -1,5 +1,5 @@
--- The remainders by an irreducible polynomial, as lists of coefficients, are a field: they are carried to the remainders
--- by its monic multiple and back.
+-- The remainders by an irreducible polynomial, as lists of coefficients, are a field: they are carried to the
+-- remainders by its monic multiple and back.
 use Rattle.std.specs.Prelude.{◌≡◌, true, false, List, [], ◌∷◌, length, nat_lt}
 use Rattle.std.proofs.Common.{refl, sym, ◌∙◌, ap, arith}
 use Rattle.std.proofs.lemmas.Bool.{and_from, and_parts, ltb-true, lt-ltb, both_ways}

@@ -48,7 +48,8 @@ module _ {E : Type 0} (o : Ops E) (L : FieldLaws o) where
         (up_rows o L b') old-a (λ i l. ap (up_row o L) (sym (get_or_append_left b (y ∷ []) [] i l))) t)
         (record {
           weights = si.weights;
-          combines = si.combines ∙ comb_congr_right (M o L) (length a) si.weights (up_rows o L a) (up_rows o L a') old-a;
+          combines = si.combines
+              ∙ comb_congr_right (M o L) (length a) si.weights (up_rows o L a) (up_rows o L a') old-a;
         })
         (fun_ext (λ j. ap (λ r. up_row o L r j) (get_or-append_seam b y [] []) ∙ e j
         ∙ ap (λ r. (let P = Q o L in P.◌⊕◌ (up_row o L r j) (s j))) (sym (get_or-append_seam a x [] [])))))
@@ -93,7 +94,8 @@ module _ {E : Type 0} (o : Ops E) (L : FieldLaws o) where
     transformed-exchange i l =
         by_counts before after (suc n) (suc n) (length-snoc (basis ++ zeros) r)
         (length-snoc (slice_set basis i r ++ zeros) (get_or basis i []) ∙ ap suc same_length)
-        (Transformed-exchange (M o L) n (up_rows o L before) (up_rows o L after) i (omega (arith, l, length-append basis zeros))
+        (Transformed-exchange (M o L) n (up_rows o L before) (up_rows o L after) i
+        (omega (arith, l, length-append basis zeros))
         (ap (up_row o L) (early i (omega (arith, l, length-append basis zeros))
         ∙ get_or_append_left (slice_set basis i r) zeros [] i (omega (arith, l, length-set basis i r))
         ∙ get_or-set_same basis i r [] l ∙ sym (get_or-append_seam (basis ++ zeros) r [] [])))

@@ -26,7 +26,8 @@ use Rattle.theory_rows.proofs.LiftedRows.{matrix-over, row-nil, up_combination, 
 use Rattle.theory_rows.proofs.LiftedRows.{span_of_lattice, lattice_of_span, independent_of_up}
 use Rattle.theory_rows.proofs.LiftedRows.{same_of_spans}
 use Rattle.theory_rows.proofs.Insertion.{RowsTransformed}
-use Rattle.theory_rows.proofs.Splits.{P, N, Weights, comb_of, comb_past, column_congr, head_of, in_zeros, back_independent}
+use Rattle.theory_rows.proofs.Splits.{P, N, Weights, comb_of, comb_past, column_congr, head_of, in_zeros}
+use Rattle.theory_rows.proofs.Splits.{back_independent}
 use Rattle.theory_rows.proofs.Splits.{tails-matrix, heads-matrix, tails-entry, heads-entry, comb-tails, comb-heads}
 use Rattle.theory_rows.proofs.Splits.{tails_independent, heads-positions, zero_column}
 
@@ -120,7 +121,8 @@ module _ {E : Type 0} (o : Ops E) (L : FieldLaws o) where
             let s = in_zeros o L w (w + n) basis zeros places hb hp z y
             (InSpan_trans (N o L) (length X) (length S) (up_rows o L X) (up_rows o L S) y t.forth
             (record { weights = up_row o L x; combines = refl }))
-            (λ j l. ap (λ (f : Weights o L). f j) here ∙ head_comb (up_row o L x) j l ∙ ap (λ (f : Weights o L). f j) none) in
+            (λ j l. ap (λ (f : Weights o L). f j) here ∙ head_comb (up_row o L x) j l
+            ∙ ap (λ (f : Weights o L). f j) none) in
             lattice_of_span o L n (tails_of w zeros) (tails-matrix o L w n zeros hz) x hx (record {
               weights = s.weights;
               combines = fun_ext (λ k. ⊎_elim
@@ -182,7 +184,8 @@ module _ {E : Type 0} (o : Ops E) (L : FieldLaws o) where
             (λ (g : j < w). ap (up o L) (heads-entry o L w basis i j l g)
             ∙ member_head (up_rows o L basis i) (basis_in i l) j g
             ∙ ap (λ c. comb_of o L rows c j) (fun_ext (λ k. sym (ap (up o L) (tails-entry o L w basis i k l)))))
-            (λ (g : w ≤ j). ap (up o L) (entry_past o L w (get_or H i []) (row_at o L w H hH i (omega (arith, l, H-length))) j g)
+            (λ (g : w ≤ j). ap (up o L)
+            (entry_past o L w (get_or H i []) (row_at o L w H hH i (omega (arith, l, H-length))) j g)
             ∙ lift_nil o L ∙ sym (comb_past o L w rows hr (up_rows o L (tails_of w basis) i) j g)) (cases_lt j w)
 
         row_in_heads : (i : ℕ) → i < n → InSpan (N o L) (length H) (up_rows o L H) (up_rows o L rows i)

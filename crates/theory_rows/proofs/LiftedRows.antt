@@ -75,7 +75,8 @@ module _ {E : Type 0} (o : Ops E) (L : FieldLaws o) where
       → IsOver o (get_or (get_or rows i []) j [])
   matrix-over w rows h i j = ⊎_elim
       (λ (l : i < length rows). entry-over w (get_or rows i []) (row_at w rows h i l) j)
-      (λ (l : length rows ≤ i). subst (λ r. IsOver o (get_or r j [])) (sym (get_or_past rows i [] l)) (All-nil (IsElem o)))
+      (λ (l : length rows ≤ i). subst (λ r. IsOver o (get_or r j [])) (sym (get_or_past rows i [] l))
+      (All-nil (IsElem o)))
       (cases_lt i (length rows))
 
   pub matrix-trimmed : (w : ℕ) (rows : List (List (List E))) → IsPolynomialMatrix o w rows → (i j : ℕ)

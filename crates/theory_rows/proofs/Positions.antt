@@ -158,7 +158,8 @@ module _ {E : Type 0} (o : Ops E) (L : FieldLaws o) where
         → IsRowCombination o c rows x
         → HasPredictedDegree w rows places c x ⊎ ((i : ℕ) → get_or c i [] ≡ [])
     predicted_degree c x hc hx e = ⊎_elim
-        (λ (p : Predicted W (length rows) w (up_rows o L rows) (reduced w w rows places hm hp) (up_row o L c)). inl (go p))
+        (λ (p : Predicted W (length rows) w (up_rows o L rows) (reduced w w rows places hm hp) (up_row o L c)).
+        inl (go p))
         (λ (z : (i : ℕ) → i < length rows → up_row o L c i ≡ (let P = Q o L in P.zero)).
         inr (row_unique o L (length rows) c hc z))
         (predicted W (length rows) w (up_rows o L rows) (reduced w w rows places hm hp) (up_row o L c))
@@ -166,7 +167,8 @@ module _ {E : Type 0} (o : Ops E) (L : FieldLaws o) where
         same : (j : ℕ) → row_sum (let P = Q o L in P.ring) (length rows) (up_row o L c) (up_rows o L rows) j
             ≡ up_row o L x j
         same j = sym (ap (λ (f : ℕ → _). f j) (up_combination o L c rows x (entry-over o L (length rows) c hc)
-            (matrix-over o L w rows hm) (entry-over o L w x hx) e) ∙ comb_at o L (length rows) (up_row o L c) (up_rows o L rows) j)
+            (matrix-over o L w rows hm) (entry-over o L w x hx) e)
+            ∙ comb_at o L (length rows) (up_row o L c) (up_rows o L rows) j)
 
         moved : (d : ℤ) (p : ℕ) → LeadsAt W w (row_sum (let P = Q o L in P.ring) (length rows) (up_row o L c)
             (up_rows o L rows)) d p → LeadsAt W w (up_row o L x) d p

@@ -1,5 +1,5 @@
--- Rows that are split into reduced rows and rows whose first w entries are 0: combinations of them, and their columns up
--- to w and from there on.
+-- Rows that are split into reduced rows and rows whose first w entries are 0: combinations of them, and their columns
+-- up to w and from there on.
 use Rattle.std.specs.Prelude.{◌≡◌, ℕ, ◌+◌, ◌-◌, ◌<◌, ◌≤◌, List, [], ◌++◌, length, get_or, take, drop}
 use Rattle.std.proofs.Common.{sym, ◌∙◌, ap, ap₂, arith, ⊎_elim}
 use Rattle.std.proofs.lemmas.Bool.{cases_lt}
@@ -146,14 +146,16 @@ module _ {E : Type 0} (o : Ops E) (L : FieldLaws o) where
   pub comb-tails : (w : ℕ) (rows : List (List (List E))) (c : Weights) (k : ℕ)
       → comb_of (tails_of w rows) c k ≡ comb_of rows c (w + k)
   comb-tails w rows c k =
-      ap (λ n. comb N n c (up_rows o L (tails_of w rows)) k) (length-table (length rows) (λ i. drop w (get_or rows i [])))
+      ap (λ n. comb N n c (up_rows o L (tails_of w rows)) k)
+      (length-table (length rows) (λ i. drop w (get_or rows i [])))
       ∙ column_congr (length rows) (up_rows o L (tails_of w rows)) (up_rows o L rows) k (w + k)
       (λ i l. ap (up o L) (tails-entry w rows i k l)) c
 
   pub comb-heads : (w : ℕ) (rows : List (List (List E))) (c : Weights) (j : ℕ) → j < w
       → comb_of (heads_of w rows) c j ≡ comb_of rows c j
   comb-heads w rows c j g =
-      ap (λ n. comb N n c (up_rows o L (heads_of w rows)) j) (length-table (length rows) (λ i. take w (get_or rows i [])))
+      ap (λ n. comb N n c (up_rows o L (heads_of w rows)) j)
+      (length-table (length rows) (λ i. take w (get_or rows i [])))
       ∙ column_congr (length rows) (up_rows o L (heads_of w rows)) (up_rows o L rows) j j
       (λ i l. ap (up o L) (heads-entry w rows i j l g)) c
 

@@ -62,7 +62,8 @@ module _ {E : Type 0} (o : Ops E) (L : FieldLaws o) where
       → up_row o L z ≡ (let M' = N o L in M'.◌⊕◌ (up_row o L x) (up_row o L y))
   up_sum w x y z hx hy hz e = fun_ext (λ j. eq_of_coefficients o L (up_row o L z j)
       (R.◌⊕◌ (up_row o L x j) (up_row o L y j)) (at o (get_or z j []))
-      (λ k. o.add (at o (get_or x j []) k) (at o (get_or y j []) k)) (has-lift o L (get_or z j []) (entry-over o L w z hz j))
+      (λ k. o.add (at o (get_or x j []) k) (at o (get_or y j []) k))
+      (has-lift o L (get_or z j []) (entry-over o L w z hz j))
       (has-add o L (up_row o L x j) (up_row o L y j) (at o (get_or x j [])) (at o (get_or y j []))
       (has-lift o L (get_or x j []) (entry-over o L w x hx j)) (has-lift o L (get_or y j []) (entry-over o L w y hy j)))
       (e j))
@@ -72,7 +73,8 @@ module _ {E : Type 0} (o : Ops E) (L : FieldLaws o) where
       → IsSum o (get_or x j []) (get_or y j []) (get_or z j [])
   sum_of_up w x y z hx hy hz e j = coefficients_of_eq o L (up_row o L z j)
       (R.◌⊕◌ (up_row o L x j) (up_row o L y j)) (at o (get_or z j []))
-      (λ k. o.add (at o (get_or x j []) k) (at o (get_or y j []) k)) (has-lift o L (get_or z j []) (entry-over o L w z hz j))
+      (λ k. o.add (at o (get_or x j []) k) (at o (get_or y j []) k))
+      (has-lift o L (get_or z j []) (entry-over o L w z hz j))
       (has-add o L (up_row o L x j) (up_row o L y j) (at o (get_or x j [])) (at o (get_or y j []))
       (has-lift o L (get_or x j []) (entry-over o L w x hx j)) (has-lift o L (get_or y j []) (entry-over o L w y hy j)))
       (ap (λ (f : Weights o L). f j) e)
@@ -114,7 +116,8 @@ module _ {E : Type 0} (o : Ops E) (L : FieldLaws o) where
 
   -- the lattice of the rows of both is the sum
   module _ (w : ℕ) (a b basis : Rows) (ha : IsPolynomialMatrix o w a) (hb : IsPolynomialMatrix o w b)
-      (hB : IsPolynomialMatrix o w basis) (f : RowsAreIndependent o basis) (same : SameRowLattice o w (a ++ b) basis) where
+      (hB : IsPolynomialMatrix o w basis) (f : RowsAreIndependent o basis)
+      (same : SameRowLattice o w (a ++ b) basis) where
     hab : IsPolynomialMatrix o w (a ++ b)
     hab = All-append (IsPolynomialRow o w) a b ha hb
 
@@ -264,7 +267,8 @@ module _ {E : Type 0} (o : Ops E) (L : FieldLaws o) where
       abbrev S : Rows
       S = basis ++ zeros
 
-      meet_in : (x : List (List E)) → IsPolynomialRow o w x → InLatticeMeet o a b x → InRowLattice o (tails_of w zeros) x
+      meet_in : (x : List (List E)) → IsPolynomialRow o w x → InLatticeMeet o a b x
+          → InRowLattice o (tails_of w zeros) x
       meet_in x hx h =
           let sa = span_of_lattice o L w a ha x hx h.0 in
           let sb = span_of_lattice o L w b hb x hx h.1 in

@@ -1,5 +1,5 @@
--- Leading positions of rows of polynomials, as lists, and reduced rows. (Mulders and Storjohann, On lattice reduction for
--- polynomial matrices; Kailath, Linear Systems, section 6.3.)
+-- Leading positions of rows of polynomials, as lists, and reduced rows. (Mulders and Storjohann, On lattice reduction
+-- for polynomial matrices; Kailath, Linear Systems, section 6.3.)
 use Rattle.std.specs.Prelude.{◌≡◌, ℕ, ◌+◌, ◌<◌, ◌≤◌, ℤ, pos, List, [], length, get_or}
 use Rattle.theory_rings.specs.Polynomial.{degree}
 
@@ -38,7 +38,8 @@ module _ {E : Type 0} where
 
   -- the combination x with weights c leads where a row does; its degree is the sum of those of the weight and the row
   -- there, and that is the greatest such sum
-  pub record HasPredictedDegree (w : ℕ) (rows : List (List (List E))) (places : List ℕ) (c x : List (List E)) : Type 0 where
+  pub record HasPredictedDegree (w : ℕ) (rows : List (List (List E))) (places : List ℕ) (c x : List (List E))
+      : Type 0 where
     pub row : ℕ
     pub within : row < length rows
     pub nonzero : 0 < length (get_or c row [])

@@ -1,5 +1,5 @@
--- Rows of polynomials over a program's field, each polynomial as the list of its coefficients, that of power 0 first, and
--- the lattices that they span over the polynomials. (Kailath, Linear Systems, section 6.3.)
+-- Rows of polynomials over a program's field, each polynomial as the list of its coefficients, that of power 0 first,
+-- and the lattices that they span over the polynomials. (Kailath, Linear Systems, section 6.3.)
 use Rattle.std.specs.Prelude.{◌≡◌, ℕ, ◌<◌, ◌↔◌, List, [], length, get_or}
 use Rattle.std.specs.List.{All}
 use Rattle.theory_rings.specs.Ops.{Ops}

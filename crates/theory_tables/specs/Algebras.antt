@@ -1,5 +1,5 @@
--- Algebras by their structure constants over a program's field: identity, centre, ideals and central simple algebras, in
--- terms of tuples. (Reiner, Maximal Orders, sections 1 and 7.)
+-- Algebras by their structure constants over a program's field: identity, centre, ideals and central simple algebras,
+-- in terms of tuples. (Reiner, Maximal Orders, sections 1 and 7.)
 use Rattle.std.specs.Prelude.{◌≡◌, ◌⊎◌, ◌<◌, ℕ, List, [], length, get_or}
 use Rattle.theory_rings.specs.Ops.{Ops, IsElem}
 use Rattle.theory_spaces.specs.Sets.{IsIdeal}

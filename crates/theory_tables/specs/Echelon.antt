@@ -5,7 +5,8 @@ use Rattle.theory_tables.specs.Inverse.{IsInverse}
 use Rattle.theory_tables.specs.Matrix.{entry, product, IsMatrix}
 
 -- the first col columns of the h rows are in reduced row echelon form, with these pivots
-pub record IsReducedEchelon {E : Type 0} (o : Ops E) (h : ℕ) (rows : List (List E)) (pivots : List ℕ) (col : ℕ) : Type 0 where
+pub record IsReducedEchelon {E : Type 0} (o : Ops E) (h : ℕ) (rows : List (List E)) (pivots : List ℕ) (col : ℕ)
+    : Type 0 where
   -- as many leading rows as pivots
   pub count : length pivots ≤ h
   -- the pivots are columns, and go up

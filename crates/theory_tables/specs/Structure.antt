@@ -1,5 +1,5 @@
--- An algebra over a field by its structure constants, with its operations on tuples, and the law of associativity on its
--- basis.
+-- An algebra over a field by its structure constants, with its operations on tuples, and the law of associativity on
+-- its basis.
 -- (Reiner, Maximal Orders, section 1a.)
 use Rattle.std.specs.Prelude.{◌≡◌, ℕ, ◌*◌, ◌<◌, List}
 use Rattle.theory_rings.specs.Ops.{Ops}

@@ -1,5 +1,5 @@
--- Two matrices with the same combinations: independent rows are as many as the rows of another that are independent, and
--- as many rows as independent ones are independent.
+-- Two matrices with the same combinations: independent rows are as many as the rows of another that are independent,
+-- and as many rows as independent ones are independent.
 use Rattle.std.specs.Prelude.{◌≡◌, ℕ, ◌<◌, ◌≤◌, List, length}
 use Rattle.std.proofs.Common.{sym, subst, arith}
 use Rattle.theory_rings.specs.Ops.{Ops, FieldLaws}

@@ -1,5 +1,5 @@
--- Combinations of tuples that are a two-sided ideal: it is enough that the products of the tuples with the basis elements
--- from both sides are such combinations.
+-- Combinations of tuples that are a two-sided ideal: it is enough that the products of the tuples with the basis
+-- elements from both sides are such combinations.
 use Rattle.std.specs.Prelude.{◌≡◌, ◌<◌, ℕ, List, [], length, get_or}
 use Rattle.std.specs.List.{All}
 use Rattle.std.proofs.Common.{sym, ◌∙◌, ap₂, subst}

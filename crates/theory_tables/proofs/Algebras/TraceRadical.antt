@@ -19,7 +19,8 @@ use Rattle.theory_spaces.proofs.Matrices.Matrices.{delta-same}
 use Rattle.theory_spaces.proofs.Linear.Modules.{map-comb}
 use Rattle.theory_spaces.proofs.Forms.ProductTraces.{by_left_linear, product_trace, product_trace-add}
 use Rattle.theory_spaces.proofs.Forms.ProductTraces.{product_trace-scale, product_trace-zero, product_trace-comb}
-use Rattle.theory_spaces.proofs.Forms.ProductTraces.{product_trace_comm, product_trace-nilpotent, zero_product, next_power}
+use Rattle.theory_spaces.proofs.Forms.ProductTraces.{product_trace_comm, product_trace-nilpotent, zero_product}
+use Rattle.theory_spaces.proofs.Forms.ProductTraces.{next_power}
 use Rattle.theory_spaces.proofs.Tuples.Tables.{space_basis, space_basis-coord}
 use Rattle.theory_spaces.proofs.Tuples.Tuples.{Tuple-path, tuples, tuple_space, tuples-zero, tuples-add, tuples-scale}
 use Rattle.theory_spaces.proofs.Tuples.Tuples.{unit-basis}

@@ -97,7 +97,8 @@ module _ {E : Type 0} (o : Ops E) (L : FieldLaws o) where
     single_sum : (c : ℕ → ℕ → E) → ((j k : ℕ) → IsElem o (c j k))
         → sum_of o m (λ j. sum_of o m (λ k. o.mul (single a b x (j + 1) (k + 1)) (c j k))) ≡ o.mul x (c (a - 1) (b - 1))
     single_sum c hc =
-        sum_of_single m (a - 1) (λ j. sum_of o m (λ k. term j k)) (λ j. sum_of-elem o L m (term j) (λ k _. term-elem j k))
+        sum_of_single m (a - 1) (λ j. sum_of o m (λ k. term j k))
+        (λ j. sum_of-elem o L m (term j) (λ k _. term-elem j k))
         (omega (arith, a_low, a_high))
         (λ j _ d. sum_of_congr o m (term j) (λ _. o.zero)
         (λ k _. term-zero j k (λ p _. d (omega (arith, a_low)))) ∙ sum_of_zeros o L m)
@@ -128,7 +129,8 @@ module _ {E : Type 0} (o : Ops E) (L : FieldLaws o) where
         ∙ add-mul o L (old j k) (one j k) (c j k) (old-elem j k) (one-elem j k) (hc j k))
         ∙ sum_of-add o L m (left j) (right j) (left-elem j) (right-elem j))
         ∙ sum_of-add o L m (λ j. sum_of o m (left j)) (λ j. sum_of o m (right j))
-        (λ j. sum_of-elem o L m (left j) (λ k _. left-elem j k)) (λ j. sum_of-elem o L m (right j) (λ k _. right-elem j k))
+        (λ j. sum_of-elem o L m (left j) (λ k _. left-elem j k))
+        (λ j. sum_of-elem o L m (right j) (λ k _. right-elem j k))
         ∙ ap (o.add (weighted_sum o m list c)) (single_sum c hc)
       where
         new : ℕ → ℕ → E

@@ -11,6 +11,7 @@ loop-i-preserved g c =
     record {
       elem = IsTuple-push o l.i l.traces c.push.new.self item.field-0 l.invariant.elem item.ensures.elem
           c.in_ok-push.ensures.ok;
-      value = table_step l.i (basis_trace o c.args.m c.args.constants.now) l.traces c.push.new.self item.field-0 l.invariant.value
+      value = table_step l.i (basis_trace o c.args.m c.args.constants.now) l.traces c.push.new.self item.field-0
+          l.invariant.value
           item.ensures.value c.in_ok-push.ensures.ok;
     }

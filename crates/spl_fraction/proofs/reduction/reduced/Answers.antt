@@ -31,7 +31,8 @@ with_monic_denominator-requires-clause-coprime c =
     } l)
     (c.has_constant.ensures c.if-has_constant.true)
 
-pub with_monic_denominator-requires-then-is_constant-clause-coprime : goal.with_monic_denominator-requires-then-is_constant-clause-coprime
+pub with_monic_denominator-requires-then-is_constant-clause-coprime :
+    goal.with_monic_denominator-requires-then-is_constant-clause-coprime
 with_monic_denominator-requires-then-is_constant-clause-coprime c =
     coprime_of_constant_divisor (small_ops c.args.f.now)
     (small_laws c.args.f.now) c.args.num c.args.den c.in_ok-divisor.divisor

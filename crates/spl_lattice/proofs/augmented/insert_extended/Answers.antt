@@ -25,7 +25,8 @@ loop-i-preserved c =
     let now = c.loop-i.split in
     let new = c.insert.new.split in
     let l = c.loop-i-test.true in
-    split_pushed o L c.args.w (c.args.w + c.args.t) (s.basis.items ++ s.zeros.items) (length rows) (both_rows o L rows tails)
+    split_pushed o L c.args.w (c.args.w + c.args.t) (s.basis.items ++ s.zeros.items) (length rows)
+    (both_rows o L rows tails)
     (All-append (IsPolynomialRow o (c.args.w + c.args.t)) s.basis.items s.zeros.items h.basis_rows h.zero_rows)
     (both_polynomials o L c.args.w c.args.t rows tails c.requires.rows c.requires.tails c.requires.count)
     i l now.basis.items now.places.items now.zeros.items c.loop-i.invariant c.in_ok-row-2.row

@@ -32,7 +32,8 @@ returns c =
     let new = c.insert_extended.new.split in
     let start = s.basis.items ++ s.zeros.items in
     let less : w + 0 ≡ w = omega arith in
-    subst (λ x. IsSplitOf o w w (start ++ x) new.basis.items new.places.items new.zeros.items) (extended_by_nothing rows)
+    subst (λ x. IsSplitOf o w w (start ++ x) new.basis.items new.places.items new.zeros.items)
+    (extended_by_nothing rows)
     (subst (λ x. IsSplitOf o w w (start ++ extended_by rows x) new.basis.items new.places.items new.zeros.items)
     (c.as_slice.ensures ∙ c.in_ok-nothing.ensures)
     (subst (λ m. IsSplitOf o w m (start ++ extended_by rows c.as_slice.result.now) new.basis.items new.places.items

@@ -13,13 +13,15 @@ use Rattle.spl_lattice.proofs.lattices.meet.Goals as goal
 pub split_of-requires : goal.split_of-requires
 split_of-requires c =
     let w = c.common_width-w in
-    matrix_read (small_ops c.args.f.now) c.know_laws.ensures w.result (width_of (c.args.a.now ++ c.args.b.now)) c.args.a.now
+    matrix_read (small_ops c.args.f.now) c.know_laws.ensures w.result (width_of (c.args.a.now ++ c.args.b.now))
+    c.args.a.now
     c.as_slice.result.now w.ensures c.as_slice.ensures c.requires.left
 
 pub split_of-requires-2 : goal.split_of-requires-2
 split_of-requires-2 c =
     let w = c.common_width-w in
-    matrix_read (small_ops c.args.f.now) c.know_laws.ensures w.result (width_of (c.args.a.now ++ c.args.b.now)) c.args.b.now
+    matrix_read (small_ops c.args.f.now) c.know_laws.ensures w.result (width_of (c.args.a.now ++ c.args.b.now))
+    c.args.b.now
     c.as_slice-2.result.now w.ensures c.as_slice-2.ensures c.requires.right
 
 pub split_for_meet-requires : goal.split_for_meet-requires
@@ -73,9 +75,11 @@ returns c =
     subst (λ m. IsLatticeBasis o m (InLatticeMeet o a b) c.in_ok-tails.field-0) e
     (subst (IsLatticeBasis o w (InLatticeMeet o a b))
     (sym (c.in_ok-tails.ensures ∙ ap (tails_of w) c.as_slice-5.ensures.value))
-    (meet_of_splits o L w a b l.basis.items l.places.items l.zeros.items r.basis.items r.places.items r.zeros.items B p z
+    (meet_of_splits o L w a b l.basis.items l.places.items l.zeros.items r.basis.items r.places.items r.zeros.items
+    B p z
     (matrix_read o L w (width_of (a ++ b)) a a e refl c.requires.left)
     (matrix_read o L w (width_of (a ++ b)) b b e refl c.requires.right)
     (subst (λ x. IsSplitOf o w w x l.basis.items l.places.items l.zeros.items) c.as_slice.ensures c.in_ok-left.ensures)
-    (subst (λ x. IsSplitOf o w w x r.basis.items r.places.items r.zeros.items) c.as_slice-2.ensures c.in_ok-right.ensures)
+    (subst (λ x. IsSplitOf o w w x r.basis.items r.places.items r.zeros.items) c.as_slice-2.ensures
+    c.in_ok-right.ensures)
     u))

@@ -15,7 +15,8 @@ insert_extended-requires c =
       rows = c.requires.left;
       tails = c.requires.left;
       count = refl;
-      split = split_read (small_ops c.args.f.now) c.know_laws.ensures c.args.w (c.args.w + c.args.w) s.result.basis.items
+      split = split_read (small_ops c.args.f.now) c.know_laws.ensures c.args.w (c.args.w + c.args.w)
+          s.result.basis.items
           s.result.places.items s.result.zeros.items s.ensures.basis s.ensures.places s.ensures.zeros;
     }
 

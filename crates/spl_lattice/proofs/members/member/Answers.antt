@@ -63,7 +63,8 @@ steps-smaller c =
     let ep : p ≡ get_or places i 0 = c.index.ensures
     ∙ get_or_default places i p 0 (omega (arith, d.within, h.count)) in
     let r = c.in_ok-rest-2 in
-    let n = next o c.know_laws.ensures (length row) rows c.requires.basis places h row c.requires.row s.coordinates s.rest
+    let n = next o c.know_laws.ensures (length row) rows c.requires.basis places h row c.requires.row s.coordinates
+    s.rest
     c.divide_at.new.coordinates r.rest s.invariant i d p x.result ep e r.ensures.row r.ensures.value in
     n.lower
 
@@ -89,7 +90,8 @@ steps-preserved c =
     let ep : p ≡ get_or places i 0 = c.index.ensures
     ∙ get_or_default places i p 0 (omega (arith, d.within, h.count)) in
     let r = c.in_ok-rest-2 in
-    let n = next o c.know_laws.ensures (length row) rows c.requires.basis places h row c.requires.row s.coordinates s.rest
+    let n = next o c.know_laws.ensures (length row) rows c.requires.basis places h row c.requires.row s.coordinates
+    s.rest
     c.divide_at.new.coordinates r.rest s.invariant i d p x.result ep e r.ensures.row r.ensures.value in
     n.dividing
 
@@ -97,7 +99,8 @@ pub returns-in-None-clause-combination : goal.returns-in-None-clause-combination
 returns-in-None-clause-combination c =
     let row = c.args.row.now in
     let s = c.steps in
-    combination_of_none (small_ops c.args.f.now) c.know_laws.ensures (length row) c.args.basis.now.basis c.requires.basis
+    combination_of_none (small_ops c.args.f.now) c.know_laws.ensures (length row) c.args.basis.now.basis
+    c.requires.basis
     row c.requires.row s.coordinates s.rest s.invariant
     (subst (λ m. IsZeroUpTo m s.rest) c.len-w.ensures
     (subst (IsZeroUpTo c.len-w.result) c.as_slice-2.ensures c.in-None.ensures))

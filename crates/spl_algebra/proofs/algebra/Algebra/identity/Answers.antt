@@ -11,7 +11,8 @@ returns-clause-value g c =
 
 pub returns-clause-here : goal.returns-clause-here
 returns-clause-here g c =
-    here_exactly (g.F.Field.ops c.args.f.now) (g.met.F.Field.laws c.args.f.now) c.args.self.now c.requires c.in_ok-one.one
+    here_exactly (g.F.Field.ops c.args.f.now) (g.met.F.Field.laws c.args.f.now) c.args.self.now c.requires
+    c.in_ok-one.one
     (subst₂ (λ (m : ℕ) (cs : List g.row.F-Elem.Denot).
     IsOne (g.F.Field.ops c.args.f.now) (record { dim = m; constants = cs }) c.in_ok-one.one)
     c.dim.ensures.dim c.constants.ensures.value c.in_ok-one.ensures)

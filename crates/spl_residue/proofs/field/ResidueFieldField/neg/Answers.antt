@@ -4,7 +4,8 @@ use Rattle.spl_residue.proofs.field.ResidueFieldField.neg.Goals as goal
 pub negated-requires : goal.negated-requires
 negated-requires c =
     let k = c.args.self.now in
-    let h = remainder_of_elem k.field k.modulus k.irreducible c.args.a.now c.poly.result.now c.poly.ensures c.requires in
+    let h = remainder_of_elem k.field k.modulus k.irreducible c.args.a.now c.poly.result.now c.poly.ensures
+    c.requires in
     h.polynomial.over
 
 pub returns-clause-elem : goal.returns-clause-elem
