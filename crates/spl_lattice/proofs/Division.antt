@@ -1,7 +1,6 @@
 -- The division of a row by reduced rows, on lists over a program's field: what was taken away and what is left make the
 -- row, and what is left in the end tells whether the row is in the lattice.
-use Rattle.std.specs.Prelude.{◌≡◌, ℕ, ◌<◌, ◌≤◌, List, [], ◌∷◌, length, get_or, slice_set}
-use Rattle.std.specs.List.{All}
+use Rattle.std.specs.Prelude.{◌≡◌, ℕ, ◌<◌, ◌≤◌, List, [], length, get_or}
 use Rattle.std.proofs.Common.{refl, sym, ◌∙◌, ap, ap₂, subst, arith, ⊎_elim}
 use Rattle.std.proofs.lemmas.Bool.{cases_lt}
 use Rattle.std.proofs.lemmas.List.{length-set, get_or-set_same, get_or-set_other}
@@ -9,7 +8,7 @@ use Rattle.std.proofs.lemmas.List.Elements.{All-nil, All-set}
 use Rattle.std.proofs.Math.Path.{fun_ext}
 use Rattle.theory_rings.specs.Ring.{CommRingOn}
 use Rattle.theory_rings.specs.Ops.{Ops, IsElem, FieldLaws}
-use Rattle.theory_rings.specs.Sum.{at, sum, sum_of}
+use Rattle.theory_rings.specs.Sum.{at, sum_of}
 use Rattle.theory_rings.specs.Polynomial.{Poly, IsTrimmed, convolution_of}
 use Rattle.theory_rings.proofs.Rings.RingLaws.{zero-mul, add-zero}
 use Rattle.theory_rings.proofs.Rings.Solver.{◌⊞◌, ◌⊠◌, minus, nil, ring2, ring3, ring4}
@@ -18,66 +17,17 @@ use Rattle.theory_rings.proofs.Sums.Sums.{sum_congr, sum-add, sum_eq_single, sum
 use Rattle.theory_fractions.proofs.Lifting.{has-lift, has-add, eq_of_coefficients, coefficients_of_eq, lift_nil}
 use Rattle.theory_spaces.specs.Linear.{comb, InSpan}
 use Rattle.theory_spaces.proofs.Linear.Modules.{InSpan-add, InSpan-neg}
-use Rattle.theory_tables.specs.Matrix.{width_of}
 use Rattle.theory_rows.specs.Augmented.{zero_row}
 use Rattle.theory_rows.specs.Rows.{IsPolynomialRow, IsPolynomialMatrix, InRowLattice, IsRowCombination}
 use Rattle.theory_rows.specs.LeadingPositions.{HasLeadingPosition, HaveLeadingPositions, IsZeroUpTo}
 use Rattle.theory_rows.proofs.LiftedRows.{G, Q, M, up, up_row, up_rows, combined, has-combined, comb_at}
 use Rattle.theory_rows.proofs.LiftedRows.{entry-over, entry_past, matrix-over, row_at, combination_of_up}
 use Rattle.theory_rows.proofs.LiftedRows.{span_of_lattice, lattice_of_span}
-use Rattle.theory_rows.proofs.Lowering.{height, top-position}
+use Rattle.theory_rows.proofs.Lowering.{height}
 use Rattle.theory_rows.proofs.Positions.{member_position}
-use Rattle.spl_poly.specs.Operations.{IsOver, IsSum}
-use Rattle.spl_lattice.specs.Division.{CanDivide, IsSumAt, IsDivisionStep}
+use Rattle.spl_poly.specs.Operations.{IsOver}
+use Rattle.spl_lattice.specs.Division.{CanDivide, IsDivisionStep}
 use Rattle.spl_lattice.proofs.RowReduction.{rest-entry, rest_lower}
-
--- ---- leading positions
-
-pub position_unique : {E : Type 0} (w : ℕ) (row : List (List E)) (p q : ℕ) → HasLeadingPosition w row p
-    → HasLeadingPosition w row q → p ≡ q
-position_unique w row p q a b = ap (λ (x : ℕ × ℕ). x.1) (sym (top-position w row p a) ∙ top-position w row q b)
-
--- leading positions that were found are those that make the rows reduced
-pub positions_found : {E : Type 0} (w : ℕ) (rows : List (List (List E))) (places found : List ℕ)
-    → HaveLeadingPositions w rows places → length found ≡ length rows
-    → ((i : ℕ) → i < length rows → HasLeadingPosition w (get_or rows i []) (get_or found i 0))
-    → HaveLeadingPositions w rows found
-positions_found w rows places found h n e = record {
-  count = n;
-  leads = e;
-  differ = λ i k l g q. h.differ i k l g (same i l ∙ q ∙ sym (same k g));
-}
-  where
-    same : (i : ℕ) → i < length rows → get_or places i 0 ≡ get_or found i 0
-    same i l = position_unique w (get_or rows i []) (get_or places i 0) (get_or found i 0) (h.leads i l) (e i l)
-
--- where the rows have w entries, reduced in all columns is reduced in w
-pub positions_in_width : {E : Type 0} (w : ℕ) (rows : List (List (List E))) (places : List ℕ)
-    → ((i : ℕ) → i < length rows → length (get_or rows i []) ≡ w) → HaveLeadingPositions (width_of rows) rows places
-    → HaveLeadingPositions w rows places
-positions_in_width w [] places h p = record {
-  count = p.count;
-  leads = λ i l. absurd (omega arith);
-  differ = p.differ;
-}
-positions_in_width w (r ∷ rs) places h p = subst (λ m. HaveLeadingPositions m (r ∷ rs) places) (h 0 (omega arith)) p
-
-module _ {E : Type 0} (w : ℕ) (rows : List (List (List E))) (places : List ℕ) (row : List (List E))
-    (hp : HaveLeadingPositions w rows places) where
-  pub no_divisor_of_none : ((p : ℕ) → HasLeadingPosition w row p → (i : ℕ) → i < length places
-      → get_or places i 0 ≡ p → ⊥) → (i : ℕ) → CanDivide w rows places row i → ⊥
-  no_divisor_of_none h i d = h (get_or places i 0) d.leads i (let l = d.within in omega (arith, hp.count)) refl
-
-  pub no_divisor_of_higher : (i : ℕ) → i < length places → HasLeadingPosition w row (get_or places i 0)
-      → length (get_or row (get_or places i 0) []) < length (get_or (get_or rows i []) (get_or places i 0) [])
-      → (k : ℕ) → CanDivide w rows places row k → ⊥
-  no_divisor_of_higher i l h g k d =
-      let e : k ≡ i = hp.differ k i d.within (omega (arith, hp.count))
-      (position_unique w row (get_or places k 0) (get_or places i 0) d.leads h) in
-      let x : length (get_or (get_or rows i []) (get_or places i 0) []) ≤ length (get_or row (get_or places i 0) []) =
-      subst (λ m. length (get_or (get_or rows m []) (get_or places m 0) [])
-      ≤ length (get_or row (get_or places m 0) []))
-      e d.lower in omega arith
 
 -- ---- what is left
 

@@ -1,4 +1,4 @@
-use Rattle.std.proofs.Common.{◌∙◌, ap, subst, arith, ◌≡◌, ◌<◌, [], length, get_or}
+use Rattle.std.proofs.Common.{◌∙◌, ap, subst, arith, ◌≡◌, [], get_or}
 use Rattle.std.proofs.lemmas.List.{get_or_default}
 use Rattle.spl_field.specs.SmallField.{small_ops}
 use Rattle.spl_poly.specs.Operations.{IsDivision}

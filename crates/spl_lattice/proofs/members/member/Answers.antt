@@ -1,4 +1,4 @@
-use Rattle.std.proofs.Common.{sym, ◌∙◌, ap, subst, arith, ◌≡◌, ◌<◌, ℕ, [], length, get_or}
+use Rattle.std.proofs.Common.{sym, ◌∙◌, ap, subst, arith, ◌≡◌, [], length, get_or}
 use Rattle.std.proofs.lemmas.List.{get_or_default}
 use Rattle.spl_field.specs.SmallField.{small_ops}
 use Rattle.theory_rows.specs.Augmented.{zero_row}
