@@ -35,7 +35,7 @@ module _ {E : Type 0} (o : Ops E) (L : FieldLaws o) where
   abbrev R : CommRingOn (Poly (let F = G o L in F.cring))
   R = P o L
 
-  up_one : up o L (o.one ∷ []) ≡ R.one
+  pub up_one : up o L (o.one ∷ []) ≡ R.one
   up_one = eq_of_coefficients o L (up o L (o.one ∷ [])) R.one (at o (o.one ∷ [])) (constant_coefficients o.zero o.one)
       (has-lift o L (o.one ∷ []) (All-cons (IsElem o) o.one [] L.one-elem (All-nil (IsElem o)))) (has-one o L) go
     where

@@ -7,5 +7,6 @@ pub mod Lowering
 pub mod Splits
 pub mod Kernels
 pub mod SumsAndMeets
+pub mod InvertibleTransforms
 pub mod FractionWeights
 pub mod FractionKernels
