@@ -1,6 +1,6 @@
 -- What a right verdict says of the claim.
 use Rattle.std.specs.Prelude.{◌≡◌, ◌↔◌, ◌*◌, ℕ, List, [], ◌∷◌, Result, IfOk}
-use Rattle.std.proofs.Common.{refl, sym, subst, subst₂, ⊎_elim}
+use Rattle.std.proofs.Common.{refl, sym, ◌∙◌, subst, subst₂, inl, inr, ⊎_elim}
 use Rattle.theory_rings.specs.Ops.{Ops}
 use Rattle.theory_fractions.specs.Fraction.{Pair}
 use Rattle.spl_field.specs.declared.field.NoMemory.{NoMemory}
@@ -24,6 +24,14 @@ not_all (c ∷ rest) number fails hold = ⊎_elim
     (λ (first : (c.says → ⊥) × (c.number ≡ number)). first.0 hold.0)
     (λ (later : c.says × FailsFirst rest number). not_all rest number later.1 hold.1)
     fails
+
+-- one condition is the first that fails
+pub first_unique : (list : List Condition) (a b : ℕ) → FailsFirst list a → FailsFirst list b → a ≡ b
+first_unique [] a b f g = absurd f
+first_unique (c ∷ rest) a b (inl f) (inl g) = sym f.1 ∙ g.1
+first_unique (c ∷ rest) a b (inl f) (inr g) = absurd (f.0 g.0)
+first_unique (c ∷ rest) a b (inr f) (inl g) = absurd (g.0 f.0)
+first_unique (c ∷ rest) a b (inr f) (inr g) = first_unique rest a b f.1 g.1
 
 module _ (o : Ops (Pair ℕ)) (A : Structure (Pair ℕ)) (n : ℕ) where
   claim_of_all : (e : Evidence) → A.dim ≡ n * n → Fits o n e → AllHold (conditions o A n e) → Claim o A n e

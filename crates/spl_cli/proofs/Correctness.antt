@@ -1,27 +1,44 @@
--- What a run of `decide` on a told input comes to, and what a run over streams that don't fail.
-use Rattle.std.specs.Prelude.{◌≡◌, ◌⊎◌, ℕ, ◌+◌, ◌<◌, ◌≤◌, Bool, IsTrue, List, [], ◌∷◌, ◌++◌, length, take, codes, Option}
-use Rattle.std.specs.Prelude.{Some, None, IfSome, refl}
+-- What a run of `decide` or `check` on a told input comes to, and what a run over streams that don't fail.
+use Rattle.std.specs.Prelude.{◌≡◌, ◌⊎◌, ◌↔◌, ℕ, ◌+◌, ◌<◌, ◌≤◌, Bool, IsTrue, List, [], ◌∷◌, ◌++◌, length, take, codes}
+use Rattle.std.specs.Prelude.{Option, Some, None, IfSome, refl}
 use Rattle.std.proofs.Common.{inl, inr, ⊎_elim, sym, ◌∙◌, ap, subst, arith, length-append}
 use Rattle.std.proofs.lemmas.Bool.{cases_lt}
 use Rattle.std.proofs.lemmas.List.{length-take-le}
 use Rattle.std.specs.Io.KnownBytes.{Appends}
+use Rattle.theory_rings.specs.Ops.{Ops}
+use Rattle.theory_fractions.specs.Fraction.{Pair}
+use Rattle.theory_tables.specs.Algebras.{IsCentralSimple}
 use Rattle.spl_outside.specs.Faults.{Rose}
 use Rattle.spl_outside.specs.Prefix.{AppendsPart}
 use Rattle.spl_outside.specs.Room.{HasRoom}
-use Rattle.spl_table.specs.Refusal.{whole, IsRefusal}
+use Rattle.spl_table.specs.Refusal.{whole, front, front_limit, IsTableText, IsRefusal}
 use Rattle.spl_table.proofs.OneRefusal.{refusal_unique}
 use Rattle.spl_table.proofs.TextLaws.{table_unique, no_table_fault}
 use Rattle.spl_table.proofs.Agreement.Tables.{tables_agree}
 use Rattle.spl_table.specs.TableText.{TableText, line_of_end}
-use Rattle.spl_table.specs.Table.{IsTableOf}
+use Rattle.spl_table.specs.Table.{field_of, degree_of, algebra_of, ops_of, IsTableOf}
 use Rattle.spl_table.specs.declared.table.Table.{Table}
 use Rattle.spl_table.specs.declared.refusal.Refusal.{Refusal}
+use Rattle.spl_table.specs.declared.refusal.Kind.TheVariants.{TooLong}
+use Rattle.spl_evidence.specs.Claim.{Claim}
+use Rattle.spl_evidence.specs.Refusal.{IsRefusal as IsRefusalOfEvidence}
+use Rattle.spl_evidence.specs.declared.evidence.Evidence.{Evidence}
+use Rattle.spl_evidence.specs.declared.refusal.EvidenceRefusal.{EvidenceRefusal}
+use Rattle.spl_check.specs.Verdict.{FailsFirst, conditions}
 use Rattle.spl_cli.specs.declared.status.Status.{Status}
 use Rattle.spl_cli.specs.declared.status.Status.TheVariants.{Done, No, Usage, Refused, ReadFault, WriteFault, Memory}
-use Rattle.spl_cli.specs.Report.{Report, refusal_text, Stands, IsDecided, IsUndecided, IsRefused}
-use Rattle.spl_cli.specs.Run.{IsAnswer}
+use Rattle.spl_cli.specs.declared.words.Form.{Form}
+use Rattle.spl_cli.specs.declared.words.Form.TheVariants.{Decide, Check}
+use Rattle.spl_cli.specs.Forms.{form_of}
+use Rattle.spl_cli.specs.Report.{Report, refusal_text, evidence_refusal_text, no_text, Stands, IsDecided, IsUndecided}
+use Rattle.spl_cli.specs.Report.{IsRefused, IsTableAndEvidence, StandsInFront, SaysYes, SaysNo, IsCheckRefused}
+use Rattle.spl_cli.specs.Report.{IsDone, IsNo, IsRefusedBy}
+use Rattle.spl_cli.specs.Run.{SourceState, SinkState, IsRun, IsAnswer}
 use Rattle.spl_cli.specs.Finish.{source_state, sink_state}
-use Rattle.spl_cli.specs.Correct.{RunsWell, DecidesInput, OneReport, RunDecides, RunIsQuiet}
+use Rattle.spl_cli.specs.Correct.{RunsWell, DecidesInput, ChecksInput, RunComesTo, OneReport, RunDecides, RunChecks}
+use Rattle.spl_cli.specs.Correct.{RunIsQuiet}
+use Rattle.spl_cli.proofs.SameAnswers.{claim_over, fails_over, fails_claim, yes_or_no, one_condition, read_or_refused}
+use Rattle.spl_cli.proofs.SameAnswers.{one_check_refusal}
 
 -- known bytes that grew, where both are told
 grown : (before : List ℕ) (old new : Option (List ℕ)) (bytes : List ℕ) → old ≡ Some before → Appends old new bytes
@@ -48,22 +65,34 @@ exclusive input bytes refusal d u =
     let shows = d.shows in
     let holds = shows.holds in
     let none = u.no_fault in
-    holds.not_central_simple (agree.central_simple none.central_simple)
+    let excluded = holds.no_matrix_algebra in
+    excluded.not_central_simple
+    (subst (IsCentralSimple (ops_of d.table)) agree.algebra
+    (subst (λ (o : Ops (Pair ℕ)). IsCentralSimple o (algebra_of u.table)) agree.operations none.central_simple))
 
 -- a text with a refusal is not one of a table
 no_table : (input : List ℕ) (refusal : Refusal) (table : Table) → IsRefusal whole input refusal → Stands input table
     → ⊥
 no_table input refusal table cause t = no_table_fault whole input t.text [] t.is_text refusal cause
 
+-- a report of `decide` is one of its form
+decide_form : (P : Form → Type 0) (form : Form) → form_of (codes "decide" ∷ []) ≡ Some form → P form → P Decide
+decide_form P Decide e h = h
+decide_form P Check e h = absurd (cc)
+
+check_form : (P : Form → Type 0) (form : Form) → form_of (codes "check" ∷ []) ≡ Some form → P form → P Check
+check_form P Decide e h = absurd (cc)
+check_form P Check e h = h
+
 -- what a report of `decide` says of its input
-decides : (input bytes : List ℕ) (status : Status) → Report (codes "decide" ∷ []) input status bytes
-    → DecidesInput input bytes status
-decides input bytes Usage r = absurd (r.0 refl)
-decides input bytes Done r = let d = r.1 in record {
+decides_done : (input bytes : List ℕ) → IsDecided input bytes → DecidesInput input bytes Done
+decides_done input bytes d = record {
   refused = λ f refusal. absurd (no_table input f d.table refusal d.stands);
   decided = λ t text. inl (refl, d, λ f u. exclusive input bytes f d u);
 }
-decides input bytes Refused r = let d = r.1 in ⊎_elim
+
+decides_refused : (input bytes : List ℕ) → IsRefused input bytes → DecidesInput input bytes Refused
+decides_refused input bytes d = ⊎_elim
     (λ (cause : IsRefusal whole input d.refusal). record {
       refused = λ f refusal. (refl, d.report ∙ ap refusal_text (refusal_unique input whole d.refusal f cause refusal));
       decided = λ t text. absurd (no_table_fault whole input t [] text d.refusal cause);
@@ -77,10 +106,121 @@ decides input bytes Refused r = let d = r.1 in ⊎_elim
       );
     })
     d.cause
-decides input bytes No r = absurd r
+
+decides : (input bytes : List ℕ) (status : Status) → Report (codes "decide" ∷ []) input status bytes
+    → DecidesInput input bytes status
+decides input bytes Usage r = absurd (let e = r.0 in cc)
+decides input bytes Done r =
+    decides_done input bytes (decide_form (λ form. IsDone form input bytes) r.0 r.1 r.2)
+decides input bytes Refused r =
+    decides_refused input bytes (decide_form (λ form. IsRefusedBy form input bytes) r.0 r.1 r.2)
+decides input bytes No r = absurd (decide_form (λ form. IsNo form input bytes) r.0 r.1 r.2)
 decides input bytes ReadFault r = absurd r
 decides input bytes WriteFault r = absurd r
 decides input bytes Memory r = absurd r
+
+-- what a report of `check` says of its input
+checks_done : (input bytes : List ℕ) → SaysYes input bytes → ChecksInput input bytes Done
+checks_done input bytes y = record {
+  long = λ long. absurd (refused (inl (record { long = long; report = refl })));
+  table = λ within r cause. absurd (refused (inr (inl (record {
+    within = within;
+    refusal = r;
+    cause = cause;
+    report = refl;
+  }))));
+  evidence = λ t s r cause. absurd (refused (inr (inr (record {
+    table = t;
+    stands = s;
+    refusal = r;
+    cause = cause;
+    report = refl;
+  }))));
+  done = λ t e read. (λ _. claim t e read, λ _. refl);
+  yes = λ t e read is. y.report;
+  fails = λ t e read. (λ is. absurd (cc), λ not. absurd (not (claim t e read)));
+  no = λ t e read c fails. absurd (fails_claim input t e read c fails (claim t e read));
+}
+  where
+    refused : {other : List ℕ} → IsCheckRefused input other → ⊥
+    refused {other} r = read_or_refused input other y.table y.evidence y.read r
+
+    claim : (t : Table) (e : Evidence) → IsTableAndEvidence input t e
+        → Claim (ops_of t) (algebra_of t) (degree_of t) e
+    claim t e read = claim_over input y.table t y.evidence e y.read read y.claim
+
+checks_no : (input bytes : List ℕ) → SaysNo input bytes → ChecksInput input bytes No
+checks_no input bytes n = record {
+  long = λ long. absurd (refused (inl (record { long = long; report = refl })));
+  table = λ within r cause. absurd (refused (inr (inl (record {
+    within = within;
+    refusal = r;
+    cause = cause;
+    report = refl;
+  }))));
+  evidence = λ t s r cause. absurd (refused (inr (inr (record {
+    table = t;
+    stands = s;
+    refusal = r;
+    cause = cause;
+    report = refl;
+  }))));
+  done = λ t e read. (
+    λ is. absurd (cc),
+    λ claim. absurd (fails_claim input t e read n.condition (over t e read) claim),
+  );
+  yes = λ t e read is. absurd (cc);
+  fails = λ t e read. (λ is. fails_claim input t e read n.condition (over t e read), λ not. refl);
+  no = λ t e read c fails. one_condition input bytes (no_text c) n (record {
+    table = t;
+    evidence = e;
+    read = read;
+    condition = c;
+    fails = fails;
+    report = refl;
+  });
+}
+  where
+    refused : {other : List ℕ} → IsCheckRefused input other → ⊥
+    refused {other} r = read_or_refused input other n.table n.evidence n.read r
+
+    over : (t : Table) (e : Evidence) → IsTableAndEvidence input t e
+        → FailsFirst (conditions (ops_of t) (algebra_of t) (degree_of t) e) n.condition
+    over t e read = fails_over input n.table t n.evidence e n.read read n.condition n.fails
+
+checks_refused : (input bytes : List ℕ) → IsCheckRefused input bytes → ChecksInput input bytes Refused
+checks_refused input bytes r = record {
+  long = λ long. (
+    refl,
+    one_check_refusal input bytes (refusal_text (record { line = 0; kind = TooLong })) r
+        (inl (record { long = long; report = refl })),
+  );
+  table = λ within f cause. (
+    refl,
+    one_check_refusal input bytes (refusal_text f) r
+        (inr (inl (record { within = within; refusal = f; cause = cause; report = refl }))),
+  );
+  evidence = λ t s f cause. (
+    refl,
+    one_check_refusal input bytes (evidence_refusal_text f) r
+        (inr (inr (record { table = t; stands = s; refusal = f; cause = cause; report = refl }))),
+  );
+  done = λ t e read. absurd (read_or_refused input bytes t e read r);
+  yes = λ t e read. absurd (read_or_refused input bytes t e read r);
+  fails = λ t e read. absurd (read_or_refused input bytes t e read r);
+  no = λ t e read. absurd (read_or_refused input bytes t e read r);
+}
+
+checks : (input bytes : List ℕ) (status : Status) → Report (codes "check" ∷ []) input status bytes
+    → ChecksInput input bytes status
+checks input bytes Usage r = absurd (let e = r.0 in cc)
+checks input bytes Done r = checks_done input bytes (check_form (λ form. IsDone form input bytes) r.0 r.1 r.2)
+checks input bytes No r = checks_no input bytes (check_form (λ form. IsNo form input bytes) r.0 r.1 r.2)
+checks input bytes Refused r =
+    checks_refused input bytes (check_form (λ form. IsRefusedBy form input bytes) r.0 r.1 r.2)
+checks input bytes ReadFault r = absurd r
+checks input bytes WriteFault r = absurd r
+checks input bytes Memory r = absurd r
 
 -- ---- one report
 
@@ -111,29 +251,94 @@ one_refusal input bytes bytes' r s = r.report ∙ ap refusal_text (go r.cause s.
     go (inr a) (inl b) = absurd (no_table input s.refusal a.table b a.stands)
     go (inr a) (inr b) = one_line input r.refusal s.refusal a b
 
+-- words have one form
+same_form : (words : List (List ℕ)) (f g : Form) → form_of words ≡ Some f → form_of words ≡ Some g → f ≡ g
+same_form words f g e h = let both = sym e ∙ h in cc
+
+no_form : (words : List (List ℕ)) (f : Form) → form_of words ≡ None → form_of words ≡ Some f → ⊥
+no_form words f e h = let both = sym e ∙ h in absurd (cc)
+
+-- of one form: an input is not both done and refused, nor both done and told no, and no report but that of evidence
+-- differs
+form_done_no : (input bytes bytes' : List ℕ) (f : Form) → IsDone f input bytes → IsNo f input bytes' → ⊥
+form_done_no input bytes bytes' Decide d n = n
+form_done_no input bytes bytes' Check d n = yes_or_no input bytes bytes' d n
+
+form_done_refused : (input bytes bytes' : List ℕ) (f : Form) → IsDone f input bytes → IsRefusedBy f input bytes' → ⊥
+form_done_refused input bytes bytes' Decide d r = done_or_refused input bytes bytes' d r
+form_done_refused input bytes bytes' Check d r = read_or_refused input bytes' d.table d.evidence d.read r
+
+form_no_refused : (input bytes bytes' : List ℕ) (f : Form) → IsNo f input bytes → IsRefusedBy f input bytes' → ⊥
+form_no_refused input bytes bytes' Decide d r = d
+form_no_refused input bytes bytes' Check d r = read_or_refused input bytes' d.table d.evidence d.read r
+
+form_done : (input bytes bytes' : List ℕ) (f : Form) → (f ≡ Decide → ⊥) → IsDone f input bytes → IsDone f input bytes'
+    → bytes ≡ bytes'
+form_done input bytes bytes' Decide other d e = absurd (other refl)
+form_done input bytes bytes' Check other d e = d.report ∙ sym e.report
+
+form_no : (input bytes bytes' : List ℕ) (f : Form) → IsNo f input bytes → IsNo f input bytes' → bytes ≡ bytes'
+form_no input bytes bytes' Decide d e = absurd d
+form_no input bytes bytes' Check d e = one_condition input bytes bytes' d e
+
+form_refused : (input bytes bytes' : List ℕ) (f : Form) → IsRefusedBy f input bytes → IsRefusedBy f input bytes'
+    → bytes ≡ bytes'
+form_refused input bytes bytes' Decide d e = one_refusal input bytes bytes' d e
+form_refused input bytes bytes' Check d e = one_check_refusal input bytes bytes' d e
+
 pub one_report : OneReport
 one_report words input Usage Usage bytes bytes' r s = (refl, λ _. r.1 ∙ sym s.1)
-one_report words input Usage Done bytes bytes' r s = absurd (r.0 s.0)
-one_report words input Usage Refused bytes bytes' r s = absurd (r.0 s.0)
-one_report words input Done Usage bytes bytes' r s = absurd (s.0 r.0)
-one_report words input Done Done bytes bytes' r s = (refl, λ other. absurd (other refl))
-one_report words input Done Refused bytes bytes' r s = absurd (done_or_refused input bytes bytes' r.1 s.1)
-one_report words input Refused Usage bytes bytes' r s = absurd (s.0 r.0)
-one_report words input Refused Done bytes bytes' r s = absurd (done_or_refused input bytes' bytes s.1 r.1)
-one_report words input Refused Refused bytes bytes' r s = (refl, λ _. one_refusal input bytes bytes' r.1 s.1)
-one_report words input No status' bytes bytes' r s = absurd r
+one_report words input Usage Done bytes bytes' r s = absurd (no_form words s.0 r.0 s.1)
+one_report words input Usage No bytes bytes' r s = absurd (no_form words s.0 r.0 s.1)
+one_report words input Usage Refused bytes bytes' r s = absurd (no_form words s.0 r.0 s.1)
+one_report words input Done Usage bytes bytes' r s = absurd (no_form words r.0 s.0 r.1)
+one_report words input No Usage bytes bytes' r s = absurd (no_form words r.0 s.0 r.1)
+one_report words input Refused Usage bytes bytes' r s = absurd (no_form words r.0 s.0 r.1)
+one_report words input Done Done bytes bytes' r s = (
+  refl,
+  λ other. form_done input bytes bytes' r.0
+      (λ is. other (refl, subst (λ f. form_of words ≡ Some f) is r.1)) r.2
+      (subst (λ f. IsDone f input bytes') (same_form words s.0 r.0 s.1 r.1) s.2),
+)
+one_report words input Done No bytes bytes' r s =
+    absurd (form_done_no input bytes bytes' r.0 r.2
+    (subst (λ f. IsNo f input bytes') (same_form words s.0 r.0 s.1 r.1) s.2))
+one_report words input Done Refused bytes bytes' r s =
+    absurd (form_done_refused input bytes bytes' r.0 r.2
+    (subst (λ f. IsRefusedBy f input bytes') (same_form words s.0 r.0 s.1 r.1) s.2))
+one_report words input No Done bytes bytes' r s =
+    absurd (form_done_no input bytes' bytes s.0 s.2
+    (subst (λ f. IsNo f input bytes) (same_form words r.0 s.0 r.1 s.1) r.2))
+one_report words input No No bytes bytes' r s = (
+  refl,
+  λ _. form_no input bytes bytes' r.0 r.2 (subst (λ f. IsNo f input bytes') (same_form words s.0 r.0 s.1 r.1) s.2),
+)
+one_report words input No Refused bytes bytes' r s =
+    absurd (form_no_refused input bytes bytes' r.0 r.2
+    (subst (λ f. IsRefusedBy f input bytes') (same_form words s.0 r.0 s.1 r.1) s.2))
+one_report words input Refused Done bytes bytes' r s =
+    absurd (form_done_refused input bytes' bytes s.0 s.2
+    (subst (λ f. IsRefusedBy f input bytes) (same_form words r.0 s.0 r.1 s.1) r.2))
+one_report words input Refused No bytes bytes' r s =
+    absurd (form_no_refused input bytes' bytes s.0 s.2
+    (subst (λ f. IsRefusedBy f input bytes) (same_form words r.0 s.0 r.1 s.1) r.2))
+one_report words input Refused Refused bytes bytes' r s = (
+  refl,
+  λ _. form_refused input bytes bytes' r.0 r.2
+      (subst (λ f. IsRefusedBy f input bytes') (same_form words s.0 r.0 s.1 r.1) s.2),
+)
 one_report words input ReadFault status' bytes bytes' r s = absurd r
 one_report words input WriteFault status' bytes bytes' r s = absurd r
 one_report words input Memory status' bytes bytes' r s = absurd r
-one_report words input Usage No bytes bytes' r s = absurd s
 one_report words input Usage ReadFault bytes bytes' r s = absurd s
 one_report words input Usage WriteFault bytes bytes' r s = absurd s
 one_report words input Usage Memory bytes bytes' r s = absurd s
-one_report words input Done No bytes bytes' r s = absurd s
 one_report words input Done ReadFault bytes bytes' r s = absurd s
 one_report words input Done WriteFault bytes bytes' r s = absurd s
 one_report words input Done Memory bytes bytes' r s = absurd s
-one_report words input Refused No bytes bytes' r s = absurd s
+one_report words input No ReadFault bytes bytes' r s = absurd s
+one_report words input No WriteFault bytes bytes' r s = absurd s
+one_report words input No Memory bytes bytes' r s = absurd s
 one_report words input Refused ReadFault bytes bytes' r s = absurd s
 one_report words input Refused WriteFault bytes bytes' r s = absurd s
 one_report words input Refused Memory bytes bytes' r s = absurd s
@@ -148,15 +353,22 @@ answer ReadFault w = absurd (w.read refl)
 answer WriteFault w = absurd (w.written refl)
 answer Memory w = absurd (w.memory refl)
 
-pub run_decides : RunDecides
-run_decides source source' sink sink' status input before run told written well =
+comes_to : (words : List (List ℕ)) (Says : List ℕ → List ℕ → Status → Type 0)
+    → ((input bytes : List ℕ) (status : Status) → Report words input status bytes → Says input bytes status)
+    → RunComesTo words Says
+comes_to words Says says source source' sink sink' status input before run told written well =
     let w = run.report (answer status well) in
-    let same : w.input ≡ input = told_input source.left input w.input told w.told in
-    let P : List ℕ → Type 0 = λ i. Report (codes "decide" ∷ []) i status w.bytes in (
+    let same : w.input ≡ input = told_input source.left input w.input told w.told in (
       w.bytes,
       grown before sink.written sink'.written w.bytes written w.written,
-      decides input w.bytes status (subst P same w.report),
+      says input w.bytes status (subst (λ (i : List ℕ). Report words i status w.bytes) same w.report),
     )
+
+pub run_decides : RunDecides
+run_decides = comes_to (codes "decide" ∷ []) DecidesInput decides
+
+pub run_checks : RunChecks
+run_checks = comes_to (codes "check" ∷ []) ChecksInput checks
 
 -- a count that is 0 at the end didn't rise
 not_risen : (before after : ℕ) → Rose before after → after ≡ 0 → ⊥

@@ -1,4 +1,6 @@
 mod Answering
 mod Correctness
 mod Running
+mod LongInputs
+mod SameAnswers
 mod Taking

@@ -1,12 +1,23 @@
--- The main theorem: what `run` comes to with the word `decide`, unless a device fails or memory is wanting; and over
--- which sources and sinks no fault comes.
-use Rattle.std.specs.Prelude.{◌≡◌, ◌≢◌, ◌⊎◌, ℕ, ◌+◌, ◌<◌, IsTrue, List, [], ◌∷◌, ◌++◌, length, codes, Some}
-use Rattle.spl_table.specs.TableText.{TableText}
-use Rattle.spl_table.specs.Refusal.{whole, IsTableText, IsRefusal}
+-- The main theorem: what `run` comes to with the words `decide` and `check`, unless a device fails or memory is wanting;
+-- and over which sources and sinks no fault comes.
+use Rattle.std.specs.Prelude.{◌≡◌, ◌≢◌, ◌⊎◌, ◌↔◌, ℕ, ◌+◌, ◌<◌, ◌≤◌, IsTrue, List, [], ◌∷◌, ◌++◌, length, codes, Some}
+use Rattle.spl_table.specs.TableText.{TableText, line_of_end}
+use Rattle.spl_table.specs.Table.{field_of, degree_of, algebra_of, ops_of}
+use Rattle.spl_table.specs.Refusal.{whole, front, front_limit, IsTableText, IsRefusal}
+use Rattle.spl_table.specs.declared.table.Table.{Table}
 use Rattle.spl_table.specs.declared.refusal.Refusal.{Refusal}
+use Rattle.spl_table.specs.declared.refusal.Kind.TheVariants.{TooLong}
+use Rattle.spl_evidence.specs.Claim.{Claim}
+use Rattle.spl_evidence.specs.Refusal.{IsRefusal as IsRefusalOfEvidence}
+use Rattle.spl_evidence.specs.declared.evidence.Evidence.{Evidence}
+use Rattle.spl_evidence.specs.declared.refusal.EvidenceRefusal.{EvidenceRefusal}
+use Rattle.spl_check.specs.Verdict.{FailsFirst, conditions}
 use Rattle.spl_cli.specs.declared.status.Status.{Status}
-use Rattle.spl_cli.specs.declared.status.Status.TheVariants.{Done, Refused, ReadFault, WriteFault, Memory}
-use Rattle.spl_cli.specs.Report.{refusal_text, IsDecided, IsUndecided, Report}
+use Rattle.spl_cli.specs.declared.status.Status.TheVariants.{Done, No, Refused, ReadFault, WriteFault, Memory}
+use Rattle.spl_cli.specs.declared.words.Form.TheVariants.{Decide}
+use Rattle.spl_cli.specs.Forms.{form_of}
+use Rattle.spl_cli.specs.Report.{refusal_text, evidence_refusal_text, no_text, IsDecided, IsUndecided, Report}
+use Rattle.spl_cli.specs.Report.{StandsInFront, IsTableAndEvidence}
 use Rattle.spl_cli.specs.Run.{SourceState, SinkState, IsTold, IsRun}
 
 -- no device failed, and memory sufficed
@@ -32,18 +43,46 @@ pub record DecidesInput (input bytes : List ℕ) (status : Status) : Type 0 wher
       → ((status ≡ Done) × IsDecided input bytes × ((r : Refusal) → IsUndecided input r → ⊥))
       ⊎ ((status ≡ Refused) × IsNotBuilt input bytes × ((other : List ℕ) → IsDecided input other → ⊥))
 
--- a run of `decide` on a told input, into a sink that tells what is written
-abbrev pub RunDecides : Type 0
-RunDecides = (source source' : SourceState) (sink sink' : SinkState) (status : Status) (input before : List ℕ)
-    → IsRun (codes "decide" ∷ []) source source' sink sink' status
-    → source.left ≡ Some input → sink.written ≡ Some before → RunsWell status
-    → (bytes : List ℕ) × (sink'.written ≡ Some (before ++ bytes)) × DecidesInput input bytes status
+-- what is written for an input of a table and evidence behind it, and the status that goes with it
+pub record ChecksInput (input bytes : List ℕ) (status : Status) : Type 0 where
+  -- an input of too many bytes is refused
+  pub long : front_limit < length input
+      → (status ≡ Refused) × (bytes ≡ refusal_text (record { line = 0; kind = TooLong }))
+  -- a table with a fault is refused with its first one
+  pub table : length input ≤ front_limit → (r : Refusal) → IsRefusal front input r
+      → (status ≡ Refused) × (bytes ≡ refusal_text r)
+  -- then evidence with a fault is, at a line that is counted on from those of the table
+  pub evidence : (t : Table) (s : StandsInFront input t) (r : EvidenceRefusal)
+      → IsRefusalOfEvidence (field_of t) (degree_of t) (line_of_end s.text + 1) s.rest r
+      → (status ≡ Refused) × (bytes ≡ evidence_refusal_text r)
+  -- for every table and evidence that are accepted: it is done exactly where the claim holds, and says `yes`
+  pub done : (t : Table) (e : Evidence) → IsTableAndEvidence input t e
+      → (status ≡ Done) ↔ Claim (ops_of t) (algebra_of t) (degree_of t) e
+  pub yes : (t : Table) (e : Evidence) → IsTableAndEvidence input t e → status ≡ Done → bytes ≡ codes "yes\n"
+  -- it is No exactly where the claim fails, and says the number of the first condition that fails
+  pub fails : (t : Table) (e : Evidence) → IsTableAndEvidence input t e
+      → (status ≡ No) ↔ (Claim (ops_of t) (algebra_of t) (degree_of t) e → ⊥)
+  pub no : (t : Table) (e : Evidence) → IsTableAndEvidence input t e → (c : ℕ)
+      → FailsFirst (conditions (ops_of t) (algebra_of t) (degree_of t) e) c → bytes ≡ no_text c
 
--- words and an input have one status, and one text but for the evidence that is written
+-- a run of these words on a told input, into a sink that tells what is written, comes to this
+abbrev pub RunComesTo : List (List ℕ) → (List ℕ → List ℕ → Status → Type 0) → Type 0
+RunComesTo words Says = (source source' : SourceState) (sink sink' : SinkState) (status : Status)
+    (input before : List ℕ) → IsRun words source source' sink sink' status
+    → source.left ≡ Some input → sink.written ≡ Some before → RunsWell status
+    → (bytes : List ℕ) × (sink'.written ≡ Some (before ++ bytes)) × Says input bytes status
+
+abbrev pub RunDecides : Type 0
+RunDecides = RunComesTo (codes "decide" ∷ []) DecidesInput
+
+abbrev pub RunChecks : Type 0
+RunChecks = RunComesTo (codes "check" ∷ []) ChecksInput
+
+-- words and an input have one status, and one text but for the evidence that `decide` writes
 abbrev pub OneReport : Type 0
 OneReport = (words : List (List ℕ)) (input : List ℕ) (status status' : Status) (bytes bytes' : List ℕ)
     → Report words input status bytes → Report words input status' bytes'
-    → (status ≡ status') × ((status ≢ Done) → bytes ≡ bytes')
+    → (status ≡ status') × (((status ≡ Done) × (form_of words ≡ Some Decide) → ⊥) → bytes ≡ bytes')
 
 -- some report on the source's input is longer than what is left of the room after the bytes that are there before
 pub record HasLongReport (words : List (List ℕ)) (source : SourceState) (before : List ℕ) (room : ℕ) : Type 0 where

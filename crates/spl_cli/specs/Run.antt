@@ -6,7 +6,7 @@ use Rattle.spl_outside.specs.Faults.{Rose}
 use Rattle.spl_outside.specs.Prefix.{AppendsPart, ConsumesAtMost}
 use Rattle.spl_cli.specs.declared.status.Status.{Status}
 use Rattle.spl_cli.specs.declared.status.Status.TheVariants.{Done, No, Usage, Refused, ReadFault, WriteFault, Memory}
-use Rattle.spl_cli.specs.Forms.{IsForm, limit_of}
+use Rattle.spl_cli.specs.Forms.{form_of, limit_of}
 use Rattle.spl_cli.specs.Report.{Report}
 
 -- what a source means at one moment
@@ -81,7 +81,7 @@ pub record IsRun (words : List (List ℕ)) (source source' : SourceState) (sink 
   pub part : status ≡ WriteFault → WritesPart words source sink sink'
   pub nothing : (status ≡ ReadFault) ⊎ (status ≡ Memory) → sink' ≡ sink
   -- when each comes: a fault only where its count rose in the call, want of memory at any time but for words of no form
-  pub no_form : (IsForm words → ⊥) → (status ≡ Usage) ⊎ (status ≡ WriteFault)
+  pub no_form : form_of words ≡ None → (status ≡ Usage) ⊎ (status ≡ WriteFault)
   pub read_fault : status ≡ ReadFault → Rose source.faults source'.faults
   pub write_fault : status ≡ WriteFault → Rose sink.faults sink'.faults
   -- a call that fails is told: on each other answer none did

@@ -1,5 +1,5 @@
 // What the contract of `run` comes to.
-ghost use Rattle.spl_cli.specs.Correct.{OneReport, RunDecides, RunIsQuiet};
+ghost use Rattle.spl_cli.specs.Correct.{OneReport, RunChecks, RunDecides, RunIsQuiet};
 ghost use Rattle.spl_cli.specs.Finish.{source_state, sink_state};
 
 use spl_outside::outside::{Sink, Source};
@@ -11,8 +11,15 @@ pub fn run_decides()
     ensures { RunDecides }
 {}
 
-/// Words and an input have one status, and one text but for the evidence that is written: so no table text is both
-/// decided and undecided.
+/// For every table and evidence that are accepted, within the limit, `check` says yes exactly where the claim of the
+/// evidence holds, and else the number of its first condition that fails; an input with a fault is refused with its
+/// first one, those of the table before those of the evidence.
+pub fn run_checks()
+    ensures { RunChecks }
+{}
+
+/// Words and an input have one status, and one text but for the evidence that `decide` writes: so no table text is both
+/// decided and undecided, and no claim both holds and fails.
 pub fn one_report()
     ensures { OneReport }
 {}

@@ -1,15 +1,17 @@
 // The texts of reports.
 ghost use Rattle.std.specs.Prelude.{◌≡◌, ℕ, ◌+◌, ◌<◌, ◌≤◌, ◌^◌, ◌++◌, length, codes, decimal, IfOk};
-ghost use Rattle.spl_cli.specs.Report.{kind_name, element_text, refusal_text};
+ghost use Rattle.spl_cli.specs.Report.{kind_name, element_text, refusal_text, evidence_kind_name};
+ghost use Rattle.spl_cli.specs.Report.{evidence_refusal_text, no_text};
 
 use arrayvec::ArrayString;
 use itoa::Buffer;
+use spl_evidence::refusal::{EvidenceKind, EvidenceRefusal};
 use spl_field::field::NoMemory;
 use spl_table::refusal::{Kind, Refusal};
 use std::alloc::Global;
 
 /// The usage text: the built forms, one a line.
-pub(crate) const USAGE: &[u8] = b"usage: spl decide\n";
+pub(crate) const USAGE: &[u8] = b"usage: spl decide\n       spl check\n";
 
 /// The name of a kind of refusal.
 fn name_of(kind: Kind) -> &'static str
@@ -59,6 +61,48 @@ pub(crate) fn refusal_line(refusal: Refusal) -> ArrayString<64>
     line.push_str(" ");
     line.push_str(name_of(refusal.kind));
     push_element(&mut line, refusal.kind);
+    line.push_str("\n");
+    line
+}
+
+/// The name of a kind of refusal of evidence.
+fn name_of_evidence(kind: EvidenceKind) -> &'static str
+    ensures name { result.now ≡ evidence_kind_name kind }
+    ensures short { length result.now ≤ 10 }
+{
+    match kind {
+        EvidenceKind::EvHeader => "EvHeader",
+        EvidenceKind::EvNoEnd => "EvNoEnd",
+        EvidenceKind::EvForm => "EvForm",
+        EvidenceKind::EvRange => "EvRange",
+        EvidenceKind::EvOrder => "EvOrder",
+        EvidenceKind::EvTerms => "EvTerms",
+        EvidenceKind::EvAfterEnd => "EvAfterEnd",
+    }
+}
+
+/// The report of a refusal of evidence. It takes no memory.
+pub(crate) fn evidence_refusal_line(refusal: EvidenceRefusal) -> ArrayString<64>
+    ensures { result.bytes ≡ evidence_refusal_text refusal }
+{
+    let mut buffer = Buffer::new();
+    let mut line = ArrayString::new();
+    line.push_str("refused ");
+    line.push_str(buffer.format(refusal.line));
+    line.push_str(" ");
+    line.push_str(name_of_evidence(refusal.kind));
+    line.push_str("\n");
+    line
+}
+
+/// The report of a claim that fails. It takes no memory.
+pub(crate) fn no_line(condition: u32) -> ArrayString<64>
+    ensures { result.bytes ≡ no_text condition }
+{
+    let mut buffer = Buffer::new();
+    let mut line = ArrayString::new();
+    line.push_str("no ");
+    line.push_str(buffer.format(condition));
     line.push_str("\n");
     line
 }

@@ -1,10 +1,19 @@
 // The words after the program's name.
-ghost use Rattle.std.specs.Prelude.{◌≡◌, ◌↔◌, [], ◌∷◌, ◌++◌, IsTrue, OnOk, OnErr, map, string_bytes};
-ghost use Rattle.spl_cli.specs.Forms.{IsDecide};
+ghost use Rattle.std.specs.Prelude.{◌≡◌, [], ◌∷◌, ◌++◌, OnOk, OnErr, map, string_bytes};
+ghost use Rattle.spl_cli.specs.Forms.{form_of};
 
 use spl_field::field::NoMemory;
 use std::alloc::Global;
 use std::marker::Model;
+
+/// What the words ask for.
+#[derive(Clone, Copy, Debug, PartialEq, Eq)]
+pub(crate) enum Form {
+    /// To decide a table.
+    Decide,
+    /// To check the evidence behind a table.
+    Check,
+}
 
 /// The words after the program's name, seen as a list of texts.
 #[derive(Drop)]
@@ -42,20 +51,33 @@ impl Words {
         Ok(())
     }
 
-    /// Whether the words are `decide` alone.
-    pub fn is_decide(&self) -> bool
-        ensures { IsTrue result ↔ IsDecide self.now }
+    /// The form of the words; None where they are of no form.
+    pub(crate) fn form(&self) -> Option<Form>
+        ensures { result ≡ form_of self.now }
     {
-        is_word(&self.items, "decide")
+        form_of_words(&self.items)
     }
 }
 
-/// Whether there is one word, and it is this.
-fn is_word(words: &[String], word: &str) -> bool
-    ensures { IsTrue result ↔ (map string_bytes words.now ≡ word.now ∷ []) }
+/// The form of these words.
+fn form_of_words(words: &[String]) -> Option<Form>
+    ensures { result ≡ form_of (map string_bytes words.now) }
 {
     match words {
-        [only] => only.as_str() == word,
-        _ => false,
+        [only] => form_named(only.as_str()),
+        _ => None,
+    }
+}
+
+/// The form of one word.
+fn form_named(word: &str) -> Option<Form>
+    ensures { result ≡ form_of (word.now ∷ []) }
+{
+    if word == "decide" {
+        Some(Form::Decide)
+    } else if word == "check" {
+        Some(Form::Check)
+    } else {
+        None
     }
 }

@@ -9,7 +9,7 @@ mod ReadLines
 mod Prefixes
 mod RightLines
 mod SameEvidence
-mod TextLaws
+pub mod TextLaws
 mod Spellings
 pub mod SameFractions
 mod Readers

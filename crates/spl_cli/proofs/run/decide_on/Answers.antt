@@ -3,7 +3,7 @@ use Rattle.std.proofs.Common.{◌∙◌, Err, refl, sym, ap, subst}
 use Rattle.spl_cli.specs.Report.{refusal_text, ShowsEvidence}
 use Rattle.spl_table.specs.declared.refusal.Kind.TheVariants.{NotBuilt}
 use Rattle.spl_cli.proofs.Answering.{Answers-undecided, Answers-found, Answers-refused}
-use Rattle.spl_cli.proofs.run.report_on.Goals as goal
+use Rattle.spl_cli.proofs.run.decide_on.Goals as goal
 
 pub returns-in-Ok-None : goal.returns-in-Ok-None
 returns-in-Ok-None g c = λ words form.
