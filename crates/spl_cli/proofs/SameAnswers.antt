@@ -1,5 +1,5 @@
--- What `check` answers to an input is the same whichever table the text in front is read as: two tables of one text have
--- the same operations, degree and constants.
+-- What `check` answers to an input is the same whichever table the text in front is read as: two tables of one text
+-- have the same operations, degree and constants.
 use Rattle.std.specs.Prelude.{◌≡◌, ◌⊎◌, ℕ, ◌+◌, ◌*◌, ◌<◌, ◌≤◌, ◌^◌, List, [], ◌∷◌, length, refl}
 use Rattle.std.proofs.Common.{inl, inr, ⊎_elim, sym, ◌∙◌, ap, ap₂, subst, arith}
 use Rattle.std.proofs.Math.Nat.{mul-le-mul}
@@ -131,7 +131,8 @@ yes_or_no input bytes bytes' y n =
 
 pub one_condition : (input bytes bytes' : List ℕ) → SaysNo input bytes → SaysNo input bytes' → bytes ≡ bytes'
 one_condition input bytes bytes' n m =
-    n.report ∙ ap no_text (first_unique (conditions (ops_of m.table) (algebra_of m.table) (degree_of m.table) m.evidence)
+    n.report
+    ∙ ap no_text (first_unique (conditions (ops_of m.table) (algebra_of m.table) (degree_of m.table) m.evidence)
     n.condition m.condition
     (fails_over input n.table m.table n.evidence m.evidence n.read m.read n.condition n.fails) m.fails)
     ∙ sym m.report
@@ -153,9 +154,11 @@ pub one_check_refusal : (input bytes bytes' : List ℕ) → IsCheckRefused input
     → bytes ≡ bytes'
 one_check_refusal input bytes bytes' (inl a) (inl b) = a.report ∙ sym b.report
 one_check_refusal input bytes bytes' (inl a) (inr (inl b)) = absurd (omega (arith, a.long, b.within))
-one_check_refusal input bytes bytes' (inl a) (inr (inr b)) = let s = b.stands in absurd (omega (arith, a.long, s.within))
+one_check_refusal input bytes bytes' (inl a) (inr (inr b)) =
+    let s = b.stands in absurd (omega (arith, a.long, s.within))
 one_check_refusal input bytes bytes' (inr (inl a)) (inl b) = absurd (omega (arith, b.long, a.within))
-one_check_refusal input bytes bytes' (inr (inr a)) (inl b) = let s = a.stands in absurd (omega (arith, b.long, s.within))
+one_check_refusal input bytes bytes' (inr (inr a)) (inl b) =
+    let s = a.stands in absurd (omega (arith, b.long, s.within))
 one_check_refusal input bytes bytes' (inr (inl a)) (inr (inl b)) =
     a.report ∙ ap refusal_text (table_refusal_unique input front a.refusal b.refusal a.cause b.cause) ∙ sym b.report
 one_check_refusal input bytes bytes' (inr (inl a)) (inr (inr b)) =

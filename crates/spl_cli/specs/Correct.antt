@@ -1,5 +1,5 @@
--- The main theorem: what `run` comes to with the words `decide` and `check`, unless a device fails or memory is wanting;
--- and over which sources and sinks no fault comes.
+-- The main theorem: what `run` comes to with the words `decide` and `check`, unless a device fails or memory is
+-- wanting; and over which sources and sinks no fault comes.
 use Rattle.std.specs.Prelude.{◌≡◌, ◌≢◌, ◌⊎◌, ◌↔◌, ℕ, ◌+◌, ◌<◌, ◌≤◌, IsTrue, List, [], ◌∷◌, ◌++◌, length, codes, Some}
 use Rattle.spl_table.specs.TableText.{TableText, line_of_end}
 use Rattle.spl_table.specs.Table.{field_of, degree_of, algebra_of, ops_of}

@@ -1,5 +1,6 @@
 -- From the faults of single lines to those of a text.
-use Rattle.std.proofs.Common.{◌≡◌, ◌≢◌, ℕ, ◌+◌, ◌*◌, ◌-◌, ◌%◌, ◌<◌, ◌≤◌, List, [], ◌∷◌, ◌++◌, length, None, refl, sym, ap, subst}
+use Rattle.std.proofs.Common.{◌≡◌, ◌≢◌, ℕ, ◌+◌, ◌*◌, ◌-◌, ◌%◌, ◌<◌, ◌≤◌, List, [], ◌∷◌, ◌++◌, length}
+use Rattle.std.proofs.Common.{None, refl, sym, ap, subst}
 use Rattle.std.proofs.Common.{◌∙◌, inl, inr, append_assoc, length-append, arith}
 use Rattle.std.specs.Prelude.{Result, Ok, Err, IfOk, IfErr}
 use Rattle.std.proofs.lemmas.Result.{IfErr-at_err}
@@ -229,7 +230,8 @@ module _ (x : Extent) (bytes rest : List ℕ) (first : bytes ≡ first_line ++ r
 
 -- ---- the lines of the entries
 
-module _ (x : Extent) (bytes rest : List ℕ) (h : Head) (right : IsRightHead h) (spelled : bytes ≡ head_lines h ++ rest) where
+module _ (x : Extent) (bytes rest : List ℕ) (h : Head) (right : IsRightHead h)
+    (spelled : bytes ≡ head_lines h ++ rest) where
   pub entries_fault : (at : ℕ) (kind : Kind) → IsFaultAfter h rest at kind → IsFaultOfLines x bytes at kind
   entries_fault at kind w = go kind w.fault
     where

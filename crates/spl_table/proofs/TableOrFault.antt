@@ -1,5 +1,6 @@
 -- Each text is that of a table, or has a first fault: what the reader does, without memory.
-use Rattle.std.proofs.Common.{◌≡◌, ◌≢◌, ◌⊎◌, ℕ, zero, suc, ◌%◌, ◌<◌, ◌≤◌, List, [], ◌∷◌, ◌++◌, length, get_or, None, refl}
+use Rattle.std.proofs.Common.{◌≡◌, ◌≢◌, ◌⊎◌, ℕ, zero, suc, ◌%◌, ◌<◌, ◌≤◌, List, [], ◌∷◌, ◌++◌, length}
+use Rattle.std.proofs.Common.{get_or, None, refl}
 use Rattle.std.proofs.Common.{⊎_elim, ◌+◌, sym, ap, ◌∙◌, subst, inl, inr, arith, append_assoc}
 use Rattle.std.specs.Prelude.{decimal, codes, take}
 use Rattle.std.specs.List.{flat_map}
@@ -138,7 +139,8 @@ module _ (bytes : List ℕ) where
           };
         })
 
-    entries_read : (x : Extent) → ReadsToEnd h None rest ⊎ ReadsToFault h None rest → SaysTable x bytes ⊎ HasFault x bytes
+    entries_read : (x : Extent) → ReadsToEnd h None rest ⊎ ReadsToFault h None rest
+        → SaysTable x bytes ⊎ HasFault x bytes
     entries_read x (inl w) = to_end x w
     entries_read x (inr w) = inr (record {
       at = 4 + length w.entries;
@@ -197,7 +199,8 @@ module _ (bytes : List ℕ) where
         third_read (inl n) = degree_read n.0 n.1 n.2 (cases_lt n.0 2) (cases_lt 5 n.0) (cases_eq (n.0 % f.p) 0)
         third_read (inr none) = inr (third_at_fault Header none)
 
-      after_field : IsAdmitted f.p f.m → Cut 10 second.right ⊎ Lacks 10 second.right → SaysTable x bytes ⊎ HasFault x bytes
+      after_field : IsAdmitted f.p f.m → Cut 10 second.right ⊎ Lacks 10 second.right
+          → SaysTable x bytes ⊎ HasFault x bytes
       after_field admitted (inl third) = third_read admitted third (degree_spelled third.left)
       after_field admitted (inr lacks) = inr (record {
         at = 3;
@@ -289,7 +292,8 @@ module _ (bytes : List ℕ) where
   within_limit front = inl tt
   within_limit whole = go (cases_lt table_limit (length bytes))
     where
-      go : (table_limit < length bytes) ⊎ (length bytes ≤ table_limit) → IsWithinLimit whole bytes ⊎ IsTooLong whole bytes
+      go : (table_limit < length bytes) ⊎ (length bytes ≤ table_limit)
+          → IsWithinLimit whole bytes ⊎ IsTooLong whole bytes
       go (inl long) = inr long
       go (inr within) = inl within
 
@@ -298,7 +302,8 @@ module _ (bytes : List ℕ) where
   module _ (x : Extent) where
     table_or_refusal : ((t : TableText) × (rest : List ℕ) × IsTableText x bytes t rest)
         ⊎ ((r : Refusal) × IsRefusal x bytes r)
-    table_or_refusal = go (within_limit x) (text_below (length bytes) (omega arith)) (lines_read x (has_front first_line bytes))
+    table_or_refusal =
+        go (within_limit x) (text_below (length bytes) (omega arith)) (lines_read x (has_front first_line bytes))
       where
         go : IsWithinLimit x bytes ⊎ IsTooLong x bytes
             → ((k : ℕ) → k < length bytes → IsTextByte (get_or bytes k 0)) ⊎ ((place : ℕ) × IsFirstNoText bytes place)

@@ -1,5 +1,6 @@
 // The entries of a table text, up to the line `end`.
-ghost use Rattle.std.specs.Prelude.{◌≡◌, ◌≢◌, ℕ, ◌+◌, ◌≤◌, ◌-◌, ◌*◌, ◌++◌, ◌∷◌, [], List, length, replicate, codes, All};
+ghost use Rattle.std.specs.Prelude.{◌≡◌, ◌≢◌, ℕ, ◌+◌, ◌≤◌, ◌-◌, ◌*◌, ◌++◌, ◌∷◌, [], List, length};
+ghost use Rattle.std.specs.Prelude.{replicate, codes, All};
 ghost use Rattle.std.specs.Prelude.{IfOk, IfErr, OnOk, Some};
 ghost use Rattle.theory_rings.specs.Ops.{IsElem};
 ghost use Rattle.spl_field.specs.SmallField.{small_ops};

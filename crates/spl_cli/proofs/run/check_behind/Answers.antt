@@ -12,7 +12,8 @@ returns-in-Err-Refused g c = λ words form.
     let r = c.in-Err-Refused in
     Answers-check-refused words c.args.input.now _ _ _ form c.as_bytes.result.now
     (evidence_refused c.args.input.now c.args.read.now c.requires.within c.requires.front r.refusal
-    c.as_bytes.result.now c.behind-text.result.now _ c.behind-text.ensures refl (r.ensures.refused r.refusal (ap Err r.field-0-is))
+    c.as_bytes.result.now c.behind-text.result.now _ c.behind-text.ensures refl
+    (r.ensures.refused r.refusal (ap Err r.field-0-is))
     (c.as_bytes.ensures.value ∙ c.as_str.ensures.value ∙ c.evidence_refusal_line.ensures
     ∙ ap evidence_refusal_text r.refusal-is)) c.finish.ensures
 

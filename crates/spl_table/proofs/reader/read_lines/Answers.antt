@@ -27,7 +27,8 @@ returns-in_default-split_once-2-clause-fault c =
     let s = c.in-Some-split_once in
     let k = field_of c.in_ok-fractions.fractions in
     rw c.at-in_default-split_once-2.ensures
-    (no_third_line front c.args.bytes.now c.in-Some.rest.now c.in-Some.ensures s.second.now s.rest.now s.ensures.0 s.ensures.1
+    (no_third_line front c.args.bytes.now c.in-Some.rest.now c.in-Some.ensures
+    s.second.now s.rest.now s.ensures.0 s.ensures.1
     (characteristic k) (modulus_of k)
     c.in_ok-fractions.ensures.spelled c.in_ok-fractions.ensures.admitted c.in_default-split_once-2.ensures)
 
@@ -42,7 +43,8 @@ returns-in_err-n-clause-fault c =
     (λ at kind. (at ≡ 3) × IsDegreeFault q t.third.now kind)) same c.in_err-n.ensures.fault in
     let p = err_from_is_err_and c.from_residual-in_err-n.result c.from_residual-in_err-n.ensures.1 in
     rw (p.1, p.2)
-    (third_refused front c.args.bytes.now c.in-Some.rest.now c.in-Some.ensures s.second.now s.rest.now s.ensures.0 s.ensures.1
+    (third_refused front c.args.bytes.now c.in-Some.rest.now c.in-Some.ensures
+    s.second.now s.rest.now s.ensures.0 s.ensures.1
     (characteristic k) (modulus_of k)
     c.in_ok-fractions.ensures.spelled c.in_ok-fractions.ensures.admitted t.third.now t.rest.now t.ensures.0 t.ensures.1
     c.in_err-n.field-0.0 fault)
@@ -56,7 +58,8 @@ returns-in_err-entries-clause-fault c =
     let same : c.p.result ≡ characteristic k = c.p.ensures.p ∙ ap characteristic c.field.ensures in
     let right = right_head k n.n c.p.result same c.in_ok-fractions.ensures.admitted n.ensures.low n.ensures.high
     n.ensures.apart in
-    let spelled = spelled_head front c.args.bytes.now c.in-Some.rest.now c.in-Some.ensures s.second.now s.rest.now s.ensures.0
+    let spelled = spelled_head front c.args.bytes.now c.in-Some.rest.now c.in-Some.ensures s.second.now s.rest.now
+    s.ensures.0
     s.ensures.1 (characteristic k) (modulus_of k)
     c.in_ok-fractions.ensures.spelled c.in_ok-fractions.ensures.admitted t.third.now t.rest.now t.ensures.0 t.ensures.1
     n.n n.ensures.spelled in
@@ -73,7 +76,8 @@ returns-clause-ok c =
     let same : c.p.result ≡ characteristic k = c.p.ensures.p ∙ ap characteristic c.field.ensures in
     let right = right_head k n.n c.p.result same c.in_ok-fractions.ensures.admitted n.ensures.low n.ensures.high
     n.ensures.apart in
-    let spelled = spelled_head front c.args.bytes.now c.in-Some.rest.now c.in-Some.ensures s.second.now s.rest.now s.ensures.0
+    let spelled = spelled_head front c.args.bytes.now c.in-Some.rest.now c.in-Some.ensures s.second.now s.rest.now
+    s.ensures.0
     s.ensures.1 (characteristic k) (modulus_of k)
     c.in_ok-fractions.ensures.spelled c.in_ok-fractions.ensures.admitted t.third.now t.rest.now t.ensures.0 t.ensures.1
     n.n n.ensures.spelled in
