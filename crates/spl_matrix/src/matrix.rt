@@ -128,7 +128,7 @@ impl<F: Field> Matrix<F> {
     }
 }
 
-/// Equal rows.
+/// Equal rows, of elements of f. The one fault is want of memory.
 pub fn copied<F: Field>(
     alloc: Global,
     f: &F,
