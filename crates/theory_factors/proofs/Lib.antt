@@ -5,3 +5,6 @@ pub mod Factors
 pub mod Unique
 pub mod Products
 pub mod Splitting
+pub mod Parts
+pub mod TraceRoots
+pub mod Traces

@@ -2,6 +2,7 @@
 ghost use Rattle.theory_rings.specs.Enumerated.{Enumerated};
 ghost use Rattle.theory_factors.specs.FactorLaws.{IrreducibleIffCoprime};
 ghost use Rattle.theory_factors.specs.Splitting.{GcdsExist, IsProductOfGcds, OneGcdIsProper};
+ghost use Rattle.theory_factors.specs.Parts.{SmallIsIrreducible, TracesAreFixed, SomeTraceIsNotConstant};
 ghost use Rattle.theory_factors.specs.Factorisation.{HasIrreducibleFactors, FactorisationIsUnique};
 
 use theory_rings::structures::FieldStructure;
@@ -36,4 +37,20 @@ pub fn is_product_of_gcds<F: FieldStructure>()
 /// Where z is besides congruent to no constant modulo f, one of them is a proper factor of f.
 pub fn one_gcd_is_proper<F: FieldStructure>()
     ensures { (E : Enumerated F) → OneGcdIsProper F.field E }
+{}
+
+/// A polynomial of degree at least 1 and less than 2d without divisors of degrees from 1 to d - 1 is irreducible.
+pub fn small_is_irreducible<F: FieldStructure>()
+    ensures { SmallIsIrreducible F.field }
+{}
+
+/// Modulo a divisor of x^(q^d) - x without factors of degree less than d the trace of each polynomial, z + z^q + .. +
+/// z^(q^(d - 1)), solves z^q = z.
+pub fn traces_are_fixed<F: FieldStructure>()
+    ensures { (E : Enumerated F) → TracesAreFixed F.field E }
+{}
+
+/// Where the degree of such a divisor is at least 2d, the trace of some power of x is no constant modulo it.
+pub fn some_trace_is_not_constant<F: FieldStructure>()
+    ensures { (E : Enumerated F) → SomeTraceIsNotConstant F.field E }
 {}
