@@ -166,7 +166,7 @@ module _ {K : Type 0} (F : FieldOn K) (E : Enumerated K) where
             (let q = (h k l).1 in q.right))))
             (cases_lt (degree (g k).0) (degree f.0))
 
-  monic_gcd : (f b : Poly R) → IsMonic R f → (g : Poly R) × IsMonic R g × IsGcd P f b g
+  pub monic_gcd : (f b : Poly R) → IsMonic R f → (g : Poly R) × IsMonic R g × IsGcd P f b g
   monic_gcd f b m =
       let r = gcd F f b in
       let a : Poly R = r.0 in

@@ -86,7 +86,7 @@ module _ {K : Type 0} (F : FieldOn K) (E : Enumerated K) where
 
   -- ---- modulo g
 
-  power_congruent : (g a b : Poly R) → Congruent P g a b → (n : ℕ) → Congruent P g (power P.ring a n) (power P.ring b n)
+  pub power_congruent : (g a b : Poly R) → Congruent P g a b → (n : ℕ) → Congruent P g (power P.ring a n) (power P.ring b n)
   power_congruent g a b s zero = congruent_of_eq P g P.one P.one refl
   power_congruent g a b s (suc n) =
       congruent-mul P g a b (power P.ring a n) (power P.ring b n) s (power_congruent g a b s n)

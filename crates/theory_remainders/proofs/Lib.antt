@@ -6,3 +6,4 @@ pub mod RemainderRoots
 pub mod CoprimeLists
 pub mod IrreducibleTest
 pub mod Cofactors
+pub mod GcdLists

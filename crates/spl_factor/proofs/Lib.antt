@@ -1,0 +1,4 @@
+pub mod Values
+pub mod Traces
+pub mod Quotients
+pub mod Splits

@@ -1,0 +1,2 @@
+pub mod Factorisation
+pub mod Steps

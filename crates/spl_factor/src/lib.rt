@@ -1,0 +1,12 @@
+// The irreducible factors of polynomials over a small field.
+//
+// It stands on spl_poly and spl_residue, and on theory_factors, where what the parts by the degree of their factors are,
+// and how they split, is proved. Read `specs/Factorisation.antt` first, then `factor`.
+#![tactic(auto)]
+
+mod degrees;
+pub mod factors;
+mod gcd;
+mod powers;
+mod splitting;
+mod work;
