@@ -2,3 +2,4 @@ pub mod Values
 pub mod Traces
 pub mod Quotients
 pub mod Splits
+pub mod Insertion

@@ -3,6 +3,7 @@ use Rattle.std.specs.Prelude.{◌≡◌, ◌≢◌, ℕ, zero, suc, ◌+◌, ◌
 use Rattle.std.proofs.Common.{refl, sym, ◌∙◌, ap, ap₂, subst, arith}
 use Rattle.theory_rings.specs.Ring.{FieldOn, CommRingOn}
 use Rattle.theory_rings.specs.Elements.{Elem}
+use Rattle.theory_rings.specs.Sum.{at}
 use Rattle.theory_rings.specs.Power.{power}
 use Rattle.theory_rings.specs.Polynomial.{Poly, degree, lead, IsMonic}
 use Rattle.theory_rings.specs.Division.{Divides}
@@ -13,6 +14,7 @@ use Rattle.theory_rings.proofs.Polynomials.Bezout.{field_lead-mul}
 use Rattle.theory_rings.proofs.Polynomials.Monic.{degrees_of_product}
 use Rattle.theory_fractions.specs.PolynomialLists.{IsPolynomialList}
 use Rattle.theory_fractions.proofs.ListPolynomials.{length-polynomial_of, degree-polynomial_of}
+use Rattle.theory_fractions.proofs.LowestTerms.{lead_value}
 use Rattle.theory_factors.proofs.Products.{monic-ne-zero}
 use Rattle.spl_field.specs.SmallField.{small_ops, small_laws}
 use Rattle.spl_field.specs.declared.small.SmallField.{SmallField}
@@ -104,3 +106,8 @@ module _ (f : SmallField) where
   pub shorter : (r b q : List ℕ) → IsMonicList f r → IsMonicList f b → 1 ≤ degree b → Is q
       → poly f r ≡ P.◌⊗◌ (poly f q) (poly f b) → length q < length r
   shorter r b q hr hb pos hq e = omega (arith, length_quotient r b q hr hb hq e, pos)
+
+  -- the last coefficient of a monic polynomial is 1
+  pub leading_one : (a : List ℕ) → IsMonicList f a → (let o = small_ops f in at o a (degree a) ≡ o.one)
+  leading_one a h = let m = h.monic in
+      lead_value (small_ops f) (small_laws f) a h.polynomial ∙ ap (λ (c : Elem (small_ops f)). c.0) m.leading
