@@ -3,3 +3,4 @@ pub mod Traces
 pub mod Quotients
 pub mod Splits
 pub mod Insertion
+pub mod Parts

@@ -34,20 +34,21 @@ module _ (f : SmallField) where
   Is = IsPolynomialList (small_ops f)
 
   -- the q-th power of the power with exponent q^i
-  pub next_power : (m y w v : List ℕ) (i : ℕ) → IsPowerModulo f m y (N.size ^ i) w → IsPowerModulo f m w (size_of f) v
-      → IsPowerModulo f m y (N.size ^ suc i) v
-  next_power m y w v i h k =
+  pub next_power : (m w v : List ℕ) (Y : Poly F.cring) (i : ℕ)
+      → Congruent P (poly f m) (power P.ring Y (N.size ^ i)) (poly f w) → IsPowerModulo f m w (size_of f) v
+      → Congruent P (poly f m) (power P.ring Y (N.size ^ suc i)) (poly f v)
+  next_power m w v Y i h k =
       let M : Poly F.cring = poly f m in
-      let Y : Poly F.cring = poly f y in
       congruent_trans P M (power P.ring Y (N.size ^ suc i)) (power P.ring (poly f w) N.size) (poly f v)
       (subst (λ z. Congruent P M z (power P.ring (poly f w) N.size))
       (power-power P.ring Y (N.size ^ i) N.size ∙ ap (power P.ring Y) (sym (pow-suc N.size i)))
       (power_congruent F N M (power P.ring Y (N.size ^ i)) (poly f w) h N.size))
       (subst (λ n. Congruent P M (power P.ring (poly f w) n) (poly f v)) (sym (size-small_numbers f)) k)
 
-  pub no_power : (m y w : List ℕ) → w ≡ y → IsPowerModulo f m y (N.size ^ 0) w
-  no_power m y w e = congruent_of_eq P (poly f m) (power P.ring (poly f y) (N.size ^ 0)) (poly f w)
-      (ap (power P.ring (poly f y)) (pow-zero N.size) ∙ power_first P.ring (poly f y) ∙ ap (poly f) (sym e))
+  pub no_power : (m w : List ℕ) (Y : Poly F.cring) → poly f w ≡ Y
+      → Congruent P (poly f m) (power P.ring Y (N.size ^ 0)) (poly f w)
+  no_power m w Y e = congruent_of_eq P (poly f m) (power P.ring Y (N.size ^ 0)) (poly f w)
+      (ap (power P.ring Y) (pow-zero N.size) ∙ power_first P.ring Y ∙ sym e)
 
   module _ (m z : List ℕ) where
     -- w is the last term and t the sum of the first i terms
@@ -64,7 +65,7 @@ module _ (f : SmallField) where
       total = ht;
       smaller = subst (λ y. length y < length m) (sym et) l;
       power = λ n e. let zero_is : 0 ≡ n = omega arith in subst (λ k. IsPowerModulo f m z (N.size ^ k) w) zero_is
-          (no_power m z w ew);
+          (no_power m w (poly f z) (ap (poly f) ew));
       trace = congruent_of_eq P (poly f m) (trace F N P (poly f z) 1) (poly f t)
           (P.zero-add (power P.ring (poly f z) (N.size ^ 0)) ∙ ap (power P.ring (poly f z)) (pow-zero N.size)
           ∙ power_first P.ring (poly f z) ∙ ap (poly f) (sym et));
@@ -85,4 +86,4 @@ module _ (f : SmallField) where
     }
       where
         last : IsPowerModulo f m z (N.size ^ suc n) v
-        last = next_power m z w v n (h.power n refl) p
+        last = next_power m w v (poly f z) n (h.power n refl) p

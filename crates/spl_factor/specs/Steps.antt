@@ -50,6 +50,10 @@ module _ (f : SmallField) where
   abbrev pub IsPowerModulo : List ℕ → List ℕ → ℕ → List ℕ → Type 0
   IsPowerModulo m a n b = Congruent ring (poly m) (power ring.ring (poly a) n) (poly b)
 
+  -- b is x^(q^d), modulo m
+  abbrev pub IsVariablePower : List ℕ → ℕ → List ℕ → Type 0
+  IsVariablePower m d b = Congruent ring (poly m) (power ring.ring x ((let N = small_numbers f in N.size) ^ d)) (poly b)
+
   -- b is z + z^q + .. + z^(q^(d − 1)), modulo m
   abbrev pub IsTraceModulo : List ℕ → ℕ → List ℕ → List ℕ → Type 0
   IsTraceModulo m d z b = Congruent ring (poly m) (trace field (small_numbers f) ring (poly z) d) (poly b)

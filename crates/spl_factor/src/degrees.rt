@@ -1,13 +1,13 @@
 // Parts by the degree of their factors.
-ghost use Rattle.std.specs.Prelude.{◌≡◌, ◌≢◌, ℕ, suc, [], ◌∷◌, ◌<◌, ◌≤◌, ◌^◌, length, IfOk};
+ghost use Rattle.std.specs.Prelude.{◌≡◌, ◌≢◌, ℕ, suc, [], ◌∷◌, ◌<◌, ◌≤◌, length, IfOk};
 ghost use Rattle.theory_factors.specs.Parts.{HasDivisorsFrom};
 ghost use Rattle.theory_fractions.specs.PolynomialLists.{IsPolynomialList};
-ghost use Rattle.spl_field.specs.SmallField.{small_ops, size_of};
+ghost use Rattle.spl_field.specs.SmallField.{small_ops};
 ghost use Rattle.theory_rings.specs.Polynomial.{degree as degree_in};
 ghost use Rattle.theory_remainders.specs.Irreducible.{IsIrreducible};
 ghost use Rattle.spl_factor.specs.Factorisation.{AreFactors};
 ghost use Rattle.spl_factor.specs.Steps.{field, ring, poly, product, IsMonicList, IsPartList, IsWork, IsNext, DividesList};
-ghost use Rattle.spl_factor.specs.Steps.{IsPowerModulo};
+ghost use Rattle.spl_factor.specs.Steps.{IsVariablePower};
 
 use crate::gcd::{degree_of, gcd};
 use crate::powers::{less_variable, raised, variable};
@@ -55,7 +55,7 @@ fn take_degree(
     requires work { IsWork f.now work.rest work.list.items }
     requires divisors { HasDivisorsFrom (field f.now) (ring f.now) degree (poly f.now work.rest) }
     requires polynomial { IsPolynomialList (small_ops f.now) power.now }
-    requires power { IsPowerModulo f.now work.rest (0 ∷ 1 ∷ []) (size_of f.now ^ degree) power.now }
+    requires power { IsVariablePower f.now work.rest degree power.now }
     ensures next { IfOk result (λ w. IsNext f.now work.rest work.list.items w.rest w.list.items) }
     ensures divisors { IfOk result
         (λ w. HasDivisorsFrom (field f.now) (ring f.now) (suc degree) (poly f.now w.rest)) }
