@@ -1,15 +1,15 @@
 -- A factor that is put in its place.
-use Rattle.std.specs.Prelude.{◌≡◌, ◌≢◌, ℕ, zero, suc, ◌+◌, ◌<◌, ◌≤◌, List, [], ◌∷◌, length, get_or, insert}
+use Rattle.std.specs.Prelude.{◌≡◌, ◌≢◌, ℕ, zero, suc, ◌<◌, ◌≤◌, List, [], ◌∷◌, length, get_or, insert}
 use Rattle.std.specs.Cmp.{IsTotalOrder}
 use Rattle.std.specs.Ordering.{ordering_reverse}
 use Rattle.std.specs.declared.cmp.Ordering.{Ordering}
 use Rattle.std.specs.declared.cmp.Ordering.TheVariants.{Less, Equal, Greater}
-use Rattle.std.proofs.Common.{refl, sym, ◌∙◌, ap, ap₂, subst, arith}
+use Rattle.std.proofs.Common.{refl, sym, ◌∙◌, ap, subst, arith}
 use Rattle.theory_rings.specs.Ring.{FieldOn, CommRingOn}
 use Rattle.theory_rings.specs.Ops.{Ops}
 use Rattle.theory_rings.specs.Elements.{Elem}
 use Rattle.theory_rings.specs.Power.{power}
-use Rattle.theory_rings.specs.Polynomial.{Poly, degree}
+use Rattle.theory_rings.specs.Polynomial.{Poly}
 use Rattle.theory_rings.proofs.Rings.Solver.{◌⊠◌, ring3}
 use Rattle.theory_rings.proofs.Polynomials.Monic.{divides_trans}
 use Rattle.spl_field.specs.SmallField.{small_ops}

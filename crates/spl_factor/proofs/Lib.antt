@@ -4,3 +4,4 @@ pub mod Quotients
 pub mod Splits
 pub mod Insertion
 pub mod Parts
+pub mod Products

@@ -1,15 +1,13 @@
 -- The factors of a part, one after the other, and of one degree after the other.
-use Rattle.std.specs.Prelude.{◌≡◌, ◌≢◌, ℕ, zero, suc, ◌+◌, ◌*◌, ◌/◌, ◌^◌, ◌<◌, ◌≤◌, List, [], ◌∷◌, length}
+use Rattle.std.specs.Prelude.{◌≡◌, ℕ, zero, suc, ◌*◌, ◌/◌, ◌^◌, ◌<◌, ◌≤◌, List, [], ◌∷◌, length}
 use Rattle.std.proofs.Common.{refl, sym, ◌∙◌, ap, ap₂, subst, arith, ⊎_elim}
 use Rattle.std.proofs.lemmas.Bool.{cases_lt}
 use Rattle.theory_rings.specs.Ring.{FieldOn, CommRingOn}
 use Rattle.theory_rings.specs.Ops.{Ops, FieldLaws}
 use Rattle.theory_rings.specs.Elements.{Elem}
 use Rattle.theory_rings.specs.Enumerated.{Enumerated}
-use Rattle.theory_rings.specs.Power.{power}
-use Rattle.theory_rings.specs.Polynomial.{Poly, degree, lead, coefficient}
-use Rattle.theory_rings.specs.Division.{Divides, Congruent, IsCoprime}
-use Rattle.theory_rings.proofs.Rings.Solver.{◌⊞◌, ◌⊠◌, minus, ring3, ring4}
+use Rattle.theory_rings.specs.Polynomial.{Poly, degree, coefficient}
+use Rattle.theory_rings.proofs.Rings.Solver.{◌⊞◌, ◌⊠◌, minus, ring4}
 use Rattle.theory_rings.proofs.Polynomials.PolynomialRing.{constant}
 use Rattle.theory_rings.proofs.Polynomials.Constants.{constant-one}
 use Rattle.theory_rings.proofs.Polynomials.Degrees.{eq_constant}

@@ -1,14 +1,13 @@
 -- Quotients of monic polynomials, and division as often as it goes.
-use Rattle.std.specs.Prelude.{◌≡◌, ◌≢◌, ℕ, zero, suc, ◌+◌, ◌<◌, ◌≤◌, List, length}
-use Rattle.std.proofs.Common.{refl, sym, ◌∙◌, ap, ap₂, subst, arith}
+use Rattle.std.specs.Prelude.{◌≡◌, ◌≢◌, ℕ, suc, ◌+◌, ◌<◌, ◌≤◌, List, length}
+use Rattle.std.proofs.Common.{refl, sym, ◌∙◌, ap, subst, arith}
 use Rattle.theory_rings.specs.Ring.{FieldOn, CommRingOn}
 use Rattle.theory_rings.specs.Elements.{Elem}
 use Rattle.theory_rings.specs.Sum.{at}
 use Rattle.theory_rings.specs.Power.{power}
-use Rattle.theory_rings.specs.Polynomial.{Poly, degree, lead, IsMonic}
-use Rattle.theory_rings.specs.Division.{Divides}
+use Rattle.theory_rings.specs.Polynomial.{Poly, degree, lead}
 use Rattle.theory_rings.proofs.Rings.RingLaws.{left_ne_zero_of_mul}
-use Rattle.theory_rings.proofs.Rings.Solver.{◌⊞◌, ◌⊠◌, ring3}
+use Rattle.theory_rings.proofs.Rings.Solver.{◌⊠◌, ring3}
 use Rattle.theory_rings.proofs.Polynomials.Degrees.{length-degree_of_ne_zero, length_pos}
 use Rattle.theory_rings.proofs.Polynomials.Bezout.{field_lead-mul}
 use Rattle.theory_rings.proofs.Polynomials.Monic.{degrees_of_product}

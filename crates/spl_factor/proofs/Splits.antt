@@ -1,6 +1,6 @@
 -- Splitting a part: the trials of powers of x, and the greatest common divisors with t − c.
-use Rattle.std.specs.Prelude.{◌≡◌, ◌≢◌, ℕ, zero, suc, ◌+◌, ◌*◌, ◌<◌, ◌≤◌, List, [], ◌∷◌, length, ◌⊎◌}
-use Rattle.std.proofs.Common.{refl, sym, ◌∙◌, ap, ap₂, subst, arith, inl, inr, ⊎_elim}
+use Rattle.std.specs.Prelude.{◌≡◌, ◌≢◌, ℕ, suc, ◌*◌, ◌<◌, ◌≤◌, List, [], ◌∷◌, length}
+use Rattle.std.proofs.Common.{refl, sym, ◌∙◌, ap, ap₂, subst, arith, ⊎_elim}
 use Rattle.std.proofs.lemmas.Bool.{cases_lt, ltb-true}
 use Rattle.std.proofs.lemmas.List.Elements.{All-nil, All-cons}
 use Rattle.theory_rings.specs.Ring.{FieldOn, CommRingOn}
@@ -35,7 +35,7 @@ use Rattle.spl_field.specs.declared.small.SmallField.{SmallField}
 use Rattle.spl_residue.proofs.Numbers.{small_numbers}
 use Rattle.spl_factor.specs.Steps.{field, ring, poly, x, IsMonicList, IsMonicGcd, IsPartList, IsTraceModulo}
 use Rattle.spl_factor.specs.Steps.{IsFixedModulo}
-use Rattle.spl_factor.proofs.Quotients.{degree_poly, length_poly, length_monic, monic_nonzero}
+use Rattle.spl_factor.proofs.Quotients.{degree_poly, length_poly, length_monic}
 
 module _ (f : SmallField) where
   abbrev o : Ops ℕ
@@ -200,13 +200,11 @@ module _ (f : SmallField) where
         → ((1 ≤ degree h.0) × (degree h.0 < degree (poly f g).0) → ⊥)
 
     pub none_improper : AreImproper 0
-
     none_improper c l = absurd (omega arith)
 
     pub one_more_improper : (i : ℕ) (b h : List ℕ) → AreImproper i → IsElem o i
         → poly f b ≡ P.◌⊕◌ (poly f t) (P.neg (poly f (i ∷ [])))
         → IsMonicList f g → IsMonicGcd f g b h → ((1 < length h) × (length h < length g) → ⊥) → AreImproper (suc i)
-
     one_more_improper i b h before ei eb mg d improper c l w mw e = ⊎_elim
         (λ (k : c.0 < i). before c k w mw e)
         (λ (k : i ≤ c.0).
@@ -226,7 +224,6 @@ module _ (f : SmallField) where
 
     pub some_is_proper : (i : ℕ) → IsMonicList f g → Is t → IsFixedModulo f g t → 1 < length t → length t < length g
         → size_of f ≤ i → AreImproper i → ⊥
-
     some_is_proper i mg ht fixed low high past all =
         let h : (k : ℕ) → Poly F.cring = λ k. (monic_gcd F N (poly f g) (less F P (poly f t) (c_of (N.member k))) mg.monic).0 in
         let r = proper_gcd F N (poly f g) (poly f t) mg.monic fixed h

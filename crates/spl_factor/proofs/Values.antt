@@ -1,14 +1,14 @@
 -- What the calls of spl_poly answer, as polynomials: differences, remainders of powers, monic multiples, products.
-use Rattle.std.specs.Prelude.{◌≡◌, ◌≢◌, ℕ, zero, suc, ◌+◌, ◌^◌, ◌<◌, ◌≤◌, List, [], ◌∷◌, length, get_or}
+use Rattle.std.specs.Prelude.{◌≡◌, ◌≢◌, ℕ, zero, suc, ◌<◌, List, [], ◌∷◌, length, get_or}
 use Rattle.std.proofs.Common.{refl, sym, ◌∙◌, ap, ap₂, subst, arith}
 use Rattle.std.proofs.lemmas.Bool.{lt-ltb}
 use Rattle.std.proofs.lemmas.List.Elements.{All-nil, All-cons}
 use Rattle.theory_rings.specs.Ring.{FieldOn, CommRingOn}
 use Rattle.theory_rings.specs.Ops.{Ops, IsElem, FieldLaws}
-use Rattle.theory_rings.specs.Elements.{Elem, elements}
+use Rattle.theory_rings.specs.Elements.{Elem}
 use Rattle.theory_rings.specs.Sum.{at}
 use Rattle.theory_rings.specs.Power.{power}
-use Rattle.theory_rings.specs.Polynomial.{Poly, degree, lead, coefficient, IsMonic}
+use Rattle.theory_rings.specs.Polynomial.{Poly, degree, lead}
 use Rattle.theory_rings.specs.Division.{Divides, Congruent, IsGcd}
 use Rattle.theory_rings.proofs.Polynomials.PolynomialRing.{constant}
 use Rattle.theory_rings.proofs.Polynomials.Constants.{coefficient-constant_mul}
@@ -19,7 +19,7 @@ use Rattle.theory_rings.proofs.Polynomials.Irreducible.{degree_le_of_divides}
 use Rattle.theory_rings.proofs.Rings.RingLaws.{add-zero, neg_zero}
 use Rattle.theory_rings.proofs.Rings.Solver.{◌⊞◌, ◌⊠◌, minus, ring2, ring3}
 use Rattle.theory_fractions.proofs.FractionField.{polynomial_of-nil}
-use Rattle.theory_fractions.specs.PolynomialLists.{IsOver, IsSum, IsProduct, IsDivision, IsPolynomialList}
+use Rattle.theory_fractions.specs.PolynomialLists.{IsOver, IsSum, IsDivision, IsPolynomialList}
 use Rattle.theory_fractions.proofs.Lifting.{eq_of_coefficients}
 use Rattle.theory_fractions.proofs.ListPolynomials.{has_polynomial_of, has_neg, length-polynomial_of}
 use Rattle.theory_fractions.proofs.LowestTerms.{lead_value}

@@ -1,8 +1,7 @@
 -- What the steps of a factorisation say, of polynomials over a small field.
-use Rattle.std.specs.Prelude.{◌≡◌, ℕ, ◌^◌, ◌<◌, ◌≤◌, List, [], ◌∷◌}
+use Rattle.std.specs.Prelude.{◌≡◌, ℕ, ◌^◌, List, [], ◌∷◌}
 use Rattle.theory_rings.specs.Ring.{FieldOn, CommRingOn}
 use Rattle.theory_rings.specs.Elements.{Elem, elements}
-use Rattle.theory_rings.specs.Enumerated.{Enumerated}
 use Rattle.theory_rings.specs.Power.{power}
 use Rattle.theory_rings.specs.Polynomial.{Poly, IsMonic}
 use Rattle.theory_rings.specs.Division.{Divides, Congruent, IsGcd}
@@ -12,7 +11,7 @@ use Rattle.theory_fractions.specs.PolynomialLists.{IsPolynomialList}
 use Rattle.theory_fractions.specs.FractionOps.{polynomial_of}
 use Rattle.theory_factors.specs.FactorLaws.{power_less}
 use Rattle.theory_factors.specs.Parts.{IsPart, trace}
-use Rattle.spl_field.specs.SmallField.{small_ops, small_laws, size_of}
+use Rattle.spl_field.specs.SmallField.{small_ops, small_laws}
 use Rattle.spl_field.specs.declared.small.SmallField.{SmallField}
 use Rattle.spl_residue.proofs.Numbers.{small_numbers}
 use Rattle.spl_factor.specs.Factorisation.{Powers, AreFactors}

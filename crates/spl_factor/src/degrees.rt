@@ -12,7 +12,7 @@ ghost use Rattle.spl_factor.specs.Steps.{IsVariablePower};
 use crate::gcd::{degree_of, gcd};
 use crate::powers::{less_variable, raised, variable};
 use crate::splitting::proper_factor;
-use crate::work::{take, Work};
+use crate::work::{Work, take};
 use spl_field::field::NoMemory;
 use spl_field::small::SmallField;
 use spl_poly::poly::Poly;

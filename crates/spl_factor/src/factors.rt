@@ -1,7 +1,7 @@
 // Factorisations.
 ghost use Rattle.std.specs.Prelude.{◌≡◌, ◌≢◌, [], IfOk, slice_index};
 ghost use Rattle.theory_rings.specs.Sum.{at};
-ghost use Rattle.theory_rings.specs.Polynomial.{degree};
+ghost use Rattle.theory_rings.specs.Polynomial.{degree, IsTrimmed};
 ghost use Rattle.spl_field.specs.SmallField.{small_ops};
 ghost use Rattle.spl_poly.specs.Operations.{IsOver};
 ghost use Rattle.spl_factor.specs.Factorisation.{AreFactors, IsMultipleOfProduct};
@@ -27,8 +27,10 @@ pub struct Factors {
 /// The leading coefficient.
 fn leading_of(a: &Poly) -> u8
     requires { a.now ≢ [] }
-    ensures { result ≡ slice_index a.now (degree a.now) }
+    ensures value { result ≡ slice_index a.now (degree a.now) }
+    ensures trimmed { IsTrimmed 0 a.now }
 {
+    let _ = a.degree();
     let coefficients = a.as_slice();
     coefficients[coefficients.len() - 1]
 }

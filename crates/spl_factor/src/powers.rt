@@ -46,12 +46,7 @@ pub(crate) fn less_constant(
 }
 
 /// The q-th power modulo m, for a field of q elements.
-pub(crate) fn raised(
-    alloc: Global,
-    f: &SmallField,
-    a: &Poly,
-    m: &Poly,
-) -> Result<Poly, NoMemory>
+pub(crate) fn raised(alloc: Global, f: &SmallField, a: &Poly, m: &Poly) -> Result<Poly, NoMemory>
     requires polynomial { IsPolynomialList (small_ops f.now) a.now }
     requires modulus { IsPolynomialList (small_ops f.now) m.now }
     requires positive { 1 < length m.now }

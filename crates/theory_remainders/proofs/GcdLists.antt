@@ -6,9 +6,9 @@ use Rattle.theory_rings.specs.Ops.{Ops, FieldLaws}
 use Rattle.theory_rings.specs.Elements.{Elem, Elem-path, elements}
 use Rattle.theory_rings.specs.Sum.{at}
 use Rattle.theory_rings.specs.Polynomial.{Poly, degree, lead, IsMonic}
-use Rattle.theory_rings.specs.Division.{Divides, IsGcd}
+use Rattle.theory_rings.specs.Division.{IsGcd}
 use Rattle.theory_rings.proofs.Rings.RingLaws.{zero-mul}
-use Rattle.theory_rings.proofs.Rings.Solver.{◌⊞◌, ◌⊠◌, minus, nil, unit, ring1, ring2, ring4, ring5, by_sorted, v0, v1, v2, v3}
+use Rattle.theory_rings.proofs.Rings.Solver.{◌⊞◌, ◌⊠◌, minus, nil, unit, ring2, ring4, ring5}
 use Rattle.theory_rings.proofs.Polynomials.Bezout.{field_polynomials}
 use Rattle.theory_fractions.specs.PolynomialLists.{IsOver, IsDivision, IsPolynomialList}
 use Rattle.theory_fractions.specs.FractionOps.{polynomial_of}

@@ -1,9 +1,8 @@
-use Rattle.std.proofs.Common.{◌≡◌, ◌≤◌, ◌<◌, subst, arith, length}
+use Rattle.std.proofs.Common.{◌<◌, subst, arith, length}
 use Rattle.theory_fractions.specs.PolynomialLists.{IsPolynomialList}
 use Rattle.spl_field.specs.SmallField.{small_ops}
 use Rattle.spl_factor.proofs.Parts.{part_irreducible, part_of_divisor, quotient_part, quotient_not_constant}
 use Rattle.spl_factor.proofs.Parts.{quotient_shorter, next_trans, next_shorter}
-use Rattle.spl_factor.proofs.Quotients.{monic_part}
 use Rattle.theory_rings.proofs.Polynomials.Monic.{divides_trans}
 use Rattle.spl_factor.specs.Steps.{field, poly}
 use Rattle.spl_factor.proofs.degrees.+take_part.Goals as goal
@@ -17,10 +16,17 @@ take-requires-clause-irreducible t c =
 
 pub take_part-requires : goal.take_part-requires
 take_part-requires t c =
-    let h = c.in_ok-factor in
-    (subst (λ n. length h.factor < n) c.decreases h.ensures.smaller,
-    (c.requires.degree, (part_of_divisor c.args.f.now c.args.degree c.args.g h.factor c.requires.part h.ensures.list
-    h.ensures.divides, (h.ensures.not_constant, c.requires.work))))
+    let h = c.in_ok-factor in (
+      subst (λ n. length h.factor < n) c.decreases h.ensures.smaller,
+      (
+        c.requires.degree,
+        (
+          part_of_divisor c.args.f.now c.args.degree c.args.g h.factor c.requires.part h.ensures.list
+              h.ensures.divides,
+          (h.ensures.not_constant, c.requires.work),
+        ),
+      ),
+    )
 
 pub take_part-requires-2 : goal.take_part-requires-2
 take_part-requires-2 t c =
@@ -31,14 +37,23 @@ take_part-requires-2 t c =
     let hq : IsPolynomialList (small_ops f) q.field-0.quotient =
     record { over = q.ensures.quotient_over; trimmed = q.ensures.quotient_trimmed } in
     let hr : IsPolynomialList (small_ops f) q.field-0.remainder =
-    record { over = q.ensures.remainder_over; trimmed = q.ensures.remainder_trimmed } in
-    (subst (λ n. length q.field-0.quotient < n) c.decreases
-    (quotient_shorter f c.args.degree c.args.g h.factor q.field-0.quotient q.field-0.remainder c.requires.part
-    h.ensures.list h.ensures.divides h.ensures.smaller hq hr q.ensures.value h.ensures.not_constant),
-    (c.requires.degree, (quotient_part f c.args.degree c.args.g h.factor q.field-0.quotient q.field-0.remainder
-    c.requires.part h.ensures.list h.ensures.divides h.ensures.smaller hq hr q.ensures.value,
-    (quotient_not_constant f c.args.degree c.args.g h.factor q.field-0.quotient q.field-0.remainder
-    c.requires.part h.ensures.list h.ensures.divides h.ensures.smaller hq hr q.ensures.value, n.work))))
+    record { over = q.ensures.remainder_over; trimmed = q.ensures.remainder_trimmed } in (
+      subst (λ n. length q.field-0.quotient < n) c.decreases
+          (quotient_shorter f c.args.degree c.args.g h.factor q.field-0.quotient q.field-0.remainder c.requires.part
+          h.ensures.list h.ensures.divides h.ensures.smaller hq hr q.ensures.value h.ensures.not_constant),
+      (
+        c.requires.degree,
+        (
+          quotient_part f c.args.degree c.args.g h.factor q.field-0.quotient q.field-0.remainder
+              c.requires.part h.ensures.list h.ensures.divides h.ensures.smaller hq hr q.ensures.value,
+          (
+            quotient_not_constant f c.args.degree c.args.g h.factor q.field-0.quotient q.field-0.remainder
+                c.requires.part h.ensures.list h.ensures.divides h.ensures.smaller hq hr q.ensures.value,
+            n.work,
+          ),
+        ),
+      ),
+    )
 
 pub returns-clause-next : goal.returns-clause-next
 returns-clause-next t c =

@@ -1,6 +1,6 @@
-use Rattle.std.proofs.Common.{◌≡◌, ◌≤◌, ◌+◌, suc, refl, arith, length}
+use Rattle.std.proofs.Common.{◌≡◌, ◌+◌, suc, arith}
 use Rattle.spl_factor.proofs.Quotients.{length_monic}
-use Rattle.spl_factor.proofs.Parts.{IsAtDegree, at_degree_one, at_next_degree, power_at_degree, next_shorter}
+use Rattle.spl_factor.proofs.Parts.{at_degree_one, at_next_degree, power_at_degree, next_shorter}
 use Rattle.spl_factor.proofs.Parts.{irreducible_of_divisors}
 use Rattle.spl_factor.proofs.degrees.split_by_degrees.Goals as goal
 

@@ -1,4 +1,4 @@
-use Rattle.std.proofs.Common.{◌≤◌, arith, length, ap}
+use Rattle.std.proofs.Common.{arith, length, ap}
 use Rattle.theory_factors.proofs.Parts.{divisors_of_divisor}
 use Rattle.spl_factor.specs.Steps.{field, poly}
 use Rattle.spl_factor.proofs.Parts.{next_self, next_trans, power_of_divisor, gcd_part, no_more_divisors}

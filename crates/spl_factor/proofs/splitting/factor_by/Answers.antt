@@ -1,4 +1,4 @@
-use Rattle.std.proofs.Common.{subst, sym, ◌∙◌, arith, ◌≡◌, ◌≤◌, ◌+◌, suc}
+use Rattle.std.proofs.Common.{subst, arith, ◌≡◌, ◌+◌, suc}
 use Rattle.spl_factor.proofs.Splits.{AreImproper, none_improper, one_more_improper, some_is_proper}
 use Rattle.spl_factor.proofs.Values.{elem_of}
 use Rattle.spl_factor.proofs.splitting.factor_by.Goals as goal

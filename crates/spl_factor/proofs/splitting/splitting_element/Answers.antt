@@ -1,5 +1,4 @@
-use Rattle.std.proofs.Common.{subst, arith, ◌≡◌, ◌≤◌, ◌<◌, ◌+◌, suc, length, ap}
-use Rattle.theory_rings.specs.Polynomial.{degree}
+use Rattle.std.proofs.Common.{subst, arith, ◌≡◌, ◌+◌, suc, length, ap}
 use Rattle.spl_factor.proofs.Quotients.{length_part}
 use Rattle.spl_factor.proofs.Splits.{AreTried, none_tried, one_more_tried, not_all_tried, trace_fixed_modulo}
 use Rattle.spl_factor.proofs.splitting.splitting_element.Goals as goal

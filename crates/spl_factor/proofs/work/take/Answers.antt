@@ -1,4 +1,4 @@
-use Rattle.std.proofs.Common.{ℕ, List, ◌≡◌, ◌≢◌, ◌<◌, ◌≤◌, subst, sym, ap, arith, length, insert, slice_index_or}
+use Rattle.std.proofs.Common.{ℕ, List, ◌≡◌, ◌≢◌, ◌<◌, ◌≤◌, subst, sym, arith, length, slice_index_or}
 use Rattle.std.specs.declared.cmp.Ordering.TheVariants.{Less}
 use Rattle.spl_poly.specs.Order.{poly_cmp}
 use Rattle.spl_factor.specs.Factorisation.{Powers}
