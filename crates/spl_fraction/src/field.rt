@@ -1,14 +1,18 @@
 // The field of fractions.
 ghost use Rattle.std.specs.Prelude.{◌≡◌, ◌≢◌, ◌↔◌, ℕ, List, [], ◌∷◌, ◌++◌, Some, IfOk, IfSome, IsTrue, MatchOption};
 ghost use Rattle.std.specs.Prelude.{OnOk, OnErr};
+ghost use Rattle.std.specs.Prelude.{All};
 ghost use Rattle.theory_rings.specs.Ops.{IsElem};
+ghost use Rattle.theory_rings.specs.Polynomial.{IsTrimmed};
 ghost use Rattle.spl_field.specs.SmallField.{small_ops, characteristic, modulus_of};
 ghost use Rattle.spl_poly.specs.Operations.{IsOver};
 ghost use Rattle.theory_fractions.specs.Fraction.{Pair, IsLowestTerms, IsFraction, IsFractionSum, IsFractionProduct};
 ghost use Rattle.theory_fractions.specs.Fraction.{IsFractionNegative, IsFractionInverse};
+ghost use Rattle.theory_fractions.specs.CommonDenominator.{IsCommonDenominator};
 ghost use Rattle.spl_fraction.specs.FractionsOver.{fractions_over, fractions_laws};
 
 use crate::arithmetic::{are_same, copy_of, inverse_of, negative_of, product_of, sum_of};
+use crate::denominator::denominator_of;
 use crate::fraction::Fraction;
 use crate::reading::fraction_of_text;
 use crate::reduction::{one_poly, reduced};
@@ -148,6 +152,17 @@ impl Fractions {
         let num = num.copy(alloc, &self.field)?;
         let den = den.copy(alloc, &self.field)?;
         Ok(Some(reduced(alloc, &self.field, num, den)?))
+    }
+
+    /// The monic polynomial of least degree that makes each of the list a polynomial: it divides each other with this
+    /// property. The one fault is want of memory.
+    pub fn common_denominator(&self, alloc: Global, list: &[Fraction]) -> Result<Poly, NoMemory>
+        requires { All (IsElem (fractions_over (field_of self.now))) list.now }
+        ensures value { IfOk result (IsCommonDenominator (small_ops (field_of self.now)) list.now) }
+        ensures over { IfOk result (IsOver (small_ops (field_of self.now))) }
+        ensures trimmed { IfOk result (IsTrimmed 0) }
+    {
+        denominator_of(alloc, &self.field, list)
     }
 
     /// The fraction whose canonical text this is; None exactly where it is that of none. The one fault is want of

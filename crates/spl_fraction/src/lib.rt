@@ -5,6 +5,7 @@
 #![tactic(auto)]
 
 mod arithmetic;
+mod denominator;
 pub mod field;
 pub mod fraction;
 pub mod laws;

@@ -3,7 +3,7 @@ ghost use Rattle.std.specs.Prelude.{◌≡◌, ◌≢◌, ◌↔◌, ◌⊎◌, 
 ghost use Rattle.theory_rings.specs.Ops.{Ops, IsElem};
 ghost use Rattle.theory_rings.specs.Polynomial.{IsTrimmed, degree};
 ghost use Rattle.spl_field.specs.SmallField.{small_ops};
-ghost use Rattle.spl_poly.specs.Operations.{IsOver, IsProduct};
+ghost use Rattle.spl_poly.specs.Operations.{IsOver, IsProduct, IsZeroOrMonic};
 ghost use Rattle.theory_fractions.specs.Fraction.{IsFraction, IsCoprime, IsLowestTerms};
 ghost use Rattle.theory_fractions.specs.CommonDivisor.{IsCommonDivisor};
 
@@ -116,6 +116,7 @@ pub(crate) fn common_divisor(
     requires a_over { IsOver (small_ops f.now) a.now }
     requires b_over { IsOver (small_ops f.now) b.now }
     ensures divisor { IfOk result (IsCommonDivisor (small_ops f.now) a.now b.now) }
+    ensures monic { IfOk result (IsZeroOrMonic (small_ops f.now)) }
     ensures over { IfOk result (IsOver (small_ops f.now)) }
     ensures trimmed { IfOk result (IsTrimmed 0) }
 {

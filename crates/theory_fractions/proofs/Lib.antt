@@ -12,3 +12,5 @@ pub mod SumsOfFractions
 pub mod ProductsOfFractions
 pub mod ElementClauses
 pub mod RationalFractions
+pub mod CommonDenominators
+pub mod PolynomialFractions

@@ -287,7 +287,7 @@ module _ {E : Type 0} (o : Ops E) (L : FieldLaws o) where
       c = constant F.cring F.zero_test (F.inv (lead F.cring (poly g)))
 
   -- the quotient by a divisor that is not 0 leaves no remainder
-  exact_quotient : (a g q r : List E) → Is a → Is g → Is q → Is r → g ≢ [] → Divides o g a → IsDivision o a g q r
+  pub exact_quotient : (a g q r : List E) → Is a → Is g → Is q → Is r → g ≢ [] → Divides o g a → IsDivision o a g q r
       → poly a ≡ P.◌⊗◌ (poly q) (poly g)
   exact_quotient a g q r ha hg hq hr n d e = c.1 ∙ ap (λ x. P.◌⊗◌ x (poly g)) (sym same.0)
     where
