@@ -173,4 +173,5 @@ def main():
     write_evidence(evidence, n, maps, units)
 
 
-main()
+if __name__ == "__main__":
+    main()
