@@ -47,9 +47,9 @@ fn read<S: Source>(
     match source.read(&mut buf[..size]) {
         Ok(n) => {
             bytes.extend_from_slice(&buf[..n])?;
-            Ok(show::count(out, n)?)
+            show::count(out, n)
         }
-        Err(_) => Ok(show::word(out, "failed")?),
+        Err(_) => show::word(out, "failed"),
     }
 }
 
@@ -65,7 +65,7 @@ fn reads<S: Source>(
     for size in sizes.as_slice() {
         read(source, *size as usize, &mut bytes, out)?;
     }
-    Ok(show::text(out, bytes.as_slice())?)
+    show::text(out, bytes.as_slice())
 }
 
 /// `read TEXT MOST FAILING SIZES`
@@ -101,14 +101,14 @@ fn writes<K: Sink>(
 fn write_memory(alloc: Global, words: [&str; 4], out: &mut Vec<u8>) -> Result<(), Fault> {
     let mut sink = sink(alloc, words[0], words[1], words[2])?;
     writes(alloc, &mut sink, words[3], out)?;
-    Ok(show::text(out, sink.bytes())?)
+    show::text(out, sink.bytes())
 }
 
 /// `write PIECES`: to a stream of std.
 fn write_stream(alloc: Global, pieces: &str, out: &mut Vec<u8>) -> Result<(), Fault> {
     let mut sink = StdSink::new(Vec::new(alloc));
     writes(alloc, &mut sink, pieces, out)?;
-    Ok(show::text(out, sink.into_inner().as_slice())?)
+    show::text(out, sink.into_inner().as_slice())
 }
 
 /// `write_whole ROOM MOST FAILING TEXT`: `whole` or `failed`, how many bytes are written, and these.
@@ -117,7 +117,7 @@ fn whole_memory(alloc: Global, words: [&str; 4], out: &mut Vec<u8>) -> Result<()
     let is_whole = write_whole(&mut sink, texts::bytes_of(alloc, words[3])?.as_slice()).is_ok();
     show::word(out, if is_whole { "whole" } else { "failed" })?;
     show::count(out, sink.bytes().len())?;
-    Ok(show::text(out, sink.bytes())?)
+    show::text(out, sink.bytes())
 }
 
 /// `write_whole TEXT`: to a stream of std.
@@ -125,7 +125,7 @@ fn whole_stream(alloc: Global, text: &str, out: &mut Vec<u8>) -> Result<(), Faul
     let mut sink = StdSink::new(Vec::new(alloc));
     let is_whole = write_whole(&mut sink, texts::bytes_of(alloc, text)?.as_slice()).is_ok();
     show::word(out, if is_whole { "whole" } else { "failed" })?;
-    Ok(show::text(out, sink.into_inner().as_slice())?)
+    show::text(out, sink.into_inner().as_slice())
 }
 
 /// The answer of a call of a source or a sink in memory.

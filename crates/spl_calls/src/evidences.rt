@@ -1,8 +1,11 @@
 // The texts of evidence over the fractions.
-ghost use Rattle.std.specs.Prelude.{◌≡◌, ◌≤◌, ◌*◌, length, IfOk, All};
+ghost use Rattle.std.specs.Prelude.{◌≡◌, ◌≤◌, ◌*◌, ℕ, length, IfOk, All};
 ghost use Rattle.theory_spaces.specs.Tuples.{IsTuple};
 ghost use Rattle.spl_fraction.specs.Fractions.{field_of};
 ghost use Rattle.spl_fraction.specs.FractionsOver.{fractions_over};
+ghost use Rattle.theory_rings.specs.Ops.{Ops};
+ghost use Rattle.theory_fractions.specs.Fraction.{Pair};
+ghost use Rattle.spl_evidence.specs.Evidence.{Fits};
 ghost use Rattle.theory_tables.specs.Claims.{AreMultipliers};
 
 use spl_evidence::evidence::Evidence;
@@ -44,22 +47,15 @@ fn multiplier(
 }
 
 /// `triple N I J K`
-fn triple(
-    alloc: Global,
-    k: &Fractions,
-    n: usize,
-    places: [&str; 3],
-    out: &mut Vec<u8>,
-) -> Result<(), Fault>
-    requires low { 2 ≤ n }
+fn triple(n: usize, i: &str, j: &str, k: &str) -> Result<Evidence, Fault>
     requires high { n ≤ 5 }
+    ensures { (o : Ops (Pair ℕ)) → IfOk result (Fits o n) }
 {
-    let e = Evidence::Triple {
-        i: args::positive(places[0], n * n)?,
-        j: args::positive(places[1], n * n)?,
-        k: args::positive(places[2], n * n)?,
-    };
-    Ok(show::text(out, write_evidence(alloc, k, n, &e)?.as_slice())?)
+    Ok(Evidence::Triple {
+        i: args::positive(i, n * n)?,
+        j: args::positive(j, n * n)?,
+        k: args::positive(k, n * n)?,
+    })
 }
 
 /// `noidentity N J K J K`: the multiplier 1 at one pair of the left equations and one of the right.
@@ -67,54 +63,63 @@ fn noidentity(
     alloc: Global,
     k: &Fractions,
     n: usize,
-    pairs: [&str; 4],
-    out: &mut Vec<u8>,
-) -> Result<(), Fault>
-    requires low { 2 ≤ n }
+    left: [&str; 2],
+    right: [&str; 2],
+) -> Result<Evidence, Fault>
     requires high { n ≤ 5 }
+    ensures { IfOk result (Fits (fractions_over (field_of k.now)) n) }
 {
-    let e = Evidence::NoIdentity {
-        left: multiplier(alloc, k, n * n, [pairs[0], pairs[1]])?,
-        right: multiplier(alloc, k, n * n, [pairs[2], pairs[3]])?,
-    };
-    Ok(show::text(out, write_evidence(alloc, k, n, &e)?.as_slice())?)
+    let left = multiplier(alloc, k, n * n, left)?;
+    let right = multiplier(alloc, k, n * n, right)?;
+    Ok(Evidence::NoIdentity { left, right })
 }
 
 /// `central N V`
-fn central(
-    alloc: Global,
-    k: &Fractions,
-    n: usize,
-    tuple: &str,
-    out: &mut Vec<u8>,
-) -> Result<(), Fault>
-    requires low { 2 ≤ n }
+fn central(alloc: Global, k: &Fractions, n: usize, tuple: &str) -> Result<Evidence, Fault>
     requires high { n ≤ 5 }
+    ensures { IfOk result (Fits (fractions_over (field_of k.now)) n) }
 {
-    let e = Evidence::Central {
-        tuple: lists::tuple(alloc, k, n * n, tuple)?,
-    };
-    Ok(show::text(out, write_evidence(alloc, k, n, &e)?.as_slice())?)
+    let tuple = lists::tuple(alloc, k, n * n, tuple)?;
+    Ok(Evidence::Central { tuple })
 }
 
 /// `ideal N M`
-fn ideal(alloc: Global, k: &Fractions, n: usize, rows: &str, out: &mut Vec<u8>) -> Result<(), Fault>
-    requires low { 2 ≤ n }
+fn ideal(alloc: Global, k: &Fractions, n: usize, rows: &str) -> Result<Evidence, Fault>
     requires high { n ≤ 5 }
+    ensures { IfOk result (Fits (fractions_over (field_of k.now)) n) }
 {
     let tuples = tuples(alloc, k, n * n, rows)?;
     if tuples.len() == 0 || tuples.len() >= n * n {
         return Err(Fault::BadLine);
     }
-    let e = Evidence::Ideal { tuples };
-    Ok(show::text(out, write_evidence(alloc, k, n, &e)?.as_slice())?)
+    Ok(Evidence::Ideal { tuples })
+}
+
+/// The evidence of a kind on an algebra of degree n.
+fn evidence(
+    alloc: Global,
+    k: &Fractions,
+    n: usize,
+    kind: &str,
+    words: &[&str],
+) -> Result<Evidence, Fault>
+    requires high { n ≤ 5 }
+    ensures { IfOk result (Fits (fractions_over (field_of k.now)) n) }
+{
+    match (kind, words) {
+        ("triple", [i, j, l]) => triple(n, i, j, l),
+        ("noidentity", [a, b, c, d]) => noidentity(alloc, k, n, [*a, *b], [*c, *d]),
+        ("central", [tuple]) => central(alloc, k, n, tuple),
+        ("ideal", [rows]) => ideal(alloc, k, n, rows),
+        _ => Err(Fault::BadLine),
+    }
 }
 
 /// The text of evidence for an algebra of degree N.
 pub(crate) fn call(
     alloc: Global,
     k: &Fractions,
-    call: &str,
+    kind: &str,
     words: &[&str],
     out: &mut Vec<u8>,
 ) -> Result<(), Fault> {
@@ -125,11 +130,6 @@ pub(crate) fn call(
     if n < 2 {
         return Err(Fault::BadLine);
     }
-    match (call, rest) {
-        ("triple", [i, j, l]) => triple(alloc, k, n, [*i, *j, *l], out),
-        ("noidentity", [a, b, c, d]) => noidentity(alloc, k, n, [*a, *b, *c, *d], out),
-        ("central", [tuple]) => central(alloc, k, n, tuple, out),
-        ("ideal", [rows]) => ideal(alloc, k, n, rows, out),
-        _ => Err(Fault::BadLine),
-    }
+    let e = evidence(alloc, k, n, kind, rest)?;
+    show::text(out, write_evidence(alloc, k, n, &e)?.as_slice())
 }

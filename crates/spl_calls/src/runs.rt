@@ -44,7 +44,7 @@ fn over_memory(alloc: Global, words: &[&str; 7], out: &mut Vec<u8>) -> Result<()
     show::number(out, u32::from(status.code()))?;
     let rest = left(&mut source, text.len());
     show::count(out, text.len().saturating_sub(rest))?;
-    Ok(show::text(out, sink.bytes())?)
+    show::text(out, sink.bytes())
 }
 
 /// `run WORDS TEXT`: over std's streams, which take and give all that is asked: the status, and what is written.
@@ -55,7 +55,7 @@ fn over_streams(alloc: Global, joined: &str, text: &str, out: &mut Vec<u8>) -> R
     let mut sink = StdSink::new(Vec::new(alloc));
     let status = run(alloc, &words, &mut source, &mut sink);
     show::number(out, u32::from(status.code()))?;
-    Ok(show::text(out, sink.into_inner().as_slice())?)
+    show::text(out, sink.into_inner().as_slice())
 }
 
 /// The answer of a run.

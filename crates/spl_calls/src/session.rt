@@ -5,7 +5,7 @@ use spl_fraction::field::Fractions;
 use spl_words::fault::Fault;
 use spl_words::residues::over_residues;
 use spl_words::{args, calls, laws, polynomials, show, small, texts};
-use std::alloc::{AllocError, Global};
+use std::alloc::Global;
 
 /// The most letters of what a name stands for.
 const MOST: usize = 67108864;
@@ -229,6 +229,15 @@ impl<'a> Session<'a> {
         }
     }
 
+    /// The answer to the line.
+    fn line(&mut self, alloc: Global, line: &'a str, out: &mut Vec<u8>) -> Result<(), Fault> {
+        if line.is_empty() || line.starts_with('#') {
+            return show::word(out, line);
+        }
+        let (word, rest) = line.split_once(' ').unwrap_or((line, ""));
+        self.word(alloc, word, rest, out)
+    }
+
     /// Appends the answer to the line, which is the line itself where it is empty or begins with `#`, and `bad line`
     /// where there is no other.
     pub(crate) fn answer(
@@ -236,23 +245,13 @@ impl<'a> Session<'a> {
         alloc: Global,
         line: &'a str,
         out: &mut Vec<u8>,
-    ) -> Result<(), NoMemory> {
+    ) -> Result<(), Fault> {
         let mut answer = Vec::new(alloc);
-        let found = if line.is_empty() || line.starts_with('#') {
-            Ok(show::word(&mut answer, line)?)
-        } else {
-            let (word, rest) = line.split_once(' ').unwrap_or((line, ""));
-            self.word(alloc, word, rest, &mut answer)
-        };
-        match found {
-            Ok(()) => {}
-            Err(Fault::Memory(_)) => return Err(NoMemory::from(AllocError)),
-            Err(Fault::BadLine) => {
-                answer.clear();
-                show::word(&mut answer, "bad line")?;
-            }
+        match self.line(alloc, line, &mut answer) {
+            Ok(()) => out.extend_from_slice(answer.as_slice())?,
+            Err(Fault::BadLine) => out.extend_from_slice(b"bad line")?,
+            Err(Fault::Memory(e)) => return Err(Fault::Memory(e)),
         }
-        out.extend_from_slice(answer.as_slice())?;
         out.push(b'\n')?;
         Ok(())
     }

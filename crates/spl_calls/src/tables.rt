@@ -43,7 +43,7 @@ fn refusal(out: &mut Vec<u8>, refusal: Refusal) -> Result<(), Fault> {
     show::number(out, refusal.line)?;
     show::word(out, name(refusal.kind))?;
     match refusal.kind {
-        Kind::FieldLaw { element } => Ok(show::number(out, u32::from(element))?),
+        Kind::FieldLaw { element } => show::number(out, u32::from(element)),
         _ => Ok(()),
     }
 }
@@ -51,24 +51,19 @@ fn refusal(out: &mut Vec<u8>, refusal: Refusal) -> Result<(), Fault> {
 /// `first_failed_triple T`
 fn triple(alloc: Global, table: &Table, out: &mut Vec<u8>) -> Result<(), Fault> {
     match first_failed_triple(alloc, table)? {
-        None => Ok(show::word(out, "none")?),
+        None => show::word(out, "none"),
         Some(t) => {
             show::count(out, t.i)?;
             show::count(out, t.j)?;
-            Ok(show::count(out, t.k)?)
+            show::count(out, t.k)
         }
     }
 }
 
 /// `identity_or_refutation T`
 fn identity(alloc: Global, table: &Table, out: &mut Vec<u8>) -> Result<(), Fault> {
-    match identity_or_refutation(alloc, table.fractions(), table.algebra())? {
-        One::Refuted { .. } => Ok(show::word(out, "refuted")?),
-        One::Here { tuple } => {
-            show::word(out, "here")?;
-            Ok(show::vector(alloc, out, table.fractions(), tuple.as_slice())?)
-        }
-    }
+    let one = identity_or_refutation(alloc, table.fractions(), table.algebra())?;
+    algebras::one(alloc, table.fractions(), table.algebra(), one, out)
 }
 
 /// `read_table T`: the field, the degree and the products of basis elements.
@@ -84,8 +79,8 @@ fn radical(alloc: Global, table: &Table, out: &mut Vec<u8>) -> Result<(), Fault>
     requires identity { HasIdentity (ops_of table.now) (algebra_of table.now) }
 {
     match trace_ideal(alloc, table.fractions(), table.algebra())? {
-        Some(tuples) => Ok(show::count(out, tuples.len())?),
-        None => Ok(show::word(out, "none")?),
+        Some(tuples) => show::count(out, tuples.len()),
+        None => show::word(out, "none"),
     }
 }
 
@@ -102,40 +97,40 @@ fn faults_with_identity(alloc: Global, table: &Table, out: &mut Vec<u8>) -> Resu
 /// `faults T`: `central` or `none`, and how many tuples `trace_ideal` has, or `none`.
 fn faults(alloc: Global, table: &Table, out: &mut Vec<u8>) -> Result<(), Fault> {
     match first_failed_triple(alloc, table)? {
-        Some(_) => Ok(show::word(out, "not associative")?),
+        Some(_) => show::word(out, "not associative"),
         None => match identity_or_refutation(alloc, table.fractions(), table.algebra())? {
-            One::Refuted { .. } => Ok(show::word(out, "no identity")?),
+            One::Refuted { .. } => show::word(out, "no identity"),
             One::Here { .. } => faults_with_identity(alloc, table, out),
         },
     }
 }
 
 /// The kind of the evidence, and how much of it there is.
-fn evidence(out: &mut Vec<u8>, evidence: Evidence) -> Result<(), Fault> {
+fn evidence(out: &mut Vec<u8>, evidence: &Evidence) -> Result<(), Fault> {
     match evidence {
         Evidence::Triple { i, j, k } => {
             show::word(out, "triple")?;
-            show::count(out, i)?;
-            show::count(out, j)?;
-            Ok(show::count(out, k)?)
+            show::count(out, *i)?;
+            show::count(out, *j)?;
+            show::count(out, *k)
         }
         Evidence::NoIdentity { left, right } => {
             show::word(out, "noidentity")?;
             show::count(out, left.len())?;
-            Ok(show::count(out, right.len())?)
+            show::count(out, right.len())
         }
         Evidence::Central { tuple } => {
             show::word(out, "central")?;
-            Ok(show::count(out, tuple.len())?)
+            show::count(out, tuple.len())
         }
         Evidence::Ideal { tuples } => {
             show::word(out, "ideal")?;
-            Ok(show::count(out, tuples.len())?)
+            show::count(out, tuples.len())
         }
         Evidence::Split { maps, units } => {
             show::word(out, "split")?;
             show::count(out, maps.len())?;
-            Ok(show::count(out, units.len())?)
+            show::count(out, units.len())
         }
     }
 }
@@ -144,8 +139,8 @@ fn evidence(out: &mut Vec<u8>, evidence: Evidence) -> Result<(), Fault> {
 /// number of the tuples; `none` where there is none.
 fn decision(alloc: Global, table: &Table, out: &mut Vec<u8>) -> Result<(), Fault> {
     match decide(alloc, table)? {
-        Some(found) => evidence(out, found),
-        None => Ok(show::word(out, "none")?),
+        Some(found) => evidence(out, &found),
+        None => show::word(out, "none"),
     }
 }
 
@@ -153,7 +148,7 @@ fn decision(alloc: Global, table: &Table, out: &mut Vec<u8>) -> Result<(), Fault
 fn on_table(alloc: Global, call: &str, table: &Table, out: &mut Vec<u8>) -> Result<(), Fault> {
     match call {
         "read_table" => contents(alloc, table, out),
-        "write_table" => Ok(show::text(out, write_table(alloc, table)?.as_slice())?),
+        "write_table" => show::text(out, write_table(alloc, table)?.as_slice()),
         "first_failed_triple" => triple(alloc, table, out),
         "identity_or_refutation" => identity(alloc, table, out),
         "faults" => faults(alloc, table, out),

@@ -1,6 +1,8 @@
 // Calls on algebras.
 ghost use Rattle.std.specs.Prelude.{◌≡◌};
 ghost use Rattle.theory_tables.specs.Structure.{IsOver};
+ghost use Rattle.theory_tables.specs.Claims.{AreMultipliers};
+ghost use Rattle.spl_algebra.specs.Identity.{IsOne};
 
 use crate::fault::Fault;
 use crate::scalars::Scalars;
@@ -14,15 +16,16 @@ fn mul<F: Scalars>(
     alloc: Global,
     f: &F,
     algebra: &Algebra<F>,
-    words: [&str; 2],
+    a: &str,
+    b: &str,
     out: &mut Vec<u8>,
 ) -> Result<(), Fault>
     requires { IsOver (F.ops f.now) algebra.now }
 {
-    let a = lists::tuple(alloc, f, algebra.dim(), words[0])?;
-    let b = lists::tuple(alloc, f, algebra.dim(), words[1])?;
+    let a = lists::tuple(alloc, f, algebra.dim(), a)?;
+    let b = lists::tuple(alloc, f, algebra.dim(), b)?;
     let product = algebra.mul(alloc, f, &a, &b)?;
-    Ok(show::vector(alloc, out, f, product.as_slice())?)
+    show::vector(alloc, out, f, product.as_slice())
 }
 
 /// `basis_element A i`, counted from 0 as all places.
@@ -37,7 +40,7 @@ fn basis_element<F: Scalars>(
 {
     let i = args::below(i, algebra.dim())?;
     let element = algebra.basis_element(alloc, f, i)?;
-    Ok(show::vector(alloc, out, f, element.as_slice())?)
+    show::vector(alloc, out, f, element.as_slice())
 }
 
 /// `basis_product A i j`
@@ -45,14 +48,15 @@ fn basis_product<F: Scalars>(
     alloc: Global,
     f: &F,
     algebra: &Algebra<F>,
-    places: [&str; 2],
+    i: &str,
+    j: &str,
     out: &mut Vec<u8>,
 ) -> Result<(), Fault>
     requires { IsOver (F.ops f.now) algebra.now }
 {
-    let i = args::below(places[0], algebra.dim())?;
-    let j = args::below(places[1], algebra.dim())?;
-    Ok(show::vector(alloc, out, f, algebra.basis_product(f, i, j))?)
+    let i = args::below(i, algebra.dim())?;
+    let j = args::below(j, algebra.dim())?;
+    show::vector(alloc, out, f, algebra.basis_product(f, i, j))
 }
 
 /// `associates_at A i j k`
@@ -60,15 +64,17 @@ fn associates_at<F: Scalars>(
     alloc: Global,
     f: &F,
     algebra: &Algebra<F>,
-    places: [&str; 3],
+    i: &str,
+    j: &str,
+    k: &str,
     out: &mut Vec<u8>,
 ) -> Result<(), Fault>
     requires { IsOver (F.ops f.now) algebra.now }
 {
-    let i = args::below(places[0], algebra.dim())?;
-    let j = args::below(places[1], algebra.dim())?;
-    let k = args::below(places[2], algebra.dim())?;
-    Ok(show::truth(out, algebra.associates_at(alloc, f, i, j, k)?)?)
+    let i = args::below(i, algebra.dim())?;
+    let j = args::below(j, algebra.dim())?;
+    let k = args::below(k, algebra.dim())?;
+    show::truth(out, algebra.associates_at(alloc, f, i, j, k)?)
 }
 
 /// The products of basis elements, row i·m + j that of i and j.
@@ -102,7 +108,48 @@ fn copy<F: Scalars>(
     products(alloc, f, &copy, out)
 }
 
-/// `identity A`: `here` and the identity, or `refuted`.
+/// Multipliers, each by its side, its pair and its value.
+fn multipliers<F: Scalars>(
+    alloc: Global,
+    f: &F,
+    m: usize,
+    side: &str,
+    list: &[(usize, usize, F::Elem)],
+    out: &mut Vec<u8>,
+) -> Result<(), Fault>
+    requires { AreMultipliers (F.ops f.now) m list.now }
+{
+    let _ = m;
+    for (j, k, x) in list {
+        show::word(out, side)?;
+        show::count(out, *j)?;
+        show::count(out, *k)?;
+        show::element(alloc, out, f, x)?;
+    }
+    Ok(())
+}
+
+/// `here` and the identity, or `refuted` and the multipliers of its equations.
+pub fn one<F: Scalars>(
+    alloc: Global,
+    f: &F,
+    algebra: &Algebra<F>,
+    one: One<F>,
+    out: &mut Vec<u8>,
+) -> Result<(), Fault>
+    requires { IsOne (F.ops f.now) algebra.now one }
+{
+    match one {
+        One::Here { tuple } => show::named(alloc, out, f, "here", tuple.as_slice()),
+        One::Refuted { left, right } => {
+            show::word(out, "refuted")?;
+            multipliers(alloc, f, algebra.dim(), "left", left.as_slice(), out)?;
+            multipliers(alloc, f, algebra.dim(), "right", right.as_slice(), out)
+        }
+    }
+}
+
+/// `identity A`: `here` and the identity, or `refuted` and multipliers of its equations.
 fn identity<F: Scalars>(
     alloc: Global,
     f: &F,
@@ -111,13 +158,7 @@ fn identity<F: Scalars>(
 ) -> Result<(), Fault>
     requires { IsOver (F.ops f.now) algebra.now }
 {
-    match algebra.identity(alloc, f)? {
-        One::Here { tuple } => {
-            show::word(out, "here")?;
-            Ok(show::vector(alloc, out, f, tuple.as_slice())?)
-        }
-        One::Refuted { .. } => Ok(show::word(out, "refuted")?),
-    }
+    one(alloc, f, algebra, algebra.identity(alloc, f)?, out)
 }
 
 /// `first_failed_triple A`: the triple, counted from 1, or `none`.
@@ -130,11 +171,11 @@ fn first_failed_triple<F: Scalars>(
     requires { IsOver (F.ops f.now) algebra.now }
 {
     match algebra.first_failed_triple(alloc, f)? {
-        None => Ok(show::word(out, "none")?),
+        None => show::word(out, "none"),
         Some(t) => {
             show::count(out, t.i)?;
             show::count(out, t.j)?;
-            Ok(show::count(out, t.k)?)
+            show::count(out, t.k)
         }
     }
 }
@@ -150,7 +191,7 @@ fn left_matrix<F: Scalars>(
     requires { IsOver (F.ops f.now) algebra.now }
 {
     let a = lists::tuple(alloc, f, algebra.dim(), a)?;
-    Ok(show::matrix(alloc, out, f, algebra.left_matrix(alloc, f, &a)?)?)
+    show::matrix(alloc, out, f, algebra.left_matrix(alloc, f, &a)?)
 }
 
 /// `ideal_generated A M`: the dimension and the basis of the ideal that the rows generate.
@@ -164,7 +205,7 @@ fn ideal_generated<F: Scalars>(
     requires { IsOver (F.ops f.now) algebra.now }
 {
     let by = lists::space(alloc, f, algebra.dim(), rows)?;
-    Ok(show::space(alloc, out, f, algebra.ideal_generated(alloc, f, &by)?)?)
+    show::space_of(alloc, out, f, algebra.ideal_generated(alloc, f, &by))
 }
 
 /// The answer of a call on an algebra alone.
@@ -182,8 +223,31 @@ fn on_algebra<F: Scalars>(
         "copy" => copy(alloc, f, algebra, out),
         "first_failed_triple" => first_failed_triple(alloc, f, algebra, out),
         "identity" => identity(alloc, f, algebra, out),
-        "centre" => Ok(show::space(alloc, out, f, algebra.centre(alloc, f)?)?),
-        "trace_form" => Ok(show::matrix(alloc, out, f, algebra.trace_form(alloc, f)?)?),
+        "centre" => show::space_of(alloc, out, f, algebra.centre(alloc, f)),
+        "trace_form" => show::matrix(alloc, out, f, algebra.trace_form(alloc, f)?),
+        _ => Err(Fault::BadLine),
+    }
+}
+
+/// The answer of a call on an algebra and what stands behind it.
+fn on_more<F: Scalars>(
+    alloc: Global,
+    f: &F,
+    call: &str,
+    algebra: &Algebra<F>,
+    words: &[&str],
+    out: &mut Vec<u8>,
+) -> Result<(), Fault>
+    requires { IsOver (F.ops f.now) algebra.now }
+{
+    match (call, words) {
+        (_, []) => on_algebra(alloc, f, call, algebra, out),
+        ("mul", [a, b]) => mul(alloc, f, algebra, a, b, out),
+        ("basis_element", [i]) => basis_element(alloc, f, algebra, i, out),
+        ("basis_product", [i, j]) => basis_product(alloc, f, algebra, i, j, out),
+        ("associates_at", [i, j, k]) => associates_at(alloc, f, algebra, i, j, k, out),
+        ("left_matrix", [a]) => left_matrix(alloc, f, algebra, a, out),
+        ("ideal_generated", [rows]) => ideal_generated(alloc, f, algebra, rows, out),
         _ => Err(Fault::BadLine),
     }
 }
@@ -200,14 +264,5 @@ pub fn call<F: Scalars>(
         return Err(Fault::BadLine);
     };
     let algebra = lists::algebra(alloc, f, algebra)?;
-    match (call, rest) {
-        (_, []) => on_algebra(alloc, f, call, &algebra, out),
-        ("mul", [a, b]) => mul(alloc, f, &algebra, [*a, *b], out),
-        ("basis_element", [i]) => basis_element(alloc, f, &algebra, i, out),
-        ("basis_product", [i, j]) => basis_product(alloc, f, &algebra, [*i, *j], out),
-        ("associates_at", [i, j, k]) => associates_at(alloc, f, &algebra, [*i, *j, *k], out),
-        ("left_matrix", [a]) => left_matrix(alloc, f, &algebra, a, out),
-        ("ideal_generated", [rows]) => ideal_generated(alloc, f, &algebra, rows, out),
-        _ => Err(Fault::BadLine),
-    }
+    on_more(alloc, f, call, &algebra, rest, out)
 }

@@ -1,6 +1,7 @@
 // Reading arguments. What a call requires of its arguments, its reader ensures.
 ghost use Rattle.std.specs.Prelude.{◌≡◌, ◌≤◌, ◌<◌, IfOk, All};
 ghost use Rattle.theory_rings.specs.Ops.{IsElem};
+ghost use Rattle.theory_rings.specs.Polynomial.{IsTrimmed};
 ghost use Rattle.spl_field.specs.SmallField.{small_ops, size_of};
 ghost use Rattle.spl_poly.specs.Operations.{IsOver};
 ghost use Rattle.spl_fraction.specs.Fractions.{field_of};
@@ -101,8 +102,9 @@ fn elements(alloc: Global, f: &SmallField, word: &str) -> Result<Vec<u8>, Fault>
 }
 
 /// A polynomial, by its coefficients, lowest first.
-fn poly(alloc: Global, f: &SmallField, word: &str) -> Result<Poly, Fault>
-    ensures { IfOk result (IsOver (small_ops f.now)) }
+pub fn poly(alloc: Global, f: &SmallField, word: &str) -> Result<Poly, Fault>
+    ensures over { IfOk result (IsOver (small_ops f.now)) }
+    ensures trimmed { IfOk result (IsTrimmed 0) }
 {
     let items = elements(alloc, f, word)?;
     Ok(Poly::from_list(alloc, f, items)?)
@@ -110,7 +112,8 @@ fn poly(alloc: Global, f: &SmallField, word: &str) -> Result<Poly, Fault>
 
 /// Polynomials, one a word.
 pub fn polys(alloc: Global, f: &SmallField, words: &[&str]) -> Result<PolyRow, Fault>
-    ensures { IfOk result (All (IsOver (small_ops f.now))) }
+    ensures over { IfOk result (All (IsOver (small_ops f.now))) }
+    ensures trimmed { IfOk result (All (IsTrimmed 0)) }
 {
     let mut row = PolyRow::new(alloc);
     for word in words {

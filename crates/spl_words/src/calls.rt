@@ -1,7 +1,7 @@
 // The calls by their kind, which is the word before the dot.
 use crate::fault::Fault;
 use crate::scalars::Scalars;
-use crate::{algebras, fields, fractions, matrices, polynomials, residues, small, words};
+use crate::{algebras, fields, fractions, lattices, matrices, polynomials, residues, small, words};
 use spl_fraction::field::Fractions;
 use std::alloc::Global;
 
@@ -36,6 +36,7 @@ pub fn call(
     match kind {
         "small" => small::call(alloc, k.field(), call, words, out),
         "poly" => polynomials::call(alloc, k.field(), call, words, out),
+        "lattice" => lattices::call(alloc, k.field(), call, words, out),
         "residue" => residues::call(alloc, k.field(), call, words, out),
         "fractions" => fractions::call(alloc, k, call, words, out),
         "text" => words::call(alloc, call, words, out),

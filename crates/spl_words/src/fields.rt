@@ -12,8 +12,8 @@ fn inverse<F: Scalars>(alloc: Global, f: &F, a: &F::Elem, out: &mut Vec<u8>) -> 
     requires { IsElem (F.ops f.now) a.now }
 {
     match f.inv(alloc, a)? {
-        Some(inverse) => Ok(show::element(alloc, out, f, inverse)?),
-        None => Ok(show::word(out, "none")?),
+        Some(inverse) => show::element(alloc, out, f, &inverse),
+        None => show::word(out, "none"),
     }
 }
 
@@ -28,14 +28,14 @@ fn answer<F: Scalars>(
     requires { All (IsElem (F.ops f.now)) given.now }
 {
     match (call, given) {
-        ("zero", []) => Ok(show::element(alloc, out, f, f.zero(alloc)?)?),
-        ("one", []) => Ok(show::element(alloc, out, f, f.one(alloc)?)?),
-        ("neg", [a]) => Ok(show::element(alloc, out, f, f.neg(alloc, a)?)?),
-        ("copy", [a]) => Ok(show::element(alloc, out, f, f.copy(alloc, a)?)?),
+        ("zero", []) => show::element_of(alloc, out, f, f.zero(alloc)),
+        ("one", []) => show::element_of(alloc, out, f, f.one(alloc)),
+        ("neg", [a]) => show::element_of(alloc, out, f, f.neg(alloc, a)),
+        ("copy", [a]) => show::element_of(alloc, out, f, f.copy(alloc, a)),
         ("inv", [a]) => inverse(alloc, f, a, out),
-        ("add", [a, b]) => Ok(show::element(alloc, out, f, f.add(alloc, a, b)?)?),
-        ("mul", [a, b]) => Ok(show::element(alloc, out, f, f.mul(alloc, a, b)?)?),
-        ("eq", [a, b]) => Ok(show::truth(out, f.eq(a, b))?),
+        ("add", [a, b]) => show::element_of(alloc, out, f, f.add(alloc, a, b)),
+        ("mul", [a, b]) => show::element_of(alloc, out, f, f.mul(alloc, a, b)),
+        ("eq", [a, b]) => show::truth(out, f.eq(a, b)),
         _ => Err(Fault::BadLine),
     }
 }

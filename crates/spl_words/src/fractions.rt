@@ -13,24 +13,24 @@ fn make(alloc: Global, k: &Fractions, words: &[&str], out: &mut Vec<u8>) -> Resu
         return Err(Fault::BadLine);
     };
     match k.make(alloc, num, den)? {
-        Some(a) => Ok(show::element(alloc, out, k, a)?),
-        None => Ok(show::word(out, "none")?),
+        Some(a) => show::element(alloc, out, k, &a),
+        None => show::word(out, "none"),
     }
 }
 
 /// `read_fraction W`: the fraction, as it is written; `none` where the word is the canonical text of none.
 fn read(alloc: Global, k: &Fractions, word: &str, out: &mut Vec<u8>) -> Result<(), Fault> {
     match k.read_fraction(alloc, word.as_bytes())? {
-        Some(a) => Ok(show::element(alloc, out, k, a)?),
-        None => Ok(show::word(out, "none")?),
+        Some(a) => show::element(alloc, out, k, &a),
+        None => show::word(out, "none"),
     }
 }
 
 /// `parts F`: the numerator and the denominator.
 fn parts(alloc: Global, k: &Fractions, word: &str, out: &mut Vec<u8>) -> Result<(), Fault> {
     let a = args::fraction(alloc, k, word)?;
-    show::polynomial(alloc, out, a.numerator())?;
-    Ok(show::polynomial(alloc, out, a.denominator())?)
+    show::polynomial(out, a.numerator())?;
+    show::polynomial(out, a.denominator())
 }
 
 /// A place: `infinity`, or a polynomial.
@@ -48,7 +48,7 @@ fn place(alloc: Global, word: &str) -> Result<Place, Fault> {
 fn order(alloc: Global, p: &str, q: &str, out: &mut Vec<u8>) -> Result<(), Fault> {
     let p = place(alloc, p)?;
     let q = place(alloc, q)?;
-    Ok(show::ordering(out, order_of_places(&p, &q))?)
+    show::ordering(out, order_of_places(&p, &q))
 }
 
 /// The answer of a call on fractions.

@@ -18,18 +18,20 @@ use std::alloc::Global;
 /// The most items of a row of an algebra's products.
 const MOST: usize = 1000;
 
-/// Elements, joined by colons, or `-` for none.
-pub fn vector<F: Scalars>(alloc: Global, f: &F, word: &str) -> Result<Vector<F>, Fault>
-    ensures { IfOk result (All (IsElem (F.ops f.now))) }
-{
-    let mut items = List::new(alloc);
+/// The parts of a word between the separators; none of the word `-`.
+pub(crate) fn parts<'a>(
+    alloc: Global,
+    word: &'a str,
+    separator: char,
+) -> Result<Vec<&'a str>, Fault> {
+    let mut parts = Vec::new(alloc);
     if word == "-" {
-        return Ok(items);
+        return Ok(parts);
     }
-    for part in word.split(':') {
-        items.push(f.read(alloc, part)?)?;
+    for part in word.split(separator) {
+        parts.push(part)?;
     }
-    Ok(items)
+    Ok(parts)
 }
 
 /// Elements, one a word.
@@ -41,6 +43,13 @@ pub fn elements<F: Scalars>(alloc: Global, f: &F, words: &[&str]) -> Result<Vect
         items.push(f.read(alloc, word)?)?;
     }
     Ok(items)
+}
+
+/// Elements, joined by colons, or `-` for none.
+pub fn vector<F: Scalars>(alloc: Global, f: &F, word: &str) -> Result<Vector<F>, Fault>
+    ensures { IfOk result (All (IsElem (F.ops f.now))) }
+{
+    elements(alloc, f, parts(alloc, word, ':')?.as_slice())
 }
 
 /// A list of this many elements.
@@ -74,7 +83,7 @@ pub fn rows<F: Scalars>(alloc: Global, f: &F, width: usize, word: &str) -> Resul
 }
 
 /// The number of items of the first row.
-fn width(word: &str) -> usize {
+pub(crate) fn width(word: &str) -> usize {
     let first = word.split(';').next().unwrap_or(word);
     if first == "-" {
         return 0;
@@ -103,34 +112,15 @@ pub fn space<F: Scalars>(
     Ok(Subspace::span(alloc, f, width, &rows)?)
 }
 
-/// Appends the items of a row of this many.
-fn extend<F: Scalars>(
-    alloc: Global,
-    f: &F,
-    width: usize,
-    word: &str,
-    items: &mut Vector<F>,
-) -> Result<(), Fault>
-    requires { All (IsElem (F.ops f.now)) items.old }
-    ensures { All (IsElem (F.ops f.now)) items.new }
-{
-    let before = items.len();
-    for part in word.split(':') {
-        items.push(f.read(alloc, part)?)?;
-    }
-    if items.len().saturating_sub(before) != width {
-        return Err(Fault::BadLine);
-    }
-    Ok(())
-}
-
-/// All items of rows of this many.
-fn constants<F: Scalars>(alloc: Global, f: &F, width: usize, word: &str) -> Result<Vector<F>, Fault>
-    ensures { IfOk result (All (IsElem (F.ops f.now))) }
-{
-    let mut items = List::new(alloc);
-    for part in word.split(';') {
-        extend(alloc, f, width, part, &mut items)?;
+/// The items of rows of this many.
+fn items_of_rows<'a>(alloc: Global, width: usize, word: &'a str) -> Result<Vec<&'a str>, Fault> {
+    let mut items = Vec::new(alloc);
+    for row in word.split(';') {
+        let row = parts(alloc, row, ':')?;
+        if row.len() != width {
+            return Err(Fault::BadLine);
+        }
+        items.extend_from_slice(row.as_slice())?;
     }
     Ok(items)
 }
@@ -143,7 +133,7 @@ pub fn algebra<F: Scalars>(alloc: Global, f: &F, word: &str) -> Result<Algebra<F
     if m == 0 || m > MOST {
         return Err(Fault::BadLine);
     }
-    let items = constants(alloc, f, m, word)?;
+    let items = elements(alloc, f, items_of_rows(alloc, m, word)?.as_slice())?;
     if items.len() != m * m * m {
         return Err(Fault::BadLine);
     }

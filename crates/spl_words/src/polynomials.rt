@@ -14,7 +14,7 @@ use std::alloc::Global;
 /// `from_slice C`: of numbers below 256.
 fn from_slice(alloc: Global, c: &str, out: &mut Vec<u8>) -> Result<(), Fault> {
     let c = args::bytes(alloc, 256, c)?;
-    Ok(show::poly(alloc, out, Poly::from_slice(alloc, c.as_slice())?)?)
+    show::poly_of(out, Poly::from_slice(alloc, c.as_slice()))
 }
 
 /// `coefficient A I`
@@ -28,13 +28,10 @@ fn coefficient(
         return Err(Fault::BadLine);
     };
     let i = args::number(i)? as usize;
-    let given = args::polys(alloc, f, &[*a])?;
-    let [a] = given.as_slice() else {
-        return Err(Fault::BadLine);
-    };
+    let a = args::poly(alloc, f, a)?;
     match a.coefficient(i) {
-        Some(c) => Ok(show::number(out, u32::from(*c))?),
-        None => Ok(show::word(out, "none")?),
+        Some(c) => show::number(out, u32::from(*c)),
+        None => show::word(out, "none"),
     }
 }
 
@@ -44,12 +41,10 @@ fn pow_mod(alloc: Global, f: &SmallField, words: &[&str], out: &mut Vec<u8>) -> 
         return Err(Fault::BadLine);
     };
     let n = u64::from(args::number(n)?);
-    let given = args::polys(alloc, f, &[*a, *modulus])?;
-    let [a, modulus] = given.as_slice() else {
-        return Err(Fault::BadLine);
-    };
+    let a = args::poly(alloc, f, a)?;
+    let modulus = args::poly(alloc, f, modulus)?;
     match modulus.degree() {
-        Some(1..) => Ok(show::poly(alloc, out, a.pow_mod(alloc, f, n, modulus)?)?),
+        Some(1..) => show::poly_of(out, a.pow_mod(alloc, f, n, &modulus)),
         _ => Err(Fault::BadLine),
     }
 }
@@ -65,15 +60,15 @@ fn on_one(
     requires { IsOver (small_ops f.now) a.now }
 {
     match call {
-        "from_list" => Ok(show::poly(alloc, out, a.copy(alloc, f)?)?),
-        "copy" => Ok(show::poly(alloc, out, a.copy(alloc, f)?)?),
-        "degree" => Ok(show::place(out, a.degree())?),
-        "is_zero" => Ok(show::truth(out, a.is_zero())?),
+        "from_list" => show::poly_of(out, a.copy(alloc, f)),
+        "copy" => show::poly_of(out, a.copy(alloc, f)),
+        "degree" => show::place(out, a.degree()),
+        "is_zero" => show::truth(out, a.is_zero()),
         "monic" => {
             if a.is_zero() {
                 return Err(Fault::BadLine);
             }
-            Ok(show::poly(alloc, out, a.monic(alloc, f)?)?)
+            show::poly_of(out, a.monic(alloc, f))
         }
         _ => Err(Fault::BadLine),
     }
@@ -92,14 +87,14 @@ fn on_two(
     requires b_over { IsOver (small_ops f.now) b.now }
 {
     match call {
-        "add" => Ok(show::poly(alloc, out, a.add(alloc, f, b)?)?),
-        "mul" => Ok(show::poly(alloc, out, a.mul(alloc, f, b)?)?),
-        "order_of" => Ok(show::ordering(out, order_of(a, b))?),
+        "add" => show::poly_of(out, a.add(alloc, f, b)),
+        "mul" => show::poly_of(out, a.mul(alloc, f, b)),
+        "order_of" => show::ordering(out, order_of(a, b)),
         "divide" => {
             if b.is_zero() {
                 return Err(Fault::BadLine);
             }
-            Ok(show::division(alloc, out, a.divide(alloc, f, b)?)?)
+            show::division(out, &a.divide(alloc, f, b)?)
         }
         _ => Err(Fault::BadLine),
     }
@@ -145,5 +140,5 @@ pub fn generator_call(
     out: &mut Vec<u8>,
 ) -> Result<(), Fault> {
     let given = args::polys(alloc, f, words)?;
-    Ok(show::generator(alloc, out, generator(alloc, f, &given)?)?)
+    show::generator(out, &generator(alloc, f, &given)?)
 }

@@ -1,6 +1,8 @@
 // Calls of residue fields.
+ghost use Rattle.std.specs.Prelude.{All};
 ghost use Rattle.spl_field.specs.SmallField.{small_ops};
 ghost use Rattle.spl_poly.specs.Operations.{IsOver};
+ghost use Rattle.spl_residue.specs.Residue.{field_of};
 
 use crate::fault::Fault;
 use crate::{args, calls, show};
@@ -22,12 +24,9 @@ pub fn over_residues(
         return Err(Fault::BadLine);
     };
     let (kind, call) = word.split_once('.').ok_or(Fault::BadLine)?;
-    let given = args::polys(alloc, f, &[*modulus])?;
-    let [modulus] = given.as_slice() else {
-        return Err(Fault::BadLine);
-    };
-    match ResidueField::new(alloc, f, modulus)? {
-        None => Ok(show::word(out, "none")?),
+    let modulus = args::poly(alloc, f, modulus)?;
+    match ResidueField::new(alloc, f, &modulus)? {
+        None => show::word(out, "none"),
         Some(k) => calls::over_field(alloc, &k, kind, call, rest, out),
     }
 }
@@ -37,8 +36,26 @@ fn new(alloc: Global, f: &SmallField, a: &Poly, out: &mut Vec<u8>) -> Result<(),
     requires { IsOver (small_ops f.now) a.now }
 {
     match ResidueField::new(alloc, f, a)? {
-        None => Ok(show::word(out, "none")?),
-        Some(k) => Ok(show::polynomial(alloc, out, k.modulus())?),
+        None => show::word(out, "none"),
+        Some(k) => show::polynomial(out, k.modulus()),
+    }
+}
+
+/// The polynomial of the remainder of a, or of its root.
+fn in_field(
+    alloc: Global,
+    k: &ResidueField,
+    call: &str,
+    a: &Poly,
+    out: &mut Vec<u8>,
+) -> Result<(), Fault>
+    requires { IsOver (small_ops (field_of k.now)) a.now }
+{
+    let a = k.reduce_poly(alloc, a)?;
+    match call {
+        "reduce_poly" => show::poly_of(out, k.lift(alloc, &a)),
+        "frobenius_root" => show::poly_of(out, k.lift(alloc, &k.frobenius_root(alloc, &a)?)),
+        _ => Err(Fault::BadLine),
     }
 }
 
@@ -56,15 +73,27 @@ fn on_remainder(
     requires over { IsOver (small_ops f.now) a.now }
 {
     let Some(k) = ResidueField::new(alloc, f, modulus)? else {
-        return Ok(show::word(out, "none")?);
+        return show::word(out, "none");
     };
-    let a = k.reduce_poly(alloc, a)?;
-    let answer = match call {
-        "reduce_poly" => a,
-        "frobenius_root" => k.frobenius_root(alloc, &a)?,
-        _ => return Err(Fault::BadLine),
-    };
-    Ok(show::poly(alloc, out, k.lift(alloc, &answer)?)?)
+    in_field(alloc, &k, call, a, out)
+}
+
+/// The answer of a call on these polynomials.
+fn on_polys(
+    alloc: Global,
+    f: &SmallField,
+    call: &str,
+    given: &[Poly],
+    out: &mut Vec<u8>,
+) -> Result<(), Fault>
+    requires { All (IsOver (small_ops f.now)) given.now }
+{
+    match (call, given) {
+        ("is_irreducible", [a]) => show::truth(out, is_irreducible(alloc, f, a)?),
+        ("new", [a]) => new(alloc, f, a, out),
+        (_, [modulus, a]) => on_remainder(alloc, f, call, modulus, a, out),
+        _ => Err(Fault::BadLine),
+    }
 }
 
 /// The answer of a call on polynomials.
@@ -76,10 +105,5 @@ pub fn call(
     out: &mut Vec<u8>,
 ) -> Result<(), Fault> {
     let given = args::polys(alloc, f, words)?;
-    match (call, given.as_slice()) {
-        ("is_irreducible", [a]) => Ok(show::truth(out, is_irreducible(alloc, f, a)?)?),
-        ("new", [a]) => new(alloc, f, a, out),
-        (_, [modulus, a]) => on_remainder(alloc, f, call, modulus, a, out),
-        _ => Err(Fault::BadLine),
-    }
+    on_polys(alloc, f, call, given.as_slice(), out)
 }

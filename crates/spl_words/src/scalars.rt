@@ -3,8 +3,8 @@
 ghost use Rattle.std.specs.Prelude.{IfOk};
 ghost use Rattle.theory_rings.specs.Ops.{IsElem};
 
+use crate::args;
 use crate::fault::Fault;
-use crate::{args, show};
 use spl_field::field::{Field, NoMemory};
 use spl_field::small::SmallField;
 use spl_fraction::field::Fractions;
@@ -52,6 +52,6 @@ impl Scalars for ResidueField {
 
     fn write(&self, alloc: Global, a: &ResidueElem, out: &mut Vec<u8>) -> Result<(), NoMemory> {
         let p = self.lift(alloc, a)?;
-        push_coefficients(out, show::coefficients(alloc, &p)?.as_slice())
+        push_coefficients(out, p.as_slice())
     }
 }

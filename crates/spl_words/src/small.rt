@@ -9,10 +9,10 @@ use std::alloc::{AllocError, Global};
 fn fault(out: &mut Vec<u8>, fault: FieldFault) -> Result<(), Fault> {
     match fault {
         FieldFault::Memory => Err(Fault::Memory(AllocError)),
-        FieldFault::Size => Ok(show::word(out, "size")?),
+        FieldFault::Size => show::word(out, "size"),
         FieldFault::NoInverse { element } => {
             show::word(out, "no inverse of")?;
-            Ok(show::number(out, u32::from(element))?)
+            show::number(out, u32::from(element))
         }
     }
 }
@@ -27,7 +27,7 @@ fn data(alloc: Global, p: &str, modulus: &str) -> Result<(u16, Vec<u8>), Fault> 
 fn admits(alloc: Global, p: &str, modulus: &str, out: &mut Vec<u8>) -> Result<(), Fault> {
     let (p, modulus) = data(alloc, p, modulus)?;
     match SmallField::admits(p, modulus.as_slice()) {
-        Ok(()) => Ok(show::word(out, "yes")?),
+        Ok(()) => show::word(out, "yes"),
         Err(e) => fault(out, e),
     }
 }
@@ -53,7 +53,7 @@ pub fn field(
 pub fn shape(out: &mut Vec<u8>, f: &SmallField) -> Result<(), Fault> {
     show::number(out, u32::from(f.p()))?;
     show::codes(out, f.modulus())?;
-    Ok(show::number(out, u32::from(f.size()))?)
+    show::number(out, u32::from(f.size()))
 }
 
 /// `tables`
@@ -61,7 +61,7 @@ fn tables(alloc: Global, f: &SmallField, out: &mut Vec<u8>) -> Result<(), Fault>
     let tables = f.tables(alloc)?;
     show::number(out, u32::from(tables.size))?;
     show::codes(out, tables.sum.as_slice())?;
-    Ok(show::codes(out, tables.product.as_slice())?)
+    show::codes(out, tables.product.as_slice())
 }
 
 /// `duplicate`: the shape and the tables of a duplicate.
@@ -84,11 +84,11 @@ fn on_elements(f: &SmallField, call: &str, words: &[&str], out: &mut Vec<u8>) ->
         ("frobenius_root", []) => f.frobenius_root(a),
         ("inverse", []) => match f.inverse(a) {
             Some(b) => b,
-            None => return Ok(show::word(out, "none")?),
+            None => return show::word(out, "none"),
         },
         _ => return Err(Fault::BadLine),
     };
-    Ok(show::number(out, u32::from(answer))?)
+    show::number(out, u32::from(answer))
 }
 
 /// The answer of a call of small fields.
