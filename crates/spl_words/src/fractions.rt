@@ -1,6 +1,6 @@
 // Calls on fractions and places.
 use crate::fault::Fault;
-use crate::{args, show};
+use crate::{args, lists, show};
 use spl_fraction::field::Fractions;
 use spl_fraction::place::{Place, order_of_places};
 use spl_poly::poly::Poly;
@@ -33,6 +33,12 @@ fn parts(alloc: Global, k: &Fractions, word: &str, out: &mut Vec<u8>) -> Result<
     show::polynomial(out, a.denominator())
 }
 
+/// `common_denominator L`: of a list of fractions.
+fn denominator(alloc: Global, k: &Fractions, l: &str, out: &mut Vec<u8>) -> Result<(), Fault> {
+    let fractions = lists::vector(alloc, k, l)?;
+    show::poly_of(out, k.common_denominator(alloc, fractions.as_slice()))
+}
+
 /// A place: `infinity`, or a polynomial.
 fn place(alloc: Global, word: &str) -> Result<Place, Fault> {
     if word == "infinity" {
@@ -63,6 +69,7 @@ pub fn call(
         ("make", _) => make(alloc, k, words, out),
         ("read_fraction", [word]) => read(alloc, k, word, out),
         ("parts", [word]) => parts(alloc, k, word, out),
+        ("common_denominator", [l]) => denominator(alloc, k, l, out),
         ("order_of_places", [p, q]) => order(alloc, p, q, out),
         _ => Err(Fault::BadLine),
     }

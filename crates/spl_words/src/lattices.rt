@@ -8,7 +8,7 @@ use crate::{args, lists, show};
 use spl_field::small::SmallField;
 use spl_lattice::matrix::PolyMatrix;
 use spl_lattice::rows::PolyRow;
-use spl_lattice::{lattices, reduced};
+use spl_lattice::{lattices, members, reduced};
 use std::alloc::Global;
 
 /// A row of this many polynomials.
@@ -43,6 +43,25 @@ fn reduce(alloc: Global, f: &SmallField, m: &str, out: &mut Vec<u8>) -> Result<(
     show::degrees(out, reduced.degrees().as_slice())?;
     show::poly_rows(out, reduced.basis().as_slice())?;
     show::poly_rows(out, reduced.transform().as_slice())
+}
+
+/// `member M V`, where M has rows: the coordinates of V in the reduced rows of M; `none` where it is not in their
+/// lattice.
+fn member(alloc: Global, f: &SmallField, m: &str, v: &str, out: &mut Vec<u8>) -> Result<(), Fault> {
+    let width = lists::width(m);
+    let m = rows(alloc, f, width, m)?;
+    let v = row(alloc, f, width, v)?;
+    let [first, ..] = m.as_slice() else {
+        return Err(Fault::BadLine);
+    };
+    if first.len() != v.len() {
+        return Err(Fault::BadLine);
+    }
+    let reduced = reduced::reduce(alloc, f, &m)?;
+    match members::member(alloc, f, &reduced, &v)? {
+        None => show::word(out, "none"),
+        Some(coordinates) => show::coordinates(out, coordinates.as_slice()),
+    }
 }
 
 /// `kernel M`: a basis.
@@ -82,6 +101,7 @@ pub fn call(
     match (call, words) {
         ("reduce", [m]) => reduce(alloc, f, m, out),
         ("kernel", [m]) => kernel(alloc, f, m, out),
+        ("member", [m, v]) => member(alloc, f, m, v, out),
         (_, [a, b]) => on_two(alloc, f, call, a, b, out),
         _ => Err(Fault::BadLine),
     }

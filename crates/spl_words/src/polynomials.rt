@@ -5,6 +5,7 @@ ghost use Rattle.spl_poly.specs.Operations.{IsOver};
 
 use crate::fault::Fault;
 use crate::{args, show};
+use spl_factor::factors::factor;
 use spl_field::small::SmallField;
 use spl_lattice::generator::generator;
 use spl_poly::order::order_of;
@@ -49,6 +50,18 @@ fn pow_mod(alloc: Global, f: &SmallField, words: &[&str], out: &mut Vec<u8>) -> 
     }
 }
 
+/// `factor A`: the leading coefficient, and each factor with its exponent.
+fn factor_of(alloc: Global, f: &SmallField, a: &Poly, out: &mut Vec<u8>) -> Result<(), Fault>
+    requires { IsOver (small_ops f.now) a.now }
+{
+    if a.is_zero() {
+        return Err(Fault::BadLine);
+    }
+    let factors = factor(alloc, f, a)?;
+    show::number(out, u32::from(factors.leading))?;
+    show::factors(out, factors.list.as_slice())
+}
+
 /// The answer of a call on one polynomial.
 fn on_one(
     alloc: Global,
@@ -64,6 +77,7 @@ fn on_one(
         "copy" => show::poly_of(out, a.copy(alloc, f)),
         "degree" => show::place(out, a.degree()),
         "is_zero" => show::truth(out, a.is_zero()),
+        "factor" => factor_of(alloc, f, a, out),
         "monic" => {
             if a.is_zero() {
                 return Err(Fault::BadLine);

@@ -144,6 +144,22 @@ fn poly_row(out: &mut Vec<u8>, row: &[Poly]) -> Result<(), Fault> {
     Ok(())
 }
 
+/// A row of polynomials.
+pub fn coordinates(out: &mut Vec<u8>, row: &[Poly]) -> Result<(), Fault> {
+    gap(out)?;
+    poly_row(out, row)
+}
+
+/// Factors with their exponents: a colon stands between the two.
+pub fn factors(out: &mut Vec<u8>, factors: &[(Poly, usize)]) -> Result<(), Fault> {
+    for factor in factors {
+        polynomial(out, &factor.0)?;
+        out.push(b':')?;
+        push_number(out, (factor.1 % 4294967296) as u32)?;
+    }
+    Ok(())
+}
+
 /// Rows of polynomials, joined by semicolons; `none` where there is none.
 pub fn poly_rows(out: &mut Vec<u8>, rows: &[PolyRow]) -> Result<(), Fault> {
     if rows.is_empty() {
