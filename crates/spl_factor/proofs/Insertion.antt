@@ -16,7 +16,8 @@ use Rattle.spl_field.specs.SmallField.{small_ops}
 use Rattle.spl_field.specs.declared.small.SmallField.{SmallField}
 use Rattle.spl_poly.specs.Order.{poly_cmp, IsPolynomialOrder}
 use Rattle.spl_factor.specs.Factorisation.{Powers, ComesBefore, IsFactor, AreFactors}
-use Rattle.spl_factor.specs.Steps.{field, ring, poly, DividesList, product, NoneDivides, IsWork, IsNext, IsMonicList}
+use Rattle.spl_factor.specs.Steps.{field, ring, poly, IsMonicList, DividesList, product_of_powers, NoneDivides}
+use Rattle.spl_factor.specs.Steps.{IsWork, IsNext}
 
 module _ (f : SmallField) (order : IsPolynomialOrder poly_cmp) where
   abbrev o : Ops ℕ
@@ -86,14 +87,14 @@ module _ (f : SmallField) (order : IsPolynomialOrder poly_cmp) where
     )
 
     insert_product : (xs : Powers) (k : ℕ) → k ≤ length xs
-        → product f (insert xs k (p, e)) ≡ P.◌⊗◌ (power P.ring (poly f p) e) (product f xs)
+        → product_of_powers f (insert xs k (p, e)) ≡ P.◌⊗◌ (power P.ring (poly f p) e) (product_of_powers f xs)
     insert_product [] zero l = refl
     insert_product (y ∷ ys) zero l = refl
     insert_product [] (suc k) l = absurd (omega arith)
     insert_product (y ∷ ys) (suc k) l =
         ap (P.◌⊗◌ (power P.ring (poly f y.0) y.1)) (insert_product ys k (omega arith))
         ∙ ring3 P (λ y p s. (y ⊠ (p ⊠ s), p ⊠ (y ⊠ s))) refl (power P.ring (poly f y.0) y.1)
-        (power P.ring (poly f p) e) (product f ys)
+        (power P.ring (poly f p) e) (product_of_powers f ys)
 
     insert_none : (a : List ℕ) (xs : Powers) (k : ℕ) → k ≤ length xs → NoneDivides f a xs → (DividesList f p a → ⊥)
         → NoneDivides f a (insert xs k (p, e))
@@ -129,7 +130,7 @@ module _ (f : SmallField) (order : IsPolynomialOrder poly_cmp) where
               factors = work.factors;
               apart = none_of_divisor rest left list work.apart left_divides;
             };
-            whole = ap (P.◌⊗◌ (product f list)) (sym same);
+            whole = ap (P.◌⊗◌ (product_of_powers f list)) (sym same);
             divides = left_divides;
           }
 
@@ -152,7 +153,8 @@ module _ (f : SmallField) (order : IsPolynomialOrder poly_cmp) where
           apart = insert_none left list k l (none_of_divisor rest left list work.apart left_divides) no_more;
         };
         whole = ap (λ s. P.◌⊗◌ s (poly f left)) (insert_product list k l)
-            ∙ ring3 P (λ p s r. (p ⊠ s ⊠ r, s ⊠ (p ⊠ r))) refl (power P.ring (poly f p) e) (product f list) (poly f left)
-            ∙ ap (P.◌⊗◌ (product f list)) (sym whole);
+            ∙ ring3 P (λ p s r. (p ⊠ s ⊠ r, s ⊠ (p ⊠ r))) refl (power P.ring (poly f p) e)
+            (product_of_powers f list) (poly f left)
+            ∙ ap (P.◌⊗◌ (product_of_powers f list)) (sym whole);
         divides = left_divides;
       }

@@ -26,7 +26,7 @@ use Rattle.spl_field.specs.declared.small.SmallField.{SmallField}
 use Rattle.spl_residue.proofs.Numbers.{small_numbers}
 use Rattle.spl_factor.specs.Factorisation.{Powers}
 use Rattle.spl_factor.specs.Steps.{field, ring, poly, x, IsMonicList, IsMonicGcd, IsPartList, IsVariablePower}
-use Rattle.spl_factor.specs.Steps.{IsPowerModulo, DividesList, product, IsWork, IsNext}
+use Rattle.spl_factor.specs.Steps.{IsPowerModulo, DividesList, product_of_powers, IsWork, IsNext}
 use Rattle.spl_factor.proofs.Values.{quotient_value, not_divides}
 use Rattle.spl_factor.proofs.Traces.{next_power, no_power}
 use Rattle.spl_factor.proofs.Splits.{variable_list, variable_value}
@@ -214,14 +214,15 @@ module _ (f : SmallField) where
   pub at_next_degree : (a : List ℕ) (d m : ℕ) (rest : List ℕ) (list : Powers) (p v rest' : List ℕ) (list' : Powers)
       → IsAtDegree a d rest list p → IsPowerModulo f rest p (size_of f) v → Is v → IsNext f rest list rest' list'
       → From (suc d) rest' → m ≡ suc d → IsAtDegree a m rest' list' v
-  at_next_degree a d m rest list p v rest' list' h k hv n t e = subst (λ i. IsAtDegree a i rest' list' v) (sym e) record {
-    next = next_trans a rest rest' [] list list' h.next n;
-    divisors = t;
-    term = hv;
-    power = λ i s. let same : d ≡ i = omega arith in subst (λ j. IsVariablePower f rest' j v) same
-        (power_of_divisor rest rest' d v n.divides (power_at_degree a d rest list p v h k));
-    positive = omega arith;
-  }
+  at_next_degree a d m rest list p v rest' list' h k hv n t e =
+      subst (λ i. IsAtDegree a i rest' list' v) (sym e) record {
+        next = next_trans a rest rest' [] list list' h.next n;
+        divisors = t;
+        term = hv;
+        power = λ i s. let same : d ≡ i = omega arith in subst (λ j. IsVariablePower f rest' j v) same
+            (power_of_divisor rest rest' d v n.divides (power_at_degree a d rest list p v h k));
+        positive = omega arith;
+      }
 
   -- ---- the end
 
@@ -236,10 +237,11 @@ module _ (f : SmallField) where
       ∙ constant-one F.cring F.zero_test
 
   pub product_at_end : (a rest : List ℕ) (list : Powers) → IsNext f a [] rest list → length rest ≤ 1
-      → product f list ≡ poly f a
+      → product_of_powers f list ≡ poly f a
   product_at_end a rest list h l =
       let w = h.work in
-      sym (P.mul-one (product f list)) ∙ ap (P.◌⊗◌ (product f list)) (sym (one_of_short rest w.monic l))
+      sym (P.mul-one (product_of_powers f list))
+      ∙ ap (P.◌⊗◌ (product_of_powers f list)) (sym (one_of_short rest w.monic l))
       ∙ h.whole ∙ P.one-mul (poly f a)
 
   -- after the last, irreducible factor nothing is left
@@ -253,7 +255,8 @@ module _ (f : SmallField) where
       let db = degree_poly f b hb.polynomial in
       let la = length_monic f a ha in
       let lb = length_monic f b hb in
-      absurd (irreducible.no_factors w.0 (poly f b) (omega (arith, s, da, db, la, lb, k)) (omega (arith, da, db, la, lb, l))
+      absurd (irreducible.no_factors w.0 (poly f b) (omega (arith, s, da, db, la, lb, k))
+      (omega (arith, da, db, la, lb, l))
       w.1))
       (λ (k : length b ≤ 1). k)
       (cases_lt 1 (length b))

@@ -17,7 +17,7 @@ use Rattle.spl_field.specs.SmallField.{small_ops, small_laws}
 use Rattle.spl_field.specs.declared.small.SmallField.{SmallField}
 use Rattle.spl_poly.specs.Operations.{IsMonicOf}
 use Rattle.spl_factor.specs.Factorisation.{Powers, IsFactor, AreFactors, product_coefficients, IsMultipleOfProduct}
-use Rattle.spl_factor.specs.Steps.{field, ring, poly, product}
+use Rattle.spl_factor.specs.Steps.{field, ring, poly, product_of_powers}
 use Rattle.spl_factor.proofs.Values.{monic_back}
 
 module _ (f : SmallField) where
@@ -33,18 +33,19 @@ module _ (f : SmallField) where
   abbrev P : CommRingOn (Poly (field f).cring)
   P = ring f
 
-  has-product : (xs : Powers) → AreFactors o xs → HasCoefficients o L (product f xs) (product_coefficients o xs)
+  has-product : (xs : Powers) → AreFactors o xs
+      → HasCoefficients o L (product_of_powers f xs) (product_coefficients o xs)
   has-product [] t = has-one o L
   has-product (y ∷ ys) t =
       let h : IsFactor o y = t.0 in
       let i = h.irreducible in
-      has-mul o L (power P.ring (poly f y.0) y.1) (product f ys) (power_coefficients o L y.0 y.1)
+      has-mul o L (power P.ring (poly f y.0) y.1) (product_of_powers f ys) (power_coefficients o L y.0 y.1)
       (product_coefficients o ys)
       (has-power o L (poly f y.0) y.0 y.1 (has_polynomial_of o L y.0 i.polynomial.over)) (has-product ys t.2)
 
   -- the leading coefficient times the product of the factors of the monic multiple
   pub whole_product : (a r : List ℕ) (c : ℕ) (xs : Powers) → IsPolynomialList o a → IsPolynomialList o r → a ≢ []
-      → IsMonicOf o a r → c ≡ at o a (degree a) → AreFactors o xs → product f xs ≡ poly f r
+      → IsMonicOf o a r → c ≡ at o a (degree a) → AreFactors o xs → product_of_powers f xs ≡ poly f r
       → IsMultipleOfProduct o a c xs
   whole_product a r c xs ha hr n h e t p = λ k.
       let A : Poly F.cring = poly f a in

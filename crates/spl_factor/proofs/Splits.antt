@@ -24,7 +24,7 @@ use Rattle.theory_rings.proofs.Polynomials.Irreducible.{degree_le_of_divides}
 use Rattle.theory_rings.proofs.Polynomials.Monic.{ne_zero_of_degree}
 use Rattle.theory_rings.proofs.Fractions.Lowest.{monic_eq_of_divides}
 use Rattle.theory_fractions.specs.PolynomialLists.{IsOver, IsProduct, IsPolynomialList}
-use Rattle.theory_factors.specs.Parts.{HasConstantTrace, trace}
+use Rattle.theory_factors.specs.Parts.{HasConstantTrace, frobenius_trace}
 use Rattle.theory_factors.specs.Splitting.{less}
 use Rattle.theory_factors.proofs.Traces.{not_all_are_constant, power_congruent, trace_fixed}
 use Rattle.theory_factors.proofs.Splitting.{proper_gcd, monic_gcd}
@@ -148,7 +148,7 @@ module _ (f : SmallField) where
               poly f t,
               (λ k. ap (λ (p : Poly F.cring). coefficient F.cring p k) (short_constant t ht l)
                   ∙ coefficient-constant F.cring F.zero_test c k),
-              subst (λ p. Congruent P (poly f g) (trace F N P p d) (poly f t)) h.is_power tr,
+              subst (λ p. Congruent P (poly f g) (frobenius_trace F N P p d) (poly f t)) h.is_power tr,
             )
 
     -- not all have constant traces
@@ -163,7 +163,7 @@ module _ (f : SmallField) where
   pub trace_fixed_modulo : (d : ℕ) (g z t : List ℕ) → IsPartList f d g → Is z → Is t → IsTraceModulo f g d z t
       → IsFixedModulo f g t
   trace_fixed_modulo d g z t h hz ht c =
-      let T : Poly F.cring = trace F N P (poly f z) d in
+      let T : Poly F.cring = frobenius_trace F N P (poly f z) d in
       let G : Poly F.cring = poly f g in
       let fixed = trace_fixed F N d G h.part (poly f z) in
       let s = congruent_add_neg (power P.ring T N.size) (power P.ring (poly f t) N.size) T (poly f t) G
@@ -225,7 +225,8 @@ module _ (f : SmallField) where
     pub some_is_proper : (i : ℕ) → IsMonicList f g → Is t → IsFixedModulo f g t → 1 < length t → length t < length g
         → size_of f ≤ i → AreImproper i → ⊥
     some_is_proper i mg ht fixed low high past all =
-        let h : (k : ℕ) → Poly F.cring = λ k. (monic_gcd F N (poly f g) (less F P (poly f t) (c_of (N.member k))) mg.monic).0 in
+        let h : (k : ℕ) → Poly F.cring =
+        λ k. (monic_gcd F N (poly f g) (less F P (poly f t) (c_of (N.member k))) mg.monic).0 in
         let r = proper_gcd F N (poly f g) (poly f t) mg.monic fixed h
         (λ k l. let r = monic_gcd F N (poly f g) (less F P (poly f t) (c_of (N.member k))) mg.monic in (r.1, r.2))
         (omega (arith, length_monic f g mg, degree_poly f g mg.polynomial, low, high)) free in

@@ -11,7 +11,7 @@ use Rattle.theory_rings.specs.Division.{Congruent}
 use Rattle.theory_rings.proofs.Powers.Powers.{power_first, power-power}
 use Rattle.theory_rings.proofs.Rings.Congruences.{congruent_of_eq, congruent_trans, congruent-add}
 use Rattle.theory_fractions.specs.PolynomialLists.{IsSum, IsPolynomialList}
-use Rattle.theory_factors.specs.Parts.{trace}
+use Rattle.theory_factors.specs.Parts.{frobenius_trace}
 use Rattle.theory_factors.proofs.Traces.{power_congruent}
 use Rattle.theory_remainders.proofs.Divisions.{poly-sum}
 use Rattle.spl_field.specs.SmallField.{small_ops, small_laws, size_of}
@@ -66,7 +66,7 @@ module _ (f : SmallField) where
       smaller = subst (λ y. length y < length m) (sym et) l;
       power = λ n e. let zero_is : 0 ≡ n = omega arith in subst (λ k. IsPowerModulo f m z (N.size ^ k) w) zero_is
           (no_power m w (poly f z) (ap (poly f) ew));
-      trace = congruent_of_eq P (poly f m) (trace F N P (poly f z) 1) (poly f t)
+      trace = congruent_of_eq P (poly f m) (frobenius_trace F N P (poly f z) 1) (poly f t)
           (P.zero-add (power P.ring (poly f z) (N.size ^ 0)) ∙ ap (power P.ring (poly f z)) (pow-zero N.size)
           ∙ power_first P.ring (poly f z) ∙ ap (poly f) (sym et));
     }
@@ -79,9 +79,9 @@ module _ (f : SmallField) where
       total = hs;
       smaller = sum_shorter f t v s (length m) h.total hv hs e h.smaller lv;
       power = λ k q. let same : suc n ≡ k = omega arith in subst (λ j. IsPowerModulo f m z (N.size ^ j) v) same last;
-      trace = subst (Congruent P (poly f m) (trace F N P (poly f z) (suc (suc n))))
+      trace = subst (Congruent P (poly f m) (frobenius_trace F N P (poly f z) (suc (suc n))))
           (sym (poly-sum (small_ops f) (small_laws f) t v s h.total.over hv.over hs.over e))
-          (congruent-add P (poly f m) (trace F N P (poly f z) (suc n)) (poly f t)
+          (congruent-add P (poly f m) (frobenius_trace F N P (poly f z) (suc n)) (poly f t)
           (power P.ring (poly f z) (N.size ^ suc n)) (poly f v) h.trace last);
     }
       where

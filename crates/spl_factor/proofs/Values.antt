@@ -124,7 +124,8 @@ module _ (f : SmallField) where
     scaled = eq_of_coefficients o L (poly f r) (P.◌⊗◌ C A) (at o r)
         (λ k. o.mul (o.inv (at o a (degree a))) (at o a k)) (has_polynomial_of o L r hr.over)
         (λ k. ap₂ (λ u v. o.mul (o.inv u) v) (lead_value o L a ha) (has_polynomial_of o L a ha.over k)
-        ∙ ap (λ (z : Elem (small_ops f)). z.0) (sym (coefficient-constant_mul F.cring F.zero_test (F.inv (lead F.cring A)) A k)))
+        ∙ ap (λ (z : Elem (small_ops f)). z.0)
+        (sym (coefficient-constant_mul F.cring F.zero_test (F.inv (lead F.cring A)) A k)))
         h.scaled
 
     length_pos : (xs : List ℕ) → xs ≢ [] → 0 < length xs

@@ -10,7 +10,7 @@ use Rattle.theory_rings.proofs.Polynomials.Constants.{variable}
 use Rattle.theory_fractions.specs.PolynomialLists.{IsPolynomialList}
 use Rattle.theory_fractions.specs.FractionOps.{polynomial_of}
 use Rattle.theory_factors.specs.FactorLaws.{power_less}
-use Rattle.theory_factors.specs.Parts.{IsPart, trace}
+use Rattle.theory_factors.specs.Parts.{IsPart, frobenius_trace}
 use Rattle.spl_field.specs.SmallField.{small_ops, small_laws}
 use Rattle.spl_field.specs.declared.small.SmallField.{SmallField}
 use Rattle.spl_residue.proofs.Numbers.{small_numbers}
@@ -55,7 +55,7 @@ module _ (f : SmallField) where
 
   -- b is z + z^q + .. + z^(q^(d − 1)), modulo m
   abbrev pub IsTraceModulo : List ℕ → ℕ → List ℕ → List ℕ → Type 0
-  IsTraceModulo m d z b = Congruent ring (poly m) (trace field (small_numbers f) ring (poly z) d) (poly b)
+  IsTraceModulo m d z b = Congruent ring (poly m) (frobenius_trace field (small_numbers f) ring (poly z) d) (poly b)
 
   -- modulo m, t solves z^q = z
   abbrev pub IsFixedModulo : List ℕ → List ℕ → Type 0
@@ -67,9 +67,9 @@ module _ (f : SmallField) where
     pub part : IsPart field (small_numbers f) ring x d (poly g)
 
   -- the product of the powers
-  abbrev pub product : Powers → Poly field.cring
-  product [] = ring.one
-  product (p ∷ ps) = ring.◌⊗◌ (power ring.ring (poly p.0) p.1) (product ps)
+  abbrev pub product_of_powers : Powers → Poly field.cring
+  product_of_powers [] = ring.one
+  product_of_powers (p ∷ ps) = ring.◌⊗◌ (power ring.ring (poly p.0) p.1) (product_of_powers ps)
 
   -- none of the polynomials divides a
   abbrev pub NoneDivides : List ℕ → Powers → Type 0
@@ -85,5 +85,5 @@ module _ (f : SmallField) where
   -- after a step: the whole product is as before
   pub record IsNext (rest : List ℕ) (list : Powers) (rest' : List ℕ) (list' : Powers) : Type 0 where
     pub work : IsWork rest' list'
-    pub whole : ring.◌⊗◌ (product list') (poly rest') ≡ ring.◌⊗◌ (product list) (poly rest)
+    pub whole : ring.◌⊗◌ (product_of_powers list') (poly rest') ≡ ring.◌⊗◌ (product_of_powers list) (poly rest)
     pub divides : DividesList rest' rest

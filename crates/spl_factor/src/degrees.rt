@@ -6,8 +6,8 @@ ghost use Rattle.spl_field.specs.SmallField.{small_ops};
 ghost use Rattle.theory_rings.specs.Polynomial.{degree as degree_in};
 ghost use Rattle.theory_remainders.specs.Irreducible.{IsIrreducible};
 ghost use Rattle.spl_factor.specs.Factorisation.{AreFactors};
-ghost use Rattle.spl_factor.specs.Steps.{field, ring, poly, product, IsMonicList, IsPartList, IsWork, IsNext, DividesList};
-ghost use Rattle.spl_factor.specs.Steps.{IsVariablePower};
+ghost use Rattle.spl_factor.specs.Steps.{field, ring, poly, product_of_powers, IsMonicList, IsPartList, IsWork, IsNext};
+ghost use Rattle.spl_factor.specs.Steps.{DividesList, IsVariablePower};
 
 use crate::gcd::{degree_of, gcd};
 use crate::powers::{less_variable, raised, variable};
@@ -99,7 +99,7 @@ pub(crate) fn factors_of(
 ) -> Result<Vec<(Poly, usize)>, NoMemory>
     requires { IsMonicList f.now a }
     ensures factors { IfOk result (λ v. AreFactors (small_ops f.now) v.items) }
-    ensures product { IfOk result (λ v. product f.now v.items ≡ poly f.now a) }
+    ensures product { IfOk result (λ v. product_of_powers f.now v.items ≡ poly f.now a) }
 {
     let work = split_by_degrees(alloc, f, a)?;
     if work.rest.as_slice().len() <= 1 {

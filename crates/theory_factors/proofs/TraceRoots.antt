@@ -42,7 +42,8 @@ module _ {K : Type 0} (F : FieldOn K) (q : ℕ) (two : 2 ≤ q) where
       let less = pow_lt q n (suc n) two (omega arith) in
       let e : k ≡ q ^ n + (k - q ^ n) = omega arith in
       coefficient-add R F.zero_test (D n) (power P.ring t (q ^ n)) k
-      ∙ ap₂ F.◌⊕◌ (past n k (omega arith)) (term n k (k - q ^ n) e ∙ constant_past F.zero F.one (k - q ^ n) (omega arith))
+      ∙ ap₂ F.◌⊕◌ (past n k (omega arith))
+      (term n k (k - q ^ n) e ∙ constant_past F.zero F.one (k - q ^ n) (omega arith))
       ∙ F.zero-add F.zero
 
   leading : (n : ℕ) → coefficient R (D (suc n)) (q ^ n) ≡ F.one
@@ -56,7 +57,8 @@ module _ {K : Type 0} (F : FieldOn K) (q : ℕ) (two : 2 ≤ q) where
   after n k l =
       let e : k ≡ q ^ n + (k - q ^ n) = omega arith in
       coefficient-add R F.zero_test (D n) (power P.ring t (q ^ n)) k
-      ∙ ap₂ F.◌⊕◌ (past n k (omega arith)) (term n k (k - q ^ n) e ∙ constant_past F.zero F.one (k - q ^ n) (omega arith))
+      ∙ ap₂ F.◌⊕◌ (past n k (omega arith))
+      (term n k (k - q ^ n) e ∙ constant_past F.zero F.one (k - q ^ n) (omega arith))
       ∙ F.zero-add F.zero
 
   low : (n : ℕ) → degree (D (suc n)).0 ≤ q ^ n

@@ -23,7 +23,8 @@ use Rattle.theory_rings.proofs.FiniteFields.PolynomialPowers.{poly_power_size-ad
 use Rattle.theory_rings.proofs.Polynomials.PolynomialRing.{IsTrimmed-tail, Poly-path, constant, prepend-tail}
 use Rattle.theory_rings.proofs.Polynomials.PolynomialRing.{coefficient-zero}
 use Rattle.theory_rings.proofs.Polynomials.Degrees.{degree-constant, length-degree, poly_eq_zero_or}
-use Rattle.theory_rings.proofs.Polynomials.Constants.{variable, variable_unique, prepend_eq, constant-zero, constant_hom}
+use Rattle.theory_rings.proofs.Polynomials.Constants.{variable, variable_unique, prepend_eq, constant-zero}
+use Rattle.theory_rings.proofs.Polynomials.Constants.{constant_hom}
 use Rattle.theory_rings.proofs.Polynomials.Constants.{constant_unique}
 use Rattle.theory_rings.proofs.Polynomials.Remainders.{remainder, remainder_hom, remainder_eq, remainder-small}
 use Rattle.theory_rings.proofs.Polynomials.Remainders.{remainder_congruent}
@@ -35,7 +36,7 @@ use Rattle.theory_rings.proofs.Polynomials.Monic.{monic_of-monic, monic_of-divid
 use Rattle.theory_rings.proofs.Polynomials.Monic.{degrees_of_product}
 use Rattle.theory_radical.proofs.Lifts.TowerFields.{remainder_numbers, size-remainder_numbers}
 use Rattle.theory_factors.specs.FactorLaws.{power_less}
-use Rattle.theory_factors.specs.Parts.{IsPart, trace, TracesSolve, TracesAreFixed}
+use Rattle.theory_factors.specs.Parts.{IsPart, frobenius_trace, TracesSolve, TracesAreFixed}
 use Rattle.theory_factors.specs.Parts.{NotAllAreConstant, SomeTraceIsNotConstant}
 use Rattle.theory_factors.proofs.Factors.{irreducible_factor}
 use Rattle.theory_factors.proofs.Irreducible.{divides_no_lower}
@@ -60,7 +61,7 @@ module _ {K : Type 0} (F : FieldOn K) (E : Enumerated K) where
   c_of c = constant R F.zero_test c
 
   abbrev tr : Poly R → ℕ → Poly R
-  tr z n = trace F E P z n
+  tr z n = frobenius_trace F E P z n
 
   abbrev Pow : Poly R → ℕ → Poly R
   Pow z i = power P.ring z (E.size ^ i)
@@ -86,7 +87,8 @@ module _ {K : Type 0} (F : FieldOn K) (E : Enumerated K) where
 
   -- ---- modulo g
 
-  pub power_congruent : (g a b : Poly R) → Congruent P g a b → (n : ℕ) → Congruent P g (power P.ring a n) (power P.ring b n)
+  pub power_congruent : (g a b : Poly R) → Congruent P g a b → (n : ℕ)
+      → Congruent P g (power P.ring a n) (power P.ring b n)
   power_congruent g a b s zero = congruent_of_eq P g P.one P.one refl
   power_congruent g a b s (suc n) =
       congruent-mul P g a b (power P.ring a n) (power P.ring b n) s (power_congruent g a b s n)

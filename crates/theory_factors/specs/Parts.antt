@@ -22,8 +22,8 @@ module _ {K : Type 0} (F : FieldOn K) where
 
   module _ (E : Enumerated K) where
     -- z + z^q + .. + z^(q^(n − 1))
-    abbrev pub trace : CommRingOn (Poly F.cring) → Poly F.cring → ℕ → Poly F.cring
-    trace P z n = sum P.monoid n (λ i. power P.ring z (E.size ^ i))
+    abbrev pub frobenius_trace : CommRingOn (Poly F.cring) → Poly F.cring → ℕ → Poly F.cring
+    frobenius_trace P z n = sum P.monoid n (λ i. power P.ring z (E.size ^ i))
 
     -- a monic divisor of x^(q^d) − x without factors of degree less than d, where x is the variable
     pub record IsPart (P : CommRingOn (Poly F.cring)) (x : Poly F.cring) (d : ℕ) (g : Poly F.cring) : Type 0 where
@@ -34,14 +34,15 @@ module _ {K : Type 0} (F : FieldOn K) where
     -- modulo such a part the trace of each polynomial solves z^q = z
     abbrev pub TracesSolve : CommRingOn (Poly F.cring) → Poly F.cring → Type 0
     TracesSolve P x = (d : ℕ) (g : Poly F.cring) → IsPart P x d g → (z : Poly F.cring)
-        → Divides P g (power_less F P (trace P z d) E.size)
+        → Divides P g (power_less F P (frobenius_trace P z d) E.size)
 
     abbrev pub TracesAreFixed : Type 0
     TracesAreFixed = OfPolynomials F.cring (λ P. (x : Poly F.cring) → IsVariable F.cring x → TracesSolve P x)
 
     -- the trace of z is a constant modulo g
     abbrev pub HasConstantTrace : CommRingOn (Poly F.cring) → ℕ → Poly F.cring → Poly F.cring → Type 0
-    HasConstantTrace P d g z = (c : K) × (y : Poly F.cring) × IsConstant F.cring c y × Congruent P g (trace P z d) y
+    HasConstantTrace P d g z = (c : K) × (y : Poly F.cring) × IsConstant F.cring c y
+        × Congruent P g (frobenius_trace P z d) y
 
     -- where its degree is at least 2·d, the trace of some power of x is none
     abbrev pub NotAllAreConstant : CommRingOn (Poly F.cring) → Poly F.cring → Type 0

@@ -5,7 +5,8 @@ use Rattle.spl_factor.proofs.Parts.{irreducible_of_divisors}
 use Rattle.spl_factor.proofs.degrees.split_by_degrees.Goals as goal
 
 pub degrees-init : goal.degrees-init
-degrees-init c = at_degree_one c.args.f.now c.args.a c.in_ok-power.power _ c.requires c.in_ok-power.ensures c.new.ensures.items
+degrees-init c =
+    at_degree_one c.args.f.now c.args.a c.in_ok-power.power _ c.requires c.in_ok-power.ensures c.new.ensures.items
 
 pub raised-requires-clause-polynomial : goal.raised-requires-clause-polynomial
 raised-requires-clause-polynomial c = c.degrees.invariant.term

@@ -16,8 +16,9 @@ returns-then-divided-eq0-clause-next c =
 pub returns-then-divided-eq0-clause-fewer : goal.returns-then-divided-eq0-clause-fewer
 returns-then-divided-eq0-clause-fewer c = λ h.
     let d = c.in_ok-divided in
-    absurd (d.ensures.no_more (divides_left c.args.f.now c.order_law.ensures c.args.p d.divided.exponent c.args.work.rest
-    c.args.work.list.items d.divided.rest c.requires.work d.ensures.rest d.ensures.whole c.if-divided-eq0.true h))
+    absurd (d.ensures.no_more (divides_left c.args.f.now c.order_law.ensures c.args.p d.divided.exponent
+    c.args.work.rest c.args.work.list.items d.divided.rest c.requires.work d.ensures.rest d.ensures.whole
+    c.if-divided-eq0.true h))
 
 pub returns-clause-next : goal.returns-clause-next
 returns-clause-next c =
@@ -27,8 +28,8 @@ returns-clause-next c =
     let same = c.as_slice.ensures.value in
     let n = c.if-divided-eq0.false in
     subst (λ l. IsNext f c.args.work.rest list d.divided.rest l) (sym c.in_ok-insert.ensures.items)
-    (next_inserted f c.order_law.ensures c.args.p d.divided.exponent c.args.work.rest list d.divided.rest c.requires.work
-    d.ensures.rest d.ensures.whole c.place-i.result (omega arith)
+    (next_inserted f c.order_law.ensures c.args.p d.divided.exponent c.args.work.rest list d.divided.rest
+    c.requires.work d.ensures.rest d.ensures.whole c.place-i.result (omega arith)
     record {
       monic = leading_one f c.args.p c.requires.list;
       irreducible = c.requires.irreducible;
