@@ -1,6 +1,6 @@
 -- What is refused over a small field is refused over each with as many elements whose fractions have the same
 -- operations.
-use Rattle.std.proofs.Common.{◌≡◌, ℕ, ◌+◌, ◌<◌, List, [], ◌∷◌, Option, None, refl, sym, subst}
+use Rattle.std.proofs.Common.{◌≡◌, ℕ, ◌+◌, List, [], ◌∷◌, Option, None, refl, sym, subst}
 use Rattle.std.specs.List.{AllByRecursion}
 use Rattle.theory_rings.specs.Ops.{Ops, IsElem}
 use Rattle.theory_fractions.specs.Fraction.{Pair}
@@ -10,7 +10,7 @@ use Rattle.spl_fraction.specs.CanonicalWords.{words_of}
 use Rattle.spl_fraction.specs.FractionsOver.{fractions_over}
 use Rattle.spl_evidence.specs.Line.{Line}
 use Rattle.spl_evidence.specs.Refusal.{IsInRange, IsInOrder, HasTerms, IsRight, AreRight, behind, behind_all, LineFault}
-use Rattle.spl_evidence.specs.Refusal.{IsLineWith, IsFaultBehind, LacksFirst, IsFaultOfLines, IsFirstFault, IsRefusal}
+use Rattle.spl_evidence.specs.Refusal.{IsLineWith, IsFaultBehind, IsFaultOfLines, IsFirstFault, IsRefusal}
 use Rattle.spl_evidence.specs.declared.word.Before.{Before}
 use Rattle.spl_evidence.specs.declared.refusal.EvidenceRefusal.{EvidenceRefusal}
 use Rattle.spl_evidence.specs.declared.refusal.EvidenceKind.{EvidenceKind}

@@ -1,6 +1,6 @@
 -- The lines behind the line of a kind, and all lines, once they are read.
 use Rattle.std.proofs.Common.{◌≡◌, ◌≢◌, ◌⊎◌, ℕ, zero, suc, ◌-◌, ◌*◌, ◌<◌, ◌≤◌, List, [], ◌∷◌, ◌++◌, length}
-use Rattle.std.proofs.Common.{get_or, Option, Some, None, refl, sym, ap, ap₂, subst, ◌∙◌, inl, inr, arith, append-nil}
+use Rattle.std.proofs.Common.{get_or, Option, None, refl, sym, ap, ap₂, subst, ◌∙◌, inl, inr, arith, append-nil}
 use Rattle.std.specs.Prelude.{Contains}
 use Rattle.std.specs.List.{AllByRecursion}
 use Rattle.std.proofs.lemmas.List.{length-append}
@@ -10,17 +10,17 @@ use Rattle.theory_tables.specs.Claims.{TripleFits}
 use Rattle.spl_field.specs.declared.small.SmallField.{SmallField}
 use Rattle.spl_fraction.specs.FractionsOver.{fractions_over}
 use Rattle.spl_text.specs.Text.{line}
-use Rattle.spl_evidence.specs.Line.{Line, lines_text, line_text, number_count, fraction_count}
+use Rattle.spl_evidence.specs.Line.{Line, lines_text, line_text, number_count}
 use Rattle.spl_evidence.specs.Evidence.{Fits, body_lines, end_line, lines_of}
-use Rattle.spl_evidence.specs.Refusal.{behind, greatest, due_words, IsDue, IsRight}
-use Rattle.spl_evidence.specs.Reading.{Reads, HasRoom, IsBehindKind}
+use Rattle.spl_evidence.specs.Refusal.{greatest, due_words, IsDue, IsRight}
+use Rattle.spl_evidence.specs.Reading.{Reads, IsBehindKind}
 use Rattle.spl_evidence.specs.declared.evidence.Evidence.{Evidence}
 use Rattle.spl_evidence.specs.declared.word.Word.{Word}
 use Rattle.spl_evidence.specs.declared.word.Word.TheVariants.{Triple, NoIdentity, Central, Ideal, Split}
 use Rattle.spl_evidence.specs.declared.word.Before.{Before}
 use Rattle.spl_evidence.specs.declared.reader.Reader.{Reader}
 use Rattle.spl_evidence.proofs.Readers.Passing.{spelled-append}
-use Rattle.spl_evidence.proofs.Readers.LineSteps.{no_items, line_is}
+use Rattle.spl_evidence.proofs.Readers.LineSteps.{no_items, line_is, one_item}
 use Rattle.spl_evidence.proofs.Readers.Standing.{line_right}
 
 module _ (f : SmallField) (n : ℕ) where
@@ -54,16 +54,6 @@ module _ (f : SmallField) (n : ℕ) where
         rest_read a b (l ∷ []) rest p h.spelled ∙ ap (λ k. lines_text (k ∷ rest)) (same ∙ sym h.kind),
       )
 
-  pub kind_stands : (a b : Reader) (l first : Line) → a.before ≡ None → Reads f n a (l ∷ []) b → l ≡ first
-      → b.before ≡ behind None first
-  kind_stands a b l first start p same = p.before ∙ ap (λ z. behind z l) start ∙ ap (λ k. behind None k) same
-
-  pub start_room : (a : Reader) → a.before ≡ None → a.number < 4294967295 → HasRoom a
-  start_room a start high = record {
-    number = high;
-    count = λ b e. let both : None ≡ Some b = sym start ∙ e in absurd cc;
-  }
-
 -- ---- the words of kinds
 
 abbrev pub IsKind : Word → Type 0
@@ -86,13 +76,6 @@ kind_due m before w start due = at h.0 h.1 h.2
 pub some_kind : (m : ℕ) (before : Option Before) → before ≡ None → IsDue m before Split
 some_kind m before start = subst (λ z. IsDue m z Split) (sym start) (4, omega arith, refl)
 
-pub kind_plain : (m : ℕ) (w : Word) → IsKind w → fraction_count m w ≡ 0
-kind_plain m w (inl e) = rw e refl
-kind_plain m w (inr (inl e)) = rw e refl
-kind_plain m w (inr (inr (inl e))) = rw e refl
-kind_plain m w (inr (inr (inr (inl e)))) = rw e refl
-kind_plain m w (inr (inr (inr (inr e)))) = rw e refl
-
 pub split_kind : (w : Word) → IsKind w → w ≢ Triple → w ≢ NoIdentity → w ≢ Central → w ≢ Ideal → w ≡ Split
 split_kind w (inl e) a b c d = absurd (a e)
 split_kind w (inr (inl e)) a b c d = absurd (b e)
@@ -106,11 +89,6 @@ three_items (a ∷ []) e = absurd (omega arith)
 three_items (a ∷ b ∷ []) e = absurd (omega arith)
 three_items (a ∷ b ∷ d ∷ []) e = refl
 three_items (a ∷ b ∷ d ∷ k ∷ ns) e = absurd (omega arith)
-
-one_item : (ns : List ℕ) → length ns ≡ 1 → ns ≡ get_or ns 0 0 ∷ []
-one_item [] e = absurd (omega arith)
-one_item (a ∷ []) e = refl
-one_item (a ∷ b ∷ ns) e = absurd (omega arith)
 
 -- ---- the line of a kind that was read
 

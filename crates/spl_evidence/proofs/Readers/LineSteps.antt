@@ -85,6 +85,11 @@ pub nonzero_side : (w : Word) (ts : List FractionText) → IsSide w → ts ≢ z
 nonzero_side w ts (inl e) h = subst (λ v. IsNonzero v ts) (sym e) h
 nonzero_side w ts (inr e) h = subst (λ v. IsNonzero v ts) (sym e) h
 
+pub one_item : (ns : List ℕ) → length ns ≡ 1 → ns ≡ get_or ns 0 0 ∷ []
+one_item [] e = absurd (omega arith)
+one_item (a ∷ []) e = refl
+one_item (a ∷ b ∷ ns) e = absurd (omega arith)
+
 pub two_items : (ns : List ℕ) → length ns ≡ 2 → ns ≡ get_or ns 0 0 ∷ get_or ns 1 0 ∷ []
 two_items [] e = absurd (omega arith)
 two_items (a ∷ []) e = absurd (omega arith)

@@ -20,14 +20,9 @@ use Rattle.spl_evidence.specs.Reading.{Reads, StandsBehind, HasRoom}
 use Rattle.spl_evidence.specs.declared.word.Word.TheVariants.{Split, Map, Unit as UnitTuple}
 use Rattle.spl_evidence.specs.declared.reader.Reader.{Reader}
 use Rattle.spl_evidence.proofs.Spellings.{map_lines-push, unit_lines-push}
-use Rattle.spl_evidence.proofs.Readers.Passing.{Reads-none, Reads-append}
-use Rattle.spl_evidence.proofs.Readers.LineSteps.{line_is, only_due, two_items}
+use Rattle.spl_evidence.proofs.Readers.Passing.{Reads-append}
+use Rattle.spl_evidence.proofs.Readers.LineSteps.{line_is, only_due, two_items, one_item}
 use Rattle.spl_evidence.proofs.Readers.Standing.{room_behind, stands_next, line_right, map_in_split, unit_in_split}
-
-one_item : (ns : List ℕ) → length ns ≡ 1 → ns ≡ get_or ns 0 0 ∷ []
-one_item [] e = absurd (omega arith)
-one_item (a ∷ []) e = refl
-one_item (a ∷ b ∷ ns) e = absurd (omega arith)
 
 pub length-maps : (count : ℕ) (xs : List (List (List (Pair ℕ)))) → length (map_lines count xs) ≡ length xs
 length-maps count [] = refl
@@ -66,14 +61,6 @@ module _ (f : SmallField) (n : ℕ) where
     pub squares : All (IsSquare K n) xs
     pub reads : Reads f n old (map_lines 0 xs) new
     pub stands : StandsBehind Split 0 count new.before
-
-  pub MapsRead-none : (a : Reader) → StandsBehind Split 0 0 a.before → MapsRead a 0 [] a
-  MapsRead-none a s = record {
-    many = refl;
-    squares = λ k d below. absurd (omega arith);
-    reads = Reads-none f n a;
-    stands = s;
-  }
 
   module _ (old : Reader) (count : ℕ) (xs : List (List (List (Pair ℕ)))) (a : Reader)
       (so_far : MapsRead old count xs a) where
@@ -138,15 +125,6 @@ module _ (f : SmallField) (n : ℕ) where
     pub tuples : All (IsTuple K (n * n)) xs
     pub reads : Reads f n old (unit_lines n 0 xs) new
     pub stands : StandsBehind Split 0 (n * n + place) new.before
-
-  pub UnitsRead-none : (a : Reader) → StandsBehind Split 0 (n * n) a.before → UnitsRead a 0 [] a
-  UnitsRead-none a s = record {
-    many = refl;
-    tuples = λ k d below. absurd (omega arith);
-    reads = Reads-none f n a;
-    stands = let same : n * n ≡ n * n + 0 = omega arith in
-        subst (λ count. StandsBehind Split 0 count a.before) same s;
-  }
 
   module _ (old : Reader) (place : ℕ) (xs : List (List (Pair ℕ))) (a : Reader)
       (so_far : UnitsRead old place xs a) where

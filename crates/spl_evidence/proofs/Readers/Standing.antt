@@ -1,18 +1,14 @@
 -- Where a reader stands behind the line of a kind: what is due there, and that one line more can be counted.
-use Rattle.std.proofs.Common.{◌≡◌, ℕ, suc, ◌+◌, ◌<◌, ◌≤◌, cond, [], ◌∷◌, Option, Some, None, refl, sym}
-use Rattle.std.proofs.Common.{ap, subst, ◌∙◌, arith}
-use Rattle.std.specs.Prelude.{Contains}
-use Rattle.std.proofs.lemmas.Bool.{lt-ltb, le-ltb, eq-eqb}
+use Rattle.std.proofs.Common.{◌≡◌, ℕ, suc, ◌+◌, ◌<◌, ◌≤◌, cond, [], ◌∷◌, Option, Some, None, sym, ap, subst, ◌∙◌, arith}
+use Rattle.std.proofs.lemmas.Bool.{lt-ltb, le-ltb}
 use Rattle.spl_field.specs.declared.small.SmallField.{SmallField}
 use Rattle.spl_evidence.specs.Line.{Line}
-use Rattle.spl_evidence.specs.Evidence.{end_line}
-use Rattle.spl_evidence.specs.Refusal.{number_at, behind, due_words, up_to, end_at, NothingIsDue, IsRight}
+use Rattle.spl_evidence.specs.Refusal.{number_at, behind, due_words, up_to, end_at, IsRight}
 use Rattle.spl_evidence.specs.Reading.{Reads, StandsBehind, HasRoom}
 use Rattle.spl_evidence.specs.declared.word.Word.{Word}
-use Rattle.spl_evidence.specs.declared.word.Word.TheVariants.{Ideal, Split, Tuple, Map, Unit as UnitTuple, End}
+use Rattle.spl_evidence.specs.declared.word.Word.TheVariants.{Ideal, Split, Tuple, Map, Unit as UnitTuple}
 use Rattle.spl_evidence.specs.declared.word.Before.{Before}
 use Rattle.spl_evidence.specs.declared.reader.Reader.{Reader}
-use Rattle.spl_evidence.proofs.RightLines.DueWords.{not_past, not_behind_end}
 
 abbrev count_of : Option Before → ℕ
 count_of None = 0
@@ -65,20 +61,6 @@ module _ (m : ℕ) where
   tuple_in_ideal tuples count before s below =
       ap (due_words m) s.is ∙ ap (λ b. cond b (Tuple ∷ []) (end_at count tuples)) (lt-ltb count tuples below)
 
-  pub end_of_ideal : (tuples : ℕ) (before : Option Before) → StandsBehind Ideal tuples tuples before
-      → due_words m before ≡ End ∷ []
-  end_of_ideal tuples before s =
-      ap (due_words m) s.is
-      ∙ ap (λ b. cond b (Tuple ∷ []) (end_at tuples tuples)) (le-ltb tuples tuples (omega arith))
-      ∙ ap (λ b. cond b (End ∷ []) []) (eq-eqb tuples tuples refl)
-
-  pub nothing_in_ideal : (tuples : ℕ) (before : Option Before) → StandsBehind Ideal tuples tuples before
-      → NothingIsDue m (behind before end_line)
-  nothing_in_ideal tuples before s w due =
-      not_past (suc tuples) tuples Tuple w (end_at (suc tuples) tuples) (omega arith)
-      (not_behind_end (suc tuples) tuples w (λ e. omega arith))
-      (subst (λ b. Contains (due_words m (behind b end_line)) w) s.is due)
-
   -- ---- among the matrices and unit tuples
 
   pub map_in_split : (count : ℕ) (before : Option Before) → StandsBehind Split 0 count before → count < m
@@ -93,20 +75,3 @@ module _ (m : ℕ) where
       ap (due_words m) s.is
       ∙ ap (λ b. cond b (Map ∷ []) (up_to count (m + m) UnitTuple (end_at count (m + m)))) (le-ltb count m past)
       ∙ ap (λ b. cond b (UnitTuple ∷ []) (end_at count (m + m))) (lt-ltb count (m + m) below)
-
-  pub end_of_split : (before : Option Before) → StandsBehind Split 0 (m + m) before → due_words m before ≡ End ∷ []
-  end_of_split before s =
-      let count = m + m in
-      ap (due_words m) s.is
-      ∙ ap (λ b. cond b (Map ∷ []) (up_to count count UnitTuple (end_at count count))) (le-ltb count m (omega arith))
-      ∙ ap (λ b. cond b (UnitTuple ∷ []) (end_at count count)) (le-ltb count count (omega arith))
-      ∙ ap (λ b. cond b (End ∷ []) []) (eq-eqb count count refl)
-
-  pub nothing_in_split : (before : Option Before) → StandsBehind Split 0 (m + m) before
-      → NothingIsDue m (behind before end_line)
-  nothing_in_split before s w due =
-      let count = suc (m + m) in
-      not_past count m Map w (up_to count (m + m) UnitTuple (end_at count (m + m))) (omega arith)
-      (not_past count (m + m) UnitTuple w (end_at count (m + m)) (omega arith)
-      (not_behind_end count (m + m) w (λ e. omega arith)))
-      (subst (λ b. Contains (due_words m (behind b end_line)) w) s.is due)

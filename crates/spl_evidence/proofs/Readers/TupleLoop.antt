@@ -1,5 +1,5 @@
 -- Tuples behind one another.
-use Rattle.std.proofs.Common.{◌≡◌, ℕ, suc, ◌+◌, ◌*◌, ◌<◌, List, [], ◌∷◌, ◌++◌, length, map, refl, sym, ap, subst}
+use Rattle.std.proofs.Common.{◌≡◌, ℕ, ◌+◌, ◌*◌, ◌<◌, List, [], ◌∷◌, ◌++◌, length, map, sym, ap, subst}
 use Rattle.std.proofs.Common.{◌∙◌, arith}
 use Rattle.std.specs.List.{All}
 use Rattle.std.proofs.lemmas.List.{length-append, map-append}
@@ -13,12 +13,12 @@ use Rattle.spl_fraction.specs.CanonicalWords.{words_of}
 use Rattle.spl_evidence.specs.Line.{Line, number_count}
 use Rattle.spl_evidence.specs.Evidence.{tuple_line}
 use Rattle.spl_evidence.specs.Refusal.{due_words}
-use Rattle.spl_evidence.specs.Reading.{Reads, StandsBehind, HasRoom}
+use Rattle.spl_evidence.specs.Reading.{Reads, StandsBehind}
 use Rattle.spl_evidence.specs.declared.word.Word.TheVariants.{Ideal, Tuple}
 use Rattle.spl_evidence.specs.declared.reader.Reader.{Reader}
-use Rattle.spl_evidence.proofs.Readers.Passing.{Reads-none, Reads-append}
+use Rattle.spl_evidence.proofs.Readers.Passing.{Reads-append}
 use Rattle.spl_evidence.proofs.Readers.LineSteps.{no_items, line_is, only_due}
-use Rattle.spl_evidence.proofs.Readers.Standing.{room_behind, stands_next, line_right, tuple_in_ideal}
+use Rattle.spl_evidence.proofs.Readers.Standing.{stands_next, line_right, tuple_in_ideal}
 
 module _ (f : SmallField) (n : ℕ) where
   abbrev K : Ops (Pair ℕ)
@@ -45,30 +45,8 @@ module _ (f : SmallField) (n : ℕ) where
     pub reads : Reads f n old (map tuple_line xs) new
     pub stands : StandsBehind Ideal most count new.before
 
-  pub TuplesRead-none : (a : Reader) (most : ℕ) → StandsBehind Ideal most 0 a.before → TuplesRead a most 0 [] a
-  TuplesRead-none a most s = record {
-    many = refl;
-    tuples = λ k d below. absurd (omega arith);
-    reads = Reads-none f n a;
-    stands = s;
-  }
-
   module _ (old : Reader) (most count : ℕ) (xs : List (List (Pair ℕ))) (a : Reader)
       (so_far : TuplesRead old most count xs a) where
-    lines : length (map tuple_line xs) ≡ count
-    lines = length-lines xs ∙ so_far.many
-      where
-        length-lines : (ys : List (List (Pair ℕ))) → length (map tuple_line ys) ≡ length ys
-        length-lines [] = refl
-        length-lines (y ∷ ys) = ap suc (length-lines ys)
-
-    pub tuples_number : a.number ≡ old.number + count
-    tuples_number = so_far.reads.number ∙ ap (λ k. old.number + k) lines
-
-    pub tuples_room : old.number + count < 4294967295 → HasRoom a
-    tuples_room high =
-        room_behind a Ideal most count so_far.stands (omega (arith, tuples_number, high)) (omega (arith, high))
-
     pub TuplesRead-push : count < most → (b : Reader) (t : List (Pair ℕ)) → IsTuple K (n * n) t
         → (l : Line) × Reads f n a (l ∷ []) b × (l.fractions ≡ map words_of t)
         → TuplesRead old most (count + 1) (xs ++ t ∷ []) b
