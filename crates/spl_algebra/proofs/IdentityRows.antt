@@ -6,8 +6,9 @@ use Rattle.std.proofs.Common.{refl, sym, ◌∙◌, ap, ap₂, subst, arith, ⊎
 use Rattle.std.proofs.Math.Nat as nat
 use Rattle.std.proofs.Math.Seq.{get_or-append_seam}
 use Rattle.std.proofs.lemmas.Bool.{cases_lt, lt-ltb, le-ltb, cond-true, cond-false}
-use Rattle.std.proofs.lemmas.List.{get_or_append_left, length-append, get_or-take, get_or-drop}
-use Rattle.std.proofs.lemmas.List.Elements.{All-get_or}
+use Rattle.std.proofs.lemmas.List.{get_or_append_left, length-append, get_or-take, get_or-drop, length-take-le}
+use Rattle.std.proofs.lemmas.List.{length-drop}
+use Rattle.std.proofs.lemmas.List.Elements.{All-get_or, All-take, All-drop}
 use Rattle.std.proofs.lemmas.Nat.{div-mul-add, mod-mul-add}
 use Rattle.theory_rings.specs.Ops.{Ops, IsElem, FieldLaws}
 use Rattle.theory_rings.specs.Sum.{at, sum_of, table}
@@ -40,6 +41,21 @@ columns-fit m some fits = ⊎_elim
     rw one (omega arith))
     (λ (many : 2 ≤ m). omega (arith, nat.mul-le-mul_right (m * m) many))
     (cases_lt m 2)
+
+-- the halves of a tuple
+pub IsTuple-take : {E : Type 0} (o : Ops E) (n : ℕ) (xs ys : List E) → IsTuple o (n + n) xs → ys ≡ take n xs
+    → IsTuple o n ys
+IsTuple-take o n xs ys t e = record {
+  right_length = ap length e ∙ length-take-le n xs (omega (arith, t.right_length));
+  of_elements = rw e (All-take (IsElem o) n xs t.of_elements);
+}
+
+pub IsTuple-drop : {E : Type 0} (o : Ops E) (n : ℕ) (xs ys : List E) → IsTuple o (n + n) xs → ys ≡ drop n xs
+    → IsTuple o n ys
+IsTuple-drop o n xs ys t e = record {
+  right_length = omega (arith, ap length e, length-drop n xs, t.right_length);
+  of_elements = rw e (All-drop (IsElem o) n xs t.of_elements);
+}
 
 pub right_place-within : (m i c : ℕ) → i < m → c < m * m + m * m
     → ((c - m * m) / m * m + i) * m + (c - m * m) % m < m * m * m
@@ -161,6 +177,14 @@ module _ {E : Type 0} (o : Ops E) (L : FieldLaws o) where
     system_width =
         let some : 0 < length rows = omega (arith, S.height) in
         (All-get_or (IsTuple o (m * m + m * m)) rows 0 [] some S.shape).right_length
+
+    -- a solution has two items for each pair of basis elements
+    pub solution-tuple : (v w : List E) → IsTuple o (width_of rows) v → w ≡ v → IsTuple o (m * m + m * m) w
+    solution-tuple v w t e = subst (λ n. IsTuple o n w) system_width (subst (IsTuple o (width_of rows)) (sym e) t)
+
+    -- what refutes the system has an item for each row
+    pub refutation-tuple : (u w : List E) → IsTuple o (length rows) u → w ≡ u → IsTuple o (m + 1) w
+    refutation-tuple u w t e = subst (λ n. IsTuple o n w) S.height (subst (IsTuple o (length rows)) (sym e) t)
 
     left-lt : (j k : ℕ) → j < m → k < m → j * m + k < m * m + m * m
     left-lt j k hj hk = let l : j * m + k < m * m = pair-lt m m j k hj hk in omega arith

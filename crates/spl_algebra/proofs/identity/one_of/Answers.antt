@@ -1,8 +1,9 @@
-use Rattle.std.proofs.Common.{ℕ, sym, ◌+◌, ◌∙◌, ◌*◌, ap, subst, take, drop, length}
+use Rattle.std.proofs.Common.{ℕ, arith, sym, ◌+◌, ◌∙◌, ◌*◌, ap, subst, take, drop, length}
 use Rattle.theory_tables.specs.Matrix.{width_of}
 use Rattle.theory_tables.specs.Solve.{IsSolved, IsRefuted}
 use Rattle.spl_algebra.specs.IdentitySystem.{ListsMultipliers}
-use Rattle.spl_algebra.proofs.IdentityRows.{refutes_identity, opposite_is_one, columns-fit}
+use Rattle.spl_algebra.proofs.IdentityRows.{refutes_identity, opposite_is_one, columns-fit, solution-tuple}
+use Rattle.spl_algebra.proofs.IdentityRows.{refutation-tuple, IsTuple-take, IsTuple-drop}
 use Rattle.theory_spaces.specs.Tuples.{IsTuple}
 use Rattle.spl_algebra.proofs.UnitRows.{IsTuple-of_basis}
 use Rattle.spl_algebra.proofs.identity.one_of.Goals as goal
@@ -47,3 +48,51 @@ returns g c =
     (opposite_is_one o
     (g.met.F.Field.laws c.args.f.now) m cs c.requires.over.of_elements rows c.in_ok-rows.ensures
     c.in-Refuted.multipliers refuted)
+
+pub solve-requires-clause-elems : goal.solve-requires-clause-elems
+solve-requires-clause-elems g c = λ k d l. (c.in_ok-rows.ensures.shape k d l).of_elements
+
+pub split_at-requires : goal.split_at-requires
+split_at-requires g c =
+    let o = g.F.Field.ops c.args.f.now in
+    let rows = c.in_ok-rows.rows in
+    let solution : IsSolved o (length rows) (width_of rows) rows c.as_slice.result.now c.in-Solved.vector =
+    rw c.in-Solved.is at c.in_ok-vector.ensures in
+    let items = solution-tuple o (g.met.F.Field.laws c.args.f.now) c.args.m c.args.constants.now
+    c.requires.over.of_elements rows c.in_ok-rows.ensures c.in-Solved.vector c.as_slice-in-Solved.result.now
+    solution.tuple c.as_slice-in-Solved.ensures in
+    omega (arith, items.right_length)
+
+pub listed-requires-clause-items : goal.listed-requires-clause-items
+listed-requires-clause-items g c =
+    let o = g.F.Field.ops c.args.f.now in
+    let m = c.args.m in
+    let rows = c.in_ok-rows.rows in
+    let solution : IsSolved o (length rows) (width_of rows) rows c.as_slice.result.now c.in-Solved.vector =
+    rw c.in-Solved.is at c.in_ok-vector.ensures in
+    let items = solution-tuple o (g.met.F.Field.laws c.args.f.now) m c.args.constants.now
+    c.requires.over.of_elements rows c.in_ok-rows.ensures c.in-Solved.vector c.as_slice-in-Solved.result.now
+    solution.tuple c.as_slice-in-Solved.ensures in
+    IsTuple-take o (m * m) c.as_slice-in-Solved.result.now c.split_at.result.0.now items c.split_at.ensures.front
+
+pub listed-requires-in-Solved-clause-items : goal.listed-requires-in-Solved-clause-items
+listed-requires-in-Solved-clause-items g c =
+    let o = g.F.Field.ops c.args.f.now in
+    let m = c.args.m in
+    let rows = c.in_ok-rows.rows in
+    let solution : IsSolved o (length rows) (width_of rows) rows c.as_slice.result.now c.in-Solved.vector =
+    rw c.in-Solved.is at c.in_ok-vector.ensures in
+    let items = solution-tuple o (g.met.F.Field.laws c.args.f.now) m c.args.constants.now
+    c.requires.over.of_elements rows c.in_ok-rows.ensures c.in-Solved.vector c.as_slice-in-Solved.result.now
+    solution.tuple c.as_slice-in-Solved.ensures in
+    IsTuple-drop o (m * m) c.as_slice-in-Solved.result.now c.split_at.result.1.now items c.split_at.ensures.back
+
+pub opposite-requires : goal.opposite-requires
+opposite-requires g c =
+    let o = g.F.Field.ops c.args.f.now in
+    let rows = c.in_ok-rows.rows in
+    let refuted : IsRefuted o (length rows) (width_of rows) rows c.as_slice.result.now c.in-Refuted.multipliers =
+    rw c.in-Refuted.is at c.in_ok-vector.ensures in
+    refutation-tuple o (g.met.F.Field.laws c.args.f.now) c.args.m c.args.constants.now c.requires.over.of_elements rows
+    c.in_ok-rows.ensures c.in-Refuted.multipliers c.as_slice-in-Refuted.result.now refuted.tuple
+    c.as_slice-in-Refuted.ensures
