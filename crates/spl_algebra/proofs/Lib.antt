@@ -11,3 +11,5 @@ pub mod Commutators
 pub mod Inclusions
 pub mod Multiples
 pub mod Triples
+pub mod Annihilators
+pub mod QuotientRows

@@ -5,3 +5,4 @@ pub mod Subspaces
 pub mod Contractions
 pub mod Multiples
 pub mod Triple
+pub mod Quotients

@@ -11,5 +11,6 @@ pub mod ideal;
 pub mod identity;
 pub mod laws;
 pub mod products;
+pub mod quotient;
 pub mod trace;
 pub mod triple;

@@ -170,3 +170,18 @@ impl<F: Field> Matrix<F> {
         kernel_of(alloc, f, self.width(), self.as_slice())
     }
 }
+
+impl<F: Field> Subspace<F> {
+    /// The annihilator: the vectors v with row·v = 0 for each row of this subspace's basis.
+    pub fn annihilator(&self, alloc: Global, f: &F) -> Result<Subspace<F>, NoMemory>
+        requires { IsSubspace (F.ops f.now) self.now }
+        ensures basis { IfOk result (IsSubspace (F.ops f.now)) }
+        ensures width { IfOk result (λ s. s.width ≡ self.now.width) }
+        ensures members { IfOk result (λ s.
+            SpansKernel (F.ops f.now) (length self.now.rows) self.now.width self.now.rows s.rows) }
+    {
+        let w = self.width();
+        let vectors = kernel_vectors(alloc, f, w, self.rows().as_slice())?;
+        span_of(alloc, f, w, vectors)
+    }
+}

@@ -7,7 +7,7 @@ ghost use Rattle.theory_tables.specs.Echelon.{IsReducedEchelon};
 ghost use Rattle.theory_tables.specs.Subspace.{InSpan, SameSpan, IsReducedBasis, IsSubspace, SpansSum, SpansMeet};
 
 use crate::basis::{basis_of, gathered, is_combination, pivots_of};
-use crate::matrix::{Matrix, copied};
+use crate::matrix::{Indices, Matrix, copied};
 use crate::meet::{meet_rows, stacked};
 use spl_field::field::{Field, NoMemory};
 use spl_field::list::Vector;
@@ -136,6 +136,16 @@ impl<F: Field> Subspace<F> {
         ensures { result.now ≡ self.now.rows }
     {
         &self.rows
+    }
+
+    /// The pivots of the basis: the place of the first item of each row that is not 0.
+    pub fn pivots(&self, alloc: Global, f: &F) -> Result<Indices, NoMemory>
+        requires { IsSubspace (F.ops f.now) self.now }
+        ensures each { IfOk result (λ p. length p ≡ length self.now.rows) }
+        ensures reduced { IfOk result (λ p.
+            IsReducedEchelon (F.ops f.now) (length self.now.rows) self.now.rows p self.now.width) }
+    {
+        pivots_of(alloc, f, self.width, self.rows.as_slice())
     }
 
     /// The basis in reduced row echelon form, as a matrix of its own. It takes no memory.

@@ -5,3 +5,6 @@ pub mod CentralSimple
 pub mod TraceRadical
 pub mod Exclusions
 pub mod Dimensions
+pub mod ProductMaps
+pub mod MatrixMaps
+pub mod Quotients

@@ -1,6 +1,7 @@
 pub mod Structure
 pub mod Conditions
 pub mod Algebras
+pub mod Quotient
 pub mod Traces
 pub mod Split
 pub mod Ramified

@@ -4,6 +4,8 @@ ghost use Rattle.theory_rings.specs.Ops.{Ops, FieldLaws};
 ghost use Rattle.theory_tables.specs.Structure.{Structure};
 ghost use Rattle.theory_tables.specs.Laws.{IdealByBasis, TraceRadicalLaw, CentralSimpleByTraceForm};
 ghost use Rattle.theory_tables.specs.Laws.{ClaimsExcludeCentralSimple};
+ghost use Rattle.theory_tables.specs.Quotient.{QuotientLaw};
+ghost use Rattle.std.specs.Prelude.{List};
 
 /// Tuples span a two-sided ideal exactly where their products with the basis elements from both sides are combinations
 /// of them.
@@ -30,4 +32,10 @@ pub fn central_simple_by_trace_form<E>()
 /// algebra.
 pub fn claims_exclude_central_simple<E>()
     ensures excludes { (o : Ops E) → FieldLaws o → (A : Structure E) → ClaimsExcludeCentralSimple o A }
+{}
+
+/// The quotient of an algebra by an ideal is associative where the algebra is, the class of an identity is one, and each
+/// of its elements is the class of one.
+pub fn quotients_keep_laws<E>()
+    ensures keeps { (o : Ops E) → FieldLaws o → (A : Structure E) (ideal : List (List E)) → QuotientLaw o A ideal }
 {}
