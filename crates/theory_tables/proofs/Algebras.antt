@@ -8,3 +8,5 @@ pub mod Dimensions
 pub mod ProductMaps
 pub mod MatrixMaps
 pub mod Quotients
+pub mod SetPowers
+pub mod Powers

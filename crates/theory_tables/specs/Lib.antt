@@ -2,6 +2,7 @@ pub mod Structure
 pub mod Conditions
 pub mod Algebras
 pub mod Quotient
+pub mod Powers
 pub mod Traces
 pub mod Split
 pub mod Ramified

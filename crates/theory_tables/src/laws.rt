@@ -5,6 +5,7 @@ ghost use Rattle.theory_tables.specs.Structure.{Structure};
 ghost use Rattle.theory_tables.specs.Laws.{IdealByBasis, TraceRadicalLaw, CentralSimpleByTraceForm};
 ghost use Rattle.theory_tables.specs.Laws.{ClaimsExcludeCentralSimple};
 ghost use Rattle.theory_tables.specs.Quotient.{QuotientLaw};
+ghost use Rattle.theory_tables.specs.Powers.{NilpotentByPowersLaw};
 ghost use Rattle.std.specs.Prelude.{List};
 
 /// Tuples span a two-sided ideal exactly where their products with the basis elements from both sides are combinations
@@ -34,8 +35,14 @@ pub fn claims_exclude_central_simple<E>()
     ensures excludes { (o : Ops E) → FieldLaws o → (A : Structure E) → ClaimsExcludeCentralSimple o A }
 {}
 
-/// The quotient of an algebra by an ideal is associative where the algebra is, the class of an identity is one, and each
-/// of its elements is the class of one.
+/// The quotient of an algebra by an ideal is associative where the algebra is, the class of an identity is one, and
+/// each of its elements is the class of one.
 pub fn quotients_keep_laws<E>()
     ensures keeps { (o : Ops E) → FieldLaws o → (A : Structure E) (ideal : List (List E)) → QuotientLaw o A ideal }
+{}
+
+/// The power e + 1 of an ideal of an associative algebra with identity is 0 just where products of e + 1 members are,
+/// and the ideal is nilpotent just where some power is 0.
+pub fn powers_tell_nilpotent<E>()
+    ensures powers { (o : Ops E) → FieldLaws o → (A : Structure E) → NilpotentByPowersLaw o A }
 {}
