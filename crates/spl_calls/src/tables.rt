@@ -5,10 +5,11 @@ ghost use Rattle.spl_table.specs.Table.{algebra_of, ops_of};
 
 use spl_algebra::identity::One;
 use spl_centre::centre::{centre_fault, identity_or_refutation, trace_ideal};
+use spl_cli::report::refusal_line;
 use spl_engine::decide::decide;
 use spl_evidence::evidence::Evidence;
-use spl_table::reader::read_table;
-use spl_table::refusal::{Kind, Refusal, TableFault};
+use spl_table::reader::{read_front, read_table};
+use spl_table::refusal::{Refusal, TableFault};
 use spl_table::table::Table;
 use spl_table::triple::first_failed_triple;
 use spl_table::writing::write_table;
@@ -16,36 +17,9 @@ use spl_words::fault::Fault;
 use spl_words::{algebras, show, small, texts};
 use std::alloc::{AllocError, Global};
 
-/// The name of a refusal's kind.
-fn name(kind: Kind) -> &'static str {
-    match kind {
-        Kind::TooLong => "TooLong",
-        Kind::NotText => "NotText",
-        Kind::Header => "Header",
-        Kind::FieldSize => "FieldSize",
-        Kind::FieldLaw { .. } => "FieldLaw",
-        Kind::Degree => "Degree",
-        Kind::Characteristic => "Characteristic",
-        Kind::EntryForm => "EntryForm",
-        Kind::EntryRange => "EntryRange",
-        Kind::EntryOrder => "EntryOrder",
-        Kind::ZeroDenominator => "ZeroDenominator",
-        Kind::PolyDegree => "PolyDegree",
-        Kind::NoEnd => "NoEnd",
-        Kind::AfterEnd => "AfterEnd",
-        Kind::NotBuilt => "NotBuilt",
-    }
-}
-
-/// The refusal.
+/// The refusal, as the program reports it.
 fn refusal(out: &mut Vec<u8>, refusal: Refusal) -> Result<(), Fault> {
-    show::word(out, "refused")?;
-    show::number(out, refusal.line)?;
-    show::word(out, name(refusal.kind))?;
-    match refusal.kind {
-        Kind::FieldLaw { element } => show::number(out, u32::from(element)),
-        _ => Ok(()),
-    }
+    show::word(out, refusal_line(refusal).as_str().trim_end())
 }
 
 /// `first_failed_triple T`
@@ -157,6 +131,28 @@ fn on_table(alloc: Global, call: &str, table: &Table, out: &mut Vec<u8>) -> Resu
     }
 }
 
+/// What a fault of a text comes to: its refusal, unless memory was wanting.
+fn fault(fault: TableFault, out: &mut Vec<u8>) -> Result<(), Fault> {
+    match fault {
+        TableFault::Memory => Err(Fault::Memory(AllocError)),
+        TableFault::Refused { refusal: why } => refusal(out, why),
+    }
+}
+
+/// `read_front T`: the numbers of bytes and of lines of the table text in front, or its refusal.
+fn front(alloc: Global, text: &[u8], out: &mut Vec<u8>) -> Result<(), Fault> {
+    if text.len() > 67108864 {
+        return Err(Fault::BadLine);
+    }
+    match read_front(alloc, text) {
+        Ok(front) => {
+            show::count(out, front.used)?;
+            show::number(out, front.lines)
+        }
+        Err(why) => fault(why, out),
+    }
+}
+
 /// The answer of a call on the table of a text, or its refusal.
 pub(crate) fn call(
     alloc: Global,
@@ -167,9 +163,12 @@ pub(crate) fn call(
     let [text] = words else {
         return Err(Fault::BadLine);
     };
-    match read_table(alloc, texts::bytes_of(alloc, text)?.as_slice()) {
+    let text = texts::bytes_of(alloc, text)?;
+    if call == "read_front" {
+        return front(alloc, text.as_slice(), out);
+    }
+    match read_table(alloc, text.as_slice()) {
         Ok(table) => on_table(alloc, call, &table, out),
-        Err(TableFault::Memory) => Err(Fault::Memory(AllocError)),
-        Err(TableFault::Refused { refusal: why }) => refusal(out, why),
+        Err(why) => fault(why, out),
     }
 }

@@ -7,7 +7,7 @@
 
 mod input;
 pub mod laws;
-mod report;
+pub mod report;
 pub mod run;
 pub mod status;
 pub mod words;

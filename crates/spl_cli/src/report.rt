@@ -51,7 +51,7 @@ fn push_element(line: &mut ArrayString<64>, kind: Kind)
 }
 
 /// The report of a refusal. It takes no memory.
-pub(crate) fn refusal_line(refusal: Refusal) -> ArrayString<64>
+pub fn refusal_line(refusal: Refusal) -> ArrayString<64>
     ensures { result.bytes ≡ refusal_text refusal }
 {
     let mut buffer = Buffer::new();
