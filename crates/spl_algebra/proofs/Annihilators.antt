@@ -124,7 +124,8 @@ module _ {E : Type 0} (o : Ops E) (L : FieldLaws o) (m : ℕ) where
         sum_of_congr o m (λ k. o.mul (row k) (at o (table m (rest j)) k)) (λ k. o.mul (row k) (rest j k))
         (λ k k_in. ap (o.mul (row k)) (at-table o m (rest j) k k_in))
         ∙ zero_of_add paired (row j)
-        (sum_of-elem o L m (λ k. o.mul (row k) (rest j k)) (λ k _. L.mul-elem (row k) (rest j k) (e-in i k) (rest-elem j k)))
+        (sum_of-elem o L m (λ k. o.mul (row k) (rest j k))
+        (λ k _. L.mul-elem (row k) (rest j k) (e-in i k) (rest-elem j k)))
         (e-in i j) (ap (o.add paired) (sym (row-at_pivots i j i_in)) ∙ h)
 
     module _ (killers : List (List E)) (shape : IsMatrix o m killers) (kernel : SpansKernel o r m rows killers) where
@@ -179,7 +180,8 @@ module _ {E : Type 0} (o : Ops E) (L : FieldLaws o) (m : ℕ) where
           let sums_in : IsElem o sums = sum_of-elem o L r (λ t. o.mul (entry o rows t j) (at o v (p t)))
           (λ t _. L.mul-elem (entry o rows t j) (at o v (p t)) (e-in t j) (v_in (p t))) in
           sym (pair-rest (at o v) v_in j j_in) ∙ ap (λ x. o.add x sums) zero ∙ L.zero-add sums sums_in
-          ∙ sum_of_congr o r (λ t. o.mul (entry o rows t j) (at o v (p t))) (λ t. o.mul (at o v (p t)) (entry o rows t j))
+          ∙ sum_of_congr o r (λ t. o.mul (entry o rows t j) (at o v (p t)))
+          (λ t. o.mul (at o v (p t)) (entry o rows t j))
           (λ t _. L.mul_comm (entry o rows t j) (at o v (p t)) (e-in t j) (v_in (p t))))
 
       pub double_annihilator : SpansKernel o n m killers rows
@@ -189,7 +191,8 @@ module _ {E : Type 0} (o : Ops E) (L : FieldLaws o) (m : ℕ) where
     pub image-pivot : (s : ℕ) → s < r → image o r m rows (basis o m (p s)) ≡ basis o r s
     image-pivot s s_in =
         let each = is_basis.each in
-        table_congr r (λ i. sum_of o m (λ k. o.mul (entry o rows i k) (at o (basis o m (p s)) k))) (λ i. d i s) (λ i i_in.
+        table_congr r (λ i. sum_of o m (λ k. o.mul (entry o rows i k) (at o (basis o m (p s)) k)))
+        (λ i. d i s) (λ i i_in.
         sum_of_congr o m (λ k. o.mul (entry o rows i k) (at o (basis o m (p s)) k))
         (λ k. o.mul (entry o rows i k) (d k (p s)))
         (λ k k_in. ap (o.mul (entry o rows i k)) (at-table o m (λ k. d k (p s)) k k_in))

@@ -13,3 +13,4 @@ pub mod Multiples
 pub mod Triples
 pub mod Annihilators
 pub mod QuotientRows
+pub mod PowerSpans

@@ -1,7 +1,6 @@
 -- The constants of a quotient as rows one after the other, and the quotient by the annihilator of an ideal.
 use Rattle.std.specs.Prelude.{◌≡◌, ◌+◌, ◌*◌, ◌/◌, ◌%◌, ◌<◌, ◌≤◌, ℕ, List, [], ◌∷◌, ◌++◌, length, get_or}
 use Rattle.std.proofs.Common.{refl, sym, ◌∙◌, ap, ap₂, subst, arith, ⊎_elim, append_assoc, length-append}
-use Rattle.std.proofs.Common.{mul-le-mul, mul-le-mul_left}
 use Rattle.std.proofs.lemmas.Bool.{cases_lt}
 use Rattle.std.proofs.lemmas.Nat.{div-mul-add, mod-mul-add}
 use Rattle.std.proofs.lemmas.List.{get_or_append_left, get_or-append-add}
@@ -58,13 +57,6 @@ module _ {E : Type 0} (o : Ops E) (n : ℕ) (row : ℕ → List E) where
             (cases_lt s r);
       }
 
--- the places of pairs fit where those of triples do
-pub pairs_fit : (n m b : ℕ) → n ≤ m → 1 ≤ m → m * m * m < b → n * n < b
-pairs_fit n m b l one h =
-    let x : n * n ≤ m * m = mul-le-mul l l in
-    let y : m * m * 1 ≤ m * m * m = mul-le-mul_left (m * m) one in
-    omega arith
-
 -- one more item after others
 pub appended_step : {X : Type 0} (old : List X) (n : ℕ) (f : ℕ → X) (before after : List X) (item : X)
     → before ≡ old ++ table n f → item ≡ f n → after ≡ before ++ item ∷ [] → after ≡ old ++ table (n + 1) f
@@ -105,9 +97,11 @@ module _ {E : Type 0} (o : Ops E) (L : FieldLaws o) where
       ∙ ap₂ (λ w l. at_pair w (r / l) (r % l)) high long
       ∙ ap₂ (λ a b. at_pair n a b) (div-mul-add i n j j_in) (mod-mul-add i n j j_in)
 
-  module _ (A : Structure E) (over : IsOver o A) (ideal project : List (List E)) (ideal_basis : IsReducedBasis o A.dim ideal)
+  module _ (A : Structure E) (over : IsOver o A) (ideal project : List (List E))
+      (ideal_basis : IsReducedBasis o A.dim ideal)
       (is_ideal : SpansIdeal o A ideal) (project_basis : IsReducedBasis o A.dim project)
-      (kernel : SpansKernel o (length ideal) A.dim ideal project) (places : List ℕ) (each : length places ≡ length project)
+      (kernel : SpansKernel o (length ideal) A.dim ideal project) (places : List ℕ)
+      (each : length places ≡ length project)
       (reduced : IsReducedEchelon o (length project) project places A.dim) (items : List E)
       (joins : JoinsRows o (length project) (length places * length places)
       (image_row o A.dim A.constants places project) items) (lifts : List (List E))
@@ -168,8 +162,8 @@ module _ {E : Type 0} (o : Ops E) (L : FieldLaws o) where
       project_height = refl;
       lifts_shape = lifts_shape;
       lifts_height = lifts_height;
-      products = image_product o L m n project lifts project_basis.shape lifts_shape lifts_height lifted A.constants items
-          over.of_elements joins.of_elements ideal is_ideal back agrees;
+      products = image_product o L m n project lifts project_basis.shape lifts_shape lifts_height lifted A.constants
+          items over.of_elements joins.of_elements ideal is_ideal back agrees;
       kernel = back;
       lifted = lifted;
     }
@@ -182,17 +176,17 @@ module _ {E : Type 0} (o : Ops E) (L : FieldLaws o) where
         subst R (sym (d ∙ each)) (subst P (sym e) quotient_is)
 
   -- the same, of the values that the calls answer
-  pub made_quotient : (A : Structure E) → IsOver o A → (ideal : List (List E)) (w : ℕ) → w ≡ A.dim → SpansIdeal o A ideal
-      → IsReducedBasis o w ideal → (project : List (List E)) (v : ℕ) → v ≡ w → IsReducedBasis o v project
-      → SpansKernel o (length ideal) w ideal project → (pivots : List ℕ) → length pivots ≡ length project
+  pub made_quotient : (A : Structure E) → IsOver o A → (ideal : List (List E)) (w : ℕ) → w ≡ A.dim
+      → SpansIdeal o A ideal → IsReducedBasis o w ideal → (project : List (List E)) (v : ℕ) → v ≡ w
+      → IsReducedBasis o v project → SpansKernel o (length ideal) w ideal project → (pivots : List ℕ) → length pivots ≡ length project
       → IsReducedEchelon o (length project) project pivots v → (m : ℕ) → m ≡ A.dim → (cs : List E) → cs ≡ A.constants
       → (places : List ℕ) → places ≡ pivots → (rows : List (List E)) → rows ≡ project → (items : List E)
       → JoinsRows o (length rows) (length places * length places) (image_row o m cs places rows) items
       → (Q : Structure E) → Q.dim ≡ length places → Q.constants ≡ items → (lifts : List (List E))
       → lifts ≡ table (length places) (λ i. basis o m (get_or places i 0)) → (kept : List (List E)) → kept ≡ project
       → IsQuotient o A ideal Q kept lifts
-  made_quotient A over ideal w wide is_ideal ideal_basis project v v_is project_basis kernel pivots each reduced m m_is cs
-      cs_is places places_are rows rows_are items joins Q Q_dim Q_constants lifts lifts_are kept kept_is =
+  made_quotient A over ideal w wide is_ideal ideal_basis project v v_is project_basis kernel pivots each reduced m m_is
+      cs cs_is places places_are rows rows_are items joins Q Q_dim Q_constants lifts lifts_are kept kept_is =
       let d = v_is ∙ wide in
       let I : ℕ → Type 0 = λ k. IsReducedBasis o k ideal in
       let J : ℕ → Type 0 = λ k. IsReducedBasis o k project in
@@ -205,7 +199,7 @@ module _ {E : Type 0} (o : Ops E) (L : FieldLaws o) where
       let t2 = subst (λ k. T A.dim A.constants k rows) places_are t1 in
       let t3 = subst (λ k. T A.dim A.constants pivots k) rows_are t2 in
       let F : List (List E) → Type 0 = λ p. IsQuotient o A ideal Q p lifts in
-      subst F (sym kept_is) (is_quotient A over ideal project (subst I wide ideal_basis) is_ideal (subst J d project_basis)
-      (subst S wide kernel) pivots each (subst R d reduced) items t3 lifts
+      subst F (sym kept_is) (is_quotient A over ideal project (subst I wide ideal_basis) is_ideal
+      (subst J d project_basis) (subst S wide kernel) pivots each (subst R d reduced) items t3 lifts
       (lifts_are ∙ ap₂ (λ (p : List ℕ) (m : ℕ). table (length p) (λ i. basis o m (get_or p i 0))) places_are m_is) Q
       (Q_dim ∙ ap length places_are) Q_constants)

@@ -14,5 +14,5 @@ module _ {E : Type 0} (o : Ops E) where
 
   -- the image of the product of the basis elements at two places, which are numbered by pairs
   abbrev pub image_row : ℕ → List E → List ℕ → List (List E) → ℕ → List E
-  image_row m cs places project r = image o (length project) m project
-      (product o m cs (basis o m (get_or places (r / length places) 0)) (basis o m (get_or places (r % length places) 0)))
+  image_row m cs places project r = image o (length project) m project (product o m cs
+      (basis o m (get_or places (r / length places) 0)) (basis o m (get_or places (r % length places) 0)))

@@ -10,6 +10,7 @@ pub mod centre;
 pub mod ideal;
 pub mod identity;
 pub mod laws;
+pub mod power;
 pub mod products;
 pub mod quotient;
 pub mod trace;

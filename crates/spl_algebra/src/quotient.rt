@@ -20,8 +20,8 @@ use spl_matrix::rows::identity_row;
 use spl_matrix::subspace::Subspace;
 use std::alloc::Global;
 
-/// An algebra modulo an ideal: the class of an element v is project·v, and row i of the lifts is an element of the class
-/// that is the basis element i of the quotient.
+/// An algebra modulo an ideal: the class of an element v is project·v, and row i of the lifts is an element of the
+/// class that is the basis element i of the quotient.
 pub struct Quotient<F: Field> {
     pub algebra: Algebra<F>,
     pub project: Matrix<F>,

@@ -12,7 +12,8 @@ loop-i-preserved g c =
     let v = c.args.v.now in
     let i = c.loop-i.i in
     let row = c.as_slice.result.now in
-    let read = row_at project i c.index-project-i.result row c.loop-i-test.true c.index-project-i.is c.as_slice.ensures in
+    let read = row_at project i c.index-project-i.result row c.loop-i-test.true c.index-project-i.is
+    c.as_slice.ensures in
     let long : length row ≡ length v = ap length read ∙ (c.requires.shape i _ c.loop-i-test.true).right_length in
     let item = c.in_ok-contracted_item.field-0 in
     appended_step c.args.items.now i (λ i. sum_of o (length v) (λ k. o.mul (entry o project i k) (at o v k)))

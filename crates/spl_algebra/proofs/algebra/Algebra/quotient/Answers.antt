@@ -1,7 +1,8 @@
 use Rattle.std.proofs.Common.{◌≤◌, ◌^◌, ℕ, length, ◌∙◌, ap, sym, subst, arith}
 use Rattle.theory_tables.specs.Subspace.{IsReducedBasis, SpansKernel}
 use Rattle.spl_algebra.proofs.Inclusions.{dimension-le}
-use Rattle.spl_algebra.proofs.QuotientRows.{annihilator-some, made_quotient, pairs_fit}
+use Rattle.spl_algebra.proofs.QuotientRows.{annihilator-some, made_quotient}
+use Rattle.spl_algebra.proofs.PowerSpans.{rows_fit}
 use Rattle.spl_algebra.proofs.algebra.Algebra.quotient.Goals as goal
 
 pub image_rows-requires-clause-few : goal.image_rows-requires-clause-few
@@ -17,7 +18,7 @@ image_rows-requires-clause-few g c =
     let n_low : length places ≤ m = omega arith in
     let dim = c.dim-m.ensures.dim in
     let positive = c.dim-m.ensures.positive in
-    pairs_fit (length places) m (2 ^ 64) n_low (omega arith) c.constants.ensures.fits
+    rows_fit (length places) (length places) m (2 ^ 64) n_low n_low (omega arith) c.constants.ensures.fits
 
 pub new-requires-clause-positive : goal.new-requires-clause-positive
 new-requires-clause-positive g c =
