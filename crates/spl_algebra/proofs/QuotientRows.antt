@@ -178,7 +178,8 @@ module _ {E : Type 0} (o : Ops E) (L : FieldLaws o) where
   -- the same, of the values that the calls answer
   pub made_quotient : (A : Structure E) → IsOver o A → (ideal : List (List E)) (w : ℕ) → w ≡ A.dim
       → SpansIdeal o A ideal → IsReducedBasis o w ideal → (project : List (List E)) (v : ℕ) → v ≡ w
-      → IsReducedBasis o v project → SpansKernel o (length ideal) w ideal project → (pivots : List ℕ) → length pivots ≡ length project
+      → IsReducedBasis o v project → SpansKernel o (length ideal) w ideal project → (pivots : List ℕ)
+      → length pivots ≡ length project
       → IsReducedEchelon o (length project) project pivots v → (m : ℕ) → m ≡ A.dim → (cs : List E) → cs ≡ A.constants
       → (places : List ℕ) → places ≡ pivots → (rows : List (List E)) → rows ≡ project → (items : List E)
       → JoinsRows o (length rows) (length places * length places) (image_row o m cs places rows) items

@@ -77,7 +77,8 @@ module _ {E : Type 0} (o : Ops E) (L : FieldLaws o) (A : Structure E) (constants
         from_in (M.◌⊕◌ x y) (tuple_add o m a b) (tuples-add o L m x y)
         (InSpan-add M (length rows) v x y (to_in x a refl ha.1) (to_in y b refl hb.1))
 
-    combination-scale : (c : Elem o) (a : List E) → Combinations o m rows a → Combinations o m rows (tuple_scale o m c.0 a)
+    combination-scale : (c : Elem o) (a : List E) → Combinations o m rows a
+        → Combinations o m rows (tuple_scale o m c.0 a)
     combination-scale c a ha =
         let x = as_tuple o L m a ha.0 in
         from_in (M.◌•◌ c x) (tuple_scale o m c.0 a) (tuples-scale o L m c x)
@@ -86,7 +87,8 @@ module _ {E : Type 0} (o : Ops E) (L : FieldLaws o) (A : Structure E) (constants
     combination-total : (n : ℕ) (f : ℕ → List E) → ((i : ℕ) → i < n → Combinations o m rows (f i))
         → Combinations o m rows (total S n f)
     combination-total zero f h = combination-zero
-    combination-total (suc n) f h = combination-add (total S n f) (f n) (combination-total n f (λ i l. h i (omega arith)))
+    combination-total (suc n) f h =
+        combination-add (total S n f) (f n) (combination-total n f (λ i l. h i (omega arith)))
         (h n (omega arith))
 
   -- rows that hold the products of the rows of a and b, and are such products, span the sums of products

@@ -42,7 +42,8 @@ power_stable S I J e now next (suc d) =
       λ x p. next.1 x (products_mono S (Power S J (e + d)) I J J h.1 (λ y j. j) x p),
     )
 
-module _ {V : Type 0} (S : RingOps V) (L J : V → Type 0) (one : V) (laws : RingLawsOn S L one) (inside : Within J L) where
+module _ {V : Type 0} (S : RingOps V) (L J : V → Type 0) (one : V) (laws : RingLawsOn S L one)
+    (inside : Within J L) where
   infixl 70 ◌⊗◌
   abbrev ◌⊗◌ : V → V → V
   ◌⊗◌ = S.mul

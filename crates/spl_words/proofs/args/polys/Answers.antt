@@ -11,5 +11,6 @@ loop-word-preserved c =
     record {
       over = rw c.in_ok-push.ensures.ok
           (All-push (IsOver (small_ops c.args.f.now)) l.row p l.invariant.over c.in_ok-poly.ensures.over);
-      trimmed = rw c.in_ok-push.ensures.ok (All-push (IsTrimmed 0) l.row p l.invariant.trimmed c.in_ok-poly.ensures.trimmed);
+      trimmed =
+          rw c.in_ok-push.ensures.ok (All-push (IsTrimmed 0) l.row p l.invariant.trimmed c.in_ok-poly.ensures.trimmed);
     }

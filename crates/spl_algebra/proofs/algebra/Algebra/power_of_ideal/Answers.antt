@@ -87,5 +87,6 @@ returns g c =
     record {
       basis = subst W (sym l.invariant.wide) l.invariant.basis;
       width = l.invariant.wide ∙ c.dim-m.ensures.dim;
-      members = subst C c.constants-constants.ensures.value (subst M c.dim-m.ensures.dim (subst E is l.invariant.spans));
+      members =
+          subst C c.constants-constants.ensures.value (subst M c.dim-m.ensures.dim (subst E is l.invariant.spans));
     }
