@@ -68,8 +68,8 @@ impl<F: Field> Algebra<F> {
         self.dim
     }
 
-    /// The constants.
-    pub(crate) fn constants(&self) -> &[F::Elem]
+    /// The constants. It takes no memory.
+    pub fn constants(&self) -> &[F::Elem]
         ensures value { result.now ≡ self.now.constants }
         ensures count { length result.now ≡ self.now.dim * self.now.dim * self.now.dim }
         ensures fits { self.now.dim * self.now.dim * self.now.dim < 2 ^ 64 }

@@ -1,0 +1,2 @@
+pub mod Numerators
+pub mod Sums

@@ -1,0 +1,144 @@
+// The first failed triple of an algebra over the rational functions, by polynomials over one denominator.
+ghost use Rattle.std.specs.Prelude.{◌≡◌, ℕ, ◌+◌, ◌^◌, ◌<◌, ◌↔◌, IfOk, IsTrue, MatchOption};
+ghost use Rattle.spl_field.specs.SmallField.{small_ops, small_laws};
+ghost use Rattle.spl_fraction.specs.FractionsOver.{fractions_over};
+ghost use Rattle.spl_fraction.specs.Fractions.{field_of};
+ghost use Rattle.theory_tables.specs.Structure.{IsOver, IsAssociative, AssociatesAt};
+ghost use Rattle.spl_algebra.specs.Triple.{AssociatesAtPair, FailsFirstAt, FailsFirstAtPair, IsFirstFailed};
+ghost use Rattle.spl_numerators.specs.Numerators.{AreNumerators};
+
+use crate::associates::associates;
+use crate::numerators::{Numerators, numerators_of};
+use spl_algebra::algebra::Algebra;
+use spl_algebra::triple::Triple;
+use spl_field::field::NoMemory;
+use spl_field::small::SmallField;
+use spl_fraction::field::Fractions;
+use std::alloc::Global;
+
+/// Whether (b_i·b_j)·b_k and b_i·(b_j·b_k) are the same, for an algebra with these constants.
+fn associates_at(
+    alloc: Global,
+    f: &SmallField,
+    a: &Algebra<Fractions>,
+    n: &Numerators,
+    i: usize,
+    j: usize,
+    k: usize,
+) -> Result<bool, NoMemory>
+    requires over { IsOver (fractions_over f.now) a.now }
+    requires numerators { AreNumerators (small_ops f.now) (small_laws f.now) n.now.denominator a.now n.now.entries }
+    requires first { i < a.now.dim }
+    requires second { j < a.now.dim }
+    requires third { k < a.now.dim }
+    ensures { IfOk result (λ b. IsTrue b ↔ AssociatesAt (fractions_over f.now) a.now i j k) }
+{
+    let _count = a.constants().len();
+    Ok(associates(alloc, f, a.dim(), n.entries.as_slice(), i, j, k)?)
+}
+
+/// The first k where (b_i·b_j)·b_k and b_i·(b_j·b_k) differ.
+fn first_third(
+    alloc: Global,
+    f: &SmallField,
+    a: &Algebra<Fractions>,
+    n: &Numerators,
+    i: usize,
+    j: usize,
+) -> Result<Option<usize>, NoMemory>
+    requires over { IsOver (fractions_over f.now) a.now }
+    requires numerators { AreNumerators (small_ops f.now) (small_laws f.now) n.now.denominator a.now n.now.entries }
+    requires first { i < a.now.dim }
+    requires second { j < a.now.dim }
+    ensures { IfOk result (λ r. MatchOption r (AssociatesAtPair (fractions_over f.now) a.now i j)
+        (FailsFirstAt (fractions_over f.now) a.now i j)) }
+{
+    for k in 0..a.dim() {
+        if !associates_at(alloc, f, a, n, i, j, k)? {
+            return Ok(Some(k));
+        }
+    }
+    Ok(None)
+}
+
+/// The first j and k where (b_i·b_j)·b_k and b_i·(b_j·b_k) differ.
+fn first_pair(
+    alloc: Global,
+    f: &SmallField,
+    a: &Algebra<Fractions>,
+    n: &Numerators,
+    i: usize,
+) -> Result<Option<(usize, usize)>, NoMemory>
+    requires over { IsOver (fractions_over f.now) a.now }
+    requires numerators { AreNumerators (small_ops f.now) (small_laws f.now) n.now.denominator a.now n.now.entries }
+    requires first { i < a.now.dim }
+    ensures { IfOk result (λ r. MatchOption r
+        ((j : ℕ) → j < a.now.dim → AssociatesAtPair (fractions_over f.now) a.now i j)
+        (λ p. FailsFirstAtPair (fractions_over f.now) a.now i p.0 p.1)) }
+{
+    for j in 0..a.dim() {
+        match first_third(alloc, f, a, n, i, j)? {
+            Some(k) => return Ok(Some((j, k))),
+            None => {}
+        }
+    }
+    Ok(None)
+}
+
+/// The triple at these places, which are counted from 0.
+fn from_places(i: usize, j: usize, k: usize) -> Triple
+    requires first { i + 1 < 2 ^ 64 }
+    requires second { j + 1 < 2 ^ 64 }
+    requires third { k + 1 < 2 ^ 64 }
+    ensures { result ≡ record { i = i + 1; j = j + 1; k = k + 1 } }
+{
+    Triple {
+        i: i + 1,
+        j: j + 1,
+        k: k + 1,
+    }
+}
+
+/// The first failed triple, by these polynomials.
+fn first_by_numerators(
+    alloc: Global,
+    f: &SmallField,
+    a: &Algebra<Fractions>,
+    n: &Numerators,
+) -> Result<Option<Triple>, NoMemory>
+    requires over { IsOver (fractions_over f.now) a.now }
+    requires numerators { AreNumerators (small_ops f.now) (small_laws f.now) n.now.denominator a.now n.now.entries }
+    ensures { IfOk result (λ r. MatchOption r (IsAssociative (fractions_over f.now) a.now)
+        (IsFirstFailed (fractions_over f.now) a.now)) }
+{
+    for i in 0..a.dim() {
+        match first_pair(alloc, f, a, n, i)? {
+            Some((j, k)) => return Ok(Some(from_places(i, j, k))),
+            None => {}
+        }
+    }
+    Ok(None)
+}
+
+/// The greatest number of coefficients of a denominator by which the polynomials are taken: products of longer ones
+/// take longer than sums of fractions do.
+const LONGEST: usize = 100;
+
+/// The first triple (i, j, k) in lexicographic order where (b_i·b_j)·b_k and b_i·(b_j·b_k) differ; None exactly where
+/// the algebra is associative. It works on polynomials over the common denominator of the constants, and on fractions
+/// where that has more than 100 coefficients. The one fault is want of memory.
+pub fn first_failed_triple(
+    alloc: Global,
+    f: &Fractions,
+    a: &Algebra<Fractions>,
+) -> Result<Option<Triple>, NoMemory>
+    requires { IsOver (fractions_over (field_of f.now)) a.now }
+    ensures { IfOk result (λ r. MatchOption r (IsAssociative (fractions_over (field_of f.now)) a.now)
+        (IsFirstFailed (fractions_over (field_of f.now)) a.now)) }
+{
+    let numerators = numerators_of(alloc, f, a)?;
+    if numerators.denominator.as_slice().len() > LONGEST {
+        return a.first_failed_triple(alloc, f);
+    }
+    first_by_numerators(alloc, f.field(), a, &numerators)
+}
