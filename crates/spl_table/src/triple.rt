@@ -7,6 +7,7 @@ ghost use Rattle.spl_table.specs.Table.{algebra_of, ops_of};
 use crate::table::Table;
 pub use spl_algebra::triple::Triple;
 use spl_field::field::NoMemory;
+use spl_numerators::triple as numerators;
 use std::alloc::Global;
 
 /// The first triple (i, j, k) in lexicographic order where (b_i·b_j)·b_k and b_i·(b_j·b_k) differ; None exactly where
@@ -16,5 +17,5 @@ pub fn first_failed_triple(alloc: Global, table: &Table) -> Result<Option<Triple
         (IsFirstFailed (ops_of table.now) (algebra_of table.now))) }
 {
     let algebra = table.algebra();
-    algebra.first_failed_triple(alloc, table.fractions())
+    numerators::first_failed_triple(alloc, table.fractions(), algebra)
 }
