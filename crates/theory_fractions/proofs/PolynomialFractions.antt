@@ -84,6 +84,6 @@ module _ {E : Type 0} (o : Ops E) (L : FieldLaws o) where
       let p : List E = values o L q.0 in
       let hp : Is p = IsPolynomialList-values o L q in
       let product : IsProduct o a b p =
-          product_of_poly o L a b p ha.over hb.over hp.over (polynomial_of-values o L q) in
+      product_of_poly o L a b p ha.over hb.over hp.over (polynomial_of-values o L q) in
       as_fraction-add s p r hs hp hr (λ k. e k ∙ ap (o.add (at o s k)) (sym (product k)))
       ∙ ap (K.add (as_fraction o s)) (as_fraction-mul a b p ha hb hp product)
