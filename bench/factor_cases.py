@@ -67,7 +67,7 @@ def main():
                 for _ in range(exponent):
                     product = mul(f, product, list(a))
             order = sorted(factors, key=lambda a: (len(a), a[::-1]))
-            lines.append(f"factor {text(product)}")
+            lines.append(f"poly.factor {text(product)}")
             answers.append(" ".join([str(leading)] + [f"{text(list(a))}:{factors[a]}" for a in order]))
         count -= min(share, count)
     with open(sys.argv[3], "w") as out:

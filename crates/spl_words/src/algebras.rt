@@ -1,6 +1,9 @@
 // Calls on algebras.
-ghost use Rattle.std.specs.Prelude.{◌≡◌};
+ghost use Rattle.std.specs.Prelude.{◌≡◌, IfOk, IsTrue};
 ghost use Rattle.theory_tables.specs.Structure.{IsOver};
+ghost use Rattle.theory_tables.specs.Subspace.{IsSubspace};
+ghost use Rattle.theory_tables.specs.Algebras.{SpansAll};
+ghost use Rattle.theory_tables.specs.Quotient.{IsQuotient};
 ghost use Rattle.theory_tables.specs.Claims.{AreMultipliers};
 ghost use Rattle.spl_algebra.specs.Identity.{IsOne};
 
@@ -9,6 +12,8 @@ use crate::scalars::Scalars;
 use crate::{args, lists, show};
 use spl_algebra::algebra::Algebra;
 use spl_algebra::identity::One;
+use spl_algebra::quotient::Quotient;
+use spl_matrix::subspace::Subspace;
 use std::alloc::Global;
 
 /// `mul A a b`
@@ -208,6 +213,95 @@ fn ideal_generated<F: Scalars>(
     show::space_of(alloc, out, f, algebra.ideal_generated(alloc, f, &by))
 }
 
+/// `power_of_ideal A M N`: the dimension and the basis of the power N of the ideal that the rows generate.
+fn power_of_ideal<F: Scalars>(
+    alloc: Global,
+    f: &F,
+    algebra: &Algebra<F>,
+    rows: &str,
+    exponent: &str,
+    out: &mut Vec<u8>,
+) -> Result<(), Fault>
+    requires { IsOver (F.ops f.now) algebra.now }
+{
+    let exponent = args::number(exponent)?;
+    if exponent == 0 {
+        return Err(Fault::BadLine);
+    }
+    let by = lists::space(alloc, f, algebra.dim(), rows)?;
+    let ideal = algebra.ideal_generated(alloc, f, &by)?;
+    show::space_of(
+        alloc,
+        out,
+        f,
+        algebra.power_of_ideal(alloc, f, &ideal, exponent),
+    )
+}
+
+/// Whether some basis element is outside of a subspace.
+fn is_proper<F: Scalars>(
+    alloc: Global,
+    f: &F,
+    algebra: &Algebra<F>,
+    space: &Subspace<F>,
+) -> Result<bool, Fault>
+    requires over { IsOver (F.ops f.now) algebra.now }
+    requires basis { IsSubspace (F.ops f.now) space.now }
+    requires width { space.now.width ≡ algebra.now.dim }
+    ensures { IfOk result (λ b. IsTrue b → SpansAll (F.ops f.now) algebra.now space.now.rows → ⊥) }
+{
+    for i in 0..algebra.dim() {
+        let element = algebra.basis_element(alloc, f, i)?;
+        if !space.contains(alloc, f, element.as_slice())? {
+            return Ok(true);
+        }
+    }
+    Ok(false)
+}
+
+/// The dimension of a quotient and its products, the matrix that sends an element to its class, and the lifts.
+fn show_quotient<F: Scalars>(
+    alloc: Global,
+    f: &F,
+    algebra: &Algebra<F>,
+    ideal: &Subspace<F>,
+    quotient: Quotient<F>,
+    out: &mut Vec<u8>,
+) -> Result<(), Fault>
+    requires { IsQuotient (F.ops f.now) algebra.now ideal.now.rows quotient.algebra quotient.project quotient.lifts }
+{
+    let _ = algebra;
+    let _ = ideal;
+    let Quotient {
+        algebra,
+        project,
+        lifts,
+    } = quotient;
+    products(alloc, f, &algebra, out)?;
+    show::matrix(alloc, out, f, project)?;
+    show::matrix(alloc, out, f, lifts)
+}
+
+/// `quotient A M`: of the quotient by the ideal that the rows generate the dimension and the products, the matrix that
+/// sends an element to its class, and the lifts of the basis.
+fn quotient<F: Scalars>(
+    alloc: Global,
+    f: &F,
+    algebra: &Algebra<F>,
+    rows: &str,
+    out: &mut Vec<u8>,
+) -> Result<(), Fault>
+    requires { IsOver (F.ops f.now) algebra.now }
+{
+    let by = lists::space(alloc, f, algebra.dim(), rows)?;
+    let ideal = algebra.ideal_generated(alloc, f, &by)?;
+    if !is_proper(alloc, f, algebra, &ideal)? {
+        return Err(Fault::BadLine);
+    }
+    let quotient = algebra.quotient(alloc, f, &ideal)?;
+    show_quotient(alloc, f, algebra, &ideal, quotient, out)
+}
+
 /// The answer of a call on an algebra alone.
 fn on_algebra<F: Scalars>(
     alloc: Global,
@@ -248,6 +342,8 @@ fn on_more<F: Scalars>(
         ("associates_at", [i, j, k]) => associates_at(alloc, f, algebra, i, j, k, out),
         ("left_matrix", [a]) => left_matrix(alloc, f, algebra, a, out),
         ("ideal_generated", [rows]) => ideal_generated(alloc, f, algebra, rows, out),
+        ("quotient", [rows]) => quotient(alloc, f, algebra, rows, out),
+        ("power_of_ideal", [rows, n]) => power_of_ideal(alloc, f, algebra, rows, n, out),
         _ => Err(Fault::BadLine),
     }
 }

@@ -14,4 +14,5 @@ value_elem {E} o m list s x fit below e = subst (λ (w : ℕ × ℕ × E). IsEle
 pub element-requires : goal.element-requires
 element-requires g c =
     let below : c.loop-j.j-index < length c.args.list.now = omega arith in
-    value_elem (g.F.Field.ops c.args.f.now) c.args.m c.args.list.now c.loop-j.j-index c.loop-j-item.result c.requires below c.loop-j-item.is
+    value_elem (g.F.Field.ops c.args.f.now) c.args.m c.args.list.now c.loop-j.j-index c.loop-j-item.result c.requires
+    below c.loop-j-item.is
