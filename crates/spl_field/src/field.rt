@@ -68,4 +68,7 @@ pub trait Field {
         ensures { IsTrue result ↔ (a.now ≡ b.now) };
 
     ghost laws: { (f : Self) → FieldLaws (ops f) };
+
+    // (all fields of one type have the same zero, so that what holds elements can say which of them are 0)
+    ghost same_zero: { (f g : Self) → (ops f).zero ≡ (ops g).zero };
 }

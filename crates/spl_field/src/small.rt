@@ -1,6 +1,6 @@
 // The fields of 2 to 256 elements.
 ghost use Rattle.std.specs.Prelude.{◌≡◌, ◌≢◌, ℕ, ◌*◌, ◌+◌, ◌^◌, ◌<◌, ◌≤◌, length, All, MatchOption, IfOk, OnOk};
-ghost use Rattle.std.specs.Prelude.{IsErrOf};
+ghost use Rattle.std.specs.Prelude.{IsErrOf, refl};
 ghost use Rattle.std.specs.Prelude.{slice_index};
 ghost use Rattle.theory_rings.specs.FieldByDigits.{IsSumByDigits, IsProductByDigits};
 ghost use Rattle.spl_field.specs.FieldByDigits.{FitsField, IsAdmitted, IsFirstWithoutInverse, IsInverse};
@@ -82,6 +82,8 @@ impl Field for SmallField {
     ghost laws = { λ f. field_laws f.p f.least f.modulus.items f.some_number f.size f.power
         f.sums.items f.negatives.items f.products.items f.inverses.items
         f.sums_are f.negatives_below f.negatives_are f.products_are f.inverses_below f.inverses_are };
+
+    ghost same_zero = { λ _ _. refl };
 
     fn zero(&self, _alloc: Global) -> Result<u8, NoMemory> {
         Ok(0)

@@ -9,7 +9,7 @@ ghost use Rattle.spl_poly.specs.Operations.{IsOver};
 ghost use Rattle.theory_fractions.specs.Fraction.{Pair, IsLowestTerms, IsFraction, IsFractionSum, IsFractionProduct};
 ghost use Rattle.theory_fractions.specs.Fraction.{IsFractionNegative, IsFractionInverse};
 ghost use Rattle.theory_fractions.specs.CommonDenominator.{IsCommonDenominator};
-ghost use Rattle.spl_fraction.specs.FractionsOver.{fractions_over, fractions_laws};
+ghost use Rattle.spl_fraction.specs.FractionsOver.{fractions_over, fractions_laws, fractions_zero};
 
 use crate::arithmetic::{are_same, copy_of, inverse_of, negative_of, product_of, sum_of};
 use crate::denominator::denominator_of;
@@ -34,6 +34,8 @@ impl Field for Fractions {
     ghost ops = { λ k. fractions_over k.field };
 
     ghost laws = { λ k. fractions_laws k.field };
+
+    ghost same_zero = { λ k l. fractions_zero k.field l.field };
 
     fn zero(&self, alloc: Global) -> Result<Fraction, NoMemory>
         ensures elem { IfOk result (IsElem (fractions_over self.now.field)) }

@@ -9,7 +9,7 @@ ghost use Rattle.theory_remainders.proofs.IrreducibleLists.{IsIrreducible-prop};
 ghost use Rattle.theory_remainders.specs.RemainderLaws.{IsRemainderOf};
 ghost use Rattle.spl_field.specs.SmallField.{small_ops, characteristic, modulus_of};
 ghost use Rattle.spl_poly.specs.Operations.{IsOver};
-ghost use Rattle.spl_residue.specs.ResidueOver.{residues_over, residues_laws};
+ghost use Rattle.spl_residue.specs.ResidueOver.{residues_over, residues_laws, residues_zero};
 
 use crate::elem::ResidueElem;
 use crate::inverse::{inverse_of, one, zero};
@@ -41,6 +41,8 @@ impl Field for ResidueField {
     ghost ops = { λ k. residues_over k.field k.modulus k.irreducible };
 
     ghost laws = { λ k. residues_laws k.field k.modulus k.irreducible };
+
+    ghost same_zero = { λ k l. residues_zero k.field l.field k.modulus l.modulus k.irreducible l.irreducible };
 
     fn zero(&self, alloc: Global) -> Result<ResidueElem, NoMemory> {
         Ok(ResidueElem::of(zero(alloc)?))

@@ -44,6 +44,8 @@ impl<F: Field + Drop> Field for Boxed<F> {
 
     ghost laws = { λ f. F.laws f.field };
 
+    ghost same_zero = { λ f g. F.same_zero f.field g.field };
+
     fn zero(&self, alloc: Global) -> Result<Held<F>, NoMemory> {
         hold(alloc, self.field.zero(alloc)?)
     }
