@@ -3,6 +3,7 @@ pub mod Steps
 pub mod UnitRows
 pub mod Rows
 pub mod BasisRows
+pub mod EntryLists
 pub mod Multipliers
 pub mod IdentityRows
 pub mod Identities

@@ -8,7 +8,7 @@ use Rattle.theory_rings.specs.Sum.{at, sum_of, table}
 use Rattle.theory_rings.proofs.Sums.Lists.{length-table}
 use Rattle.theory_spaces.specs.Tuples.{product, constant}
 use Rattle.spl_algebra.specs.Products.{AddsEach, scaled_rows, sum_of_rows}
-use Rattle.spl_algebra.proofs.Terms.{add-zero, zero-mul, sum_of-next, sum_of_eq_zero}
+use Rattle.spl_algebra.proofs.Terms.{sum_of-next}
 use Rattle.theory_rings.proofs.Rings.Elements.{at-elem, sum_of-elem, sum_of_congr}
 use Rattle.spl_algebra.proofs.Steps.{AddsEach-zero, AddsEach-then, AddsEach-congr, AddsEach-zeros}
 

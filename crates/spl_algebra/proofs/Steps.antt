@@ -1,5 +1,5 @@
 -- The steps of the loops that add rows to a list of sums.
-use Rattle.std.specs.Prelude.{◌≡◌, ℕ, ◌+◌, ◌-◌, ◌*◌, ◌<◌, ◌≤◌, List, [], ◌∷◌, ◌++◌, length, take, drop, All}
+use Rattle.std.specs.Prelude.{◌≡◌, ℕ, ◌+◌, ◌-◌, ◌*◌, ◌<◌, List, [], ◌∷◌, ◌++◌, length, take, drop, All}
 use Rattle.std.proofs.Common.{refl, sym, ◌∙◌, ap, ap₂, arith, length-append}
 use Rattle.std.proofs.lemmas.List.{ext_get_or, get_or-take, get_or-drop}
 use Rattle.theory_rings.specs.Ops.{Ops, IsElem, FieldLaws}
@@ -8,7 +8,7 @@ use Rattle.theory_rings.proofs.Sums.Lists.{length-table, get_or-table, All-table
 use Rattle.theory_spaces.specs.Tuples.{IsTuple}
 use Rattle.theory_tables.proofs.Rows.Sums.{All_step}
 use Rattle.spl_algebra.specs.Products.{AddsEach, scaled_rows}
-use Rattle.spl_algebra.proofs.Terms.{add-zero, mul-zero, zero-mul, sum_of-next, sum_of_eq_zero}
+use Rattle.spl_algebra.proofs.Terms.{add-zero, zero-mul, sum_of-next, sum_of_eq_zero}
 use Rattle.theory_rings.proofs.Rings.Elements.{at-elem, sum_of-elem}
 
 -- a list is the table of its items

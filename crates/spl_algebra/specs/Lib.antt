@@ -1,4 +1,5 @@
 pub mod Products
+pub mod Entries
 pub mod Identity
 pub mod IdentitySystem
 pub mod Subspaces

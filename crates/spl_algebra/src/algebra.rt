@@ -2,11 +2,14 @@
 ghost use Rattle.std.specs.Prelude.{◌≡◌, ℕ, ◌*◌, ◌+◌, ◌^◌, ◌<◌, ◌≤◌, ◌↔◌, List, length, IfOk, IsTrue};
 ghost use Rattle.theory_rings.specs.Ops.{Ops, IsElem};
 ghost use Rattle.theory_tables.specs.Structure.{Structure, IsOver, IsElement, AssociatesAt, basis_of, product_of};
+ghost use Rattle.theory_tables.specs.Claims.{IsBasisNumber};
+ghost use Rattle.spl_algebra.specs.Entries.{AreEntries};
 
 use crate::basis::{associates, row_of};
+use crate::entries::{Entries, entries_of};
 use crate::products::product_of_slices;
 use spl_field::field::{Field, NoMemory};
-use spl_field::list::Vector;
+use spl_field::list::{List, Vector};
 use spl_matrix::rows::identity_row;
 use std::alloc::Global;
 use std::marker::Model;
@@ -17,35 +20,44 @@ pub type Constants<F> = Vector<F>;
 
 /// An algebra over a field, by its dimension m, at least 1, and its m³ structure constants: the product of the basis
 /// elements i and j is the sum over k of the constant at (i, j, k) times the basis element k. An element is a list of m
-/// elements of the field. It need not be associative or have an identity.
+/// elements of the field. It need not be associative or have an identity. Beside the constants it keeps those that are
+/// not 0, row by row.
 pub struct Algebra<F: Field> {
     dim: usize,
     constants: Constants<F>,
+    entries: List<Entries<F>>,
 }
 
 // (one proof for all functions that drop an algebra, in place of one in each)
 impl<F: Field> Drop for Algebra<F> {
     fn drop(self) {
-        let Algebra { dim, constants } = self;
+        let Algebra {
+            dim,
+            constants,
+            entries,
+        } = self;
     }
 }
 
 impl<F: Field> Model for Algebra<F> {
     ghost use Rattle.std.specs.Prelude.{◌≡◌, ◌*◌, ◌^◌, ◌<◌, ◌≤◌, length};
     ghost use Rattle.theory_tables.specs.Structure.{Structure};
+    ghost use Rattle.spl_algebra.specs.Entries.{AreRowEntries};
 
     ghost Value = { Structure F.Elem };
 
     ghost view = { λ a. record { dim = a.dim; constants = a.constants } };
 
     ghost invariant = { λ a.
-        (1 ≤ a.dim) × (length a.constants ≡ a.dim * a.dim * a.dim) × (a.dim * a.dim * a.dim < 2 ^ 64) };
+        (1 ≤ a.dim) × (length a.constants ≡ a.dim * a.dim * a.dim) × (a.dim * a.dim * a.dim < 2 ^ 64)
+        × (length a.entries ≡ a.dim * a.dim)
+        × ((f : F) → AreRowEntries (F.ops f) a.dim a.constants (a.dim * a.dim) a.entries) };
 }
 
 impl<F: Field> Algebra<F> {
     /// The algebra of dimension m with these constants.
     pub fn new(
-        _alloc: Global,
+        alloc: Global,
         f: &F,
         m: usize,
         constants: Constants<F>,
@@ -55,9 +67,13 @@ impl<F: Field> Algebra<F> {
         ensures dim { IfOk result (λ a. a.dim ≡ m) }
         ensures constants { IfOk result (λ a. a.constants ≡ constants) }
     {
-        let _ = f;
         let _ = constants.len();
-        Ok(Algebra { dim: m, constants })
+        let entries = entries_of(alloc, f, m, constants.as_slice())?;
+        Ok(Algebra {
+            dim: m,
+            constants,
+            entries,
+        })
     }
 
     /// The dimension.
@@ -78,16 +94,24 @@ impl<F: Field> Algebra<F> {
         self.constants.as_slice()
     }
 
+    /// The constants for the basis elements i and j, counted from 1, that are not 0. It takes no memory.
+    pub fn entries(&self, i: usize, j: usize) -> &Entries<F>
+        requires left { IsBasisNumber self.now.dim i }
+        requires right { IsBasisNumber self.now.dim j }
+        ensures { (f : F) → AreEntries (F.ops f) self.now i j result.now }
+    {
+        let row = (i - 1) * self.dim + (j - 1);
+        &self.entries.as_slice()[row]
+    }
+
     /// An equal algebra over f. The one fault is want of memory.
     pub fn copy(&self, alloc: Global, f: &F) -> Result<Self, NoMemory>
         requires { IsOver (F.ops f.now) self.now }
         ensures { IfOk result (λ a. a ≡ self.now) }
     {
         let constants = self.constants.copy(alloc, f)?;
-        Ok(Algebra {
-            dim: self.dim,
-            constants,
-        })
+        let copy = Algebra::new(alloc, f, self.dim, constants)?;
+        Ok(copy)
     }
 
     /// The product of a and b.

@@ -7,6 +7,7 @@
 pub mod algebra;
 mod basis;
 pub mod centre;
+pub mod entries;
 pub mod ideal;
 pub mod identity;
 pub mod laws;

@@ -1,4 +1,4 @@
-use Rattle.std.proofs.Common.{◌+◌, ◌*◌, length, ◌∙◌, ap, ap₂, arith}
+use Rattle.std.proofs.Common.{◌∙◌, ap, ap₂, arith}
 use Rattle.theory_rings.specs.Sum.{at}
 use Rattle.theory_tables.proofs.Rows.Sums.{table_step, read_at}
 use Rattle.spl_algebra.specs.Contractions.{commutator_item}
