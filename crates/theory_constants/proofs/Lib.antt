@@ -3,3 +3,4 @@ pub mod Residues
 pub mod Nucleus
 pub mod Subfield
 pub mod Systems
+pub mod Generation

@@ -4,3 +4,4 @@ pub mod Residues
 pub mod Nucleus
 pub mod Subfield
 pub mod Systems
+pub mod Generated

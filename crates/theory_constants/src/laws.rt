@@ -8,6 +8,7 @@ ghost use Rattle.theory_tables.specs.Structure.{Structure};
 ghost use Rattle.theory_constants.specs.ScalingLaws.{ScalingLaw};
 ghost use Rattle.theory_constants.specs.Residues.{KernelsByResidues};
 ghost use Rattle.theory_constants.specs.Nucleus.{NucleusLaw};
+ghost use Rattle.theory_constants.specs.Generated.{AssociativeByResidues};
 ghost use Rattle.theory_constants.specs.Subfield.{ExtensionLaw};
 ghost use Rattle.theory_constants.specs.Systems.{SystemLaw};
 
@@ -42,4 +43,11 @@ pub fn extended_field<E, R>()
 /// so here, and a tuple over the smaller field is sent to 0 in both or in neither.
 pub fn systems_over_larger_fields<E, R>()
     ensures systems { (o : Ops E) → FieldLaws o → (r : Ops R) → FieldLaws r → (f : E → R) → SystemLaw o r f }
+{}
+
+/// An algebra with constants in a valuation ring is associative where basis elements generate the algebra with the
+/// residues of the constants, and all triples with one of these in the middle associate.
+pub fn associative_by_residues<E, R>()
+    ensures associative { (o : Ops E) (L : FieldLaws o) (r : Ops R) (N : FieldLaws r) (Z : ValuationOn (elements o L))
+        (q : Elem o) (D : ResidueOn (elements o L) Z q (elements r N)) → AssociativeByResidues o L r N Z q D }
 {}
