@@ -1,3 +1,5 @@
 pub mod Triples
 pub mod Multiples
 pub mod Sums
+pub mod ByResidues
+pub mod Remainders

@@ -1,2 +1,3 @@
 pub mod Numerators
 pub mod Sums
+pub mod Residues
