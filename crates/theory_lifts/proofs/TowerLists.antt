@@ -1,7 +1,7 @@
 -- The ring (Z/q)[t]/(f)[x]/(g) on the lists of its numbers: number u·c + v of a list is the coefficient at x^u·t^v,
 -- where f is of degree c and g of degree e.
 use Rattle.std.specs.Prelude.{◌≡◌, ℕ, ◌+◌, ◌*◌, ◌/◌, ◌%◌, ◌<◌, ◌≤◌, Bool, true, [], get_or}
-use Rattle.std.proofs.Common.{sym, ◌∙◌, ap, ap₂, arith, ⊎_elim}
+use Rattle.std.proofs.Common.{refl, sym, ◌∙◌, ap, ap₂, arith, ⊎_elim}
 use Rattle.std.proofs.Math.Bool.{Bool-set}
 use Rattle.std.proofs.Math.Nat.{mod-eq_of_lt}
 use Rattle.std.proofs.Math.Nat.{div-add-mod'}
@@ -86,23 +86,23 @@ module _ (q : ℕ) (two_le : 2 ≤ q) (T : TowerMod q two_le) (e c : ℕ) (heigh
   abbrev numbers : TowerElement T → ℕ → ℕ
   numbers y k = (double_coefficient T y.0 (k / c) (k % c)).0
 
-  list_of : TowerElement T → W
+  pub list_of : TowerElement T → W
   list_of y = (
     table (e * c) (numbers y),
     IsTuple-is_tuple N (e * c) (table (e * c) (numbers y))
         (IsTuple-table N (e * c) (numbers y) (λ k _. (double_coefficient T y.0 (k / c) (k % c)).1)),
   )
 
-  entry-list_of : (y : TowerElement T) (k : ℕ) → k < e * c → get_or (list_of y).0 k 0 ≡ numbers y k
+  pub entry-list_of : (y : TowerElement T) (k : ℕ) → k < e * c → get_or (list_of y).0 k 0 ≡ numbers y k
   unfolding list_of
   entry-list_of y k l = at-table N (e * c) (numbers y) k l
 
-  number-list_of : (y : TowerElement T) (u v : ℕ) → u < e → v < c
+  pub number-list_of : (y : TowerElement T) (u v : ℕ) → u < e → v < c
       → number (list_of y) u v ≡ (double_coefficient T y.0 u v).0
   number-list_of y u v l k = entry-list_of y (u * c + v) (pair-lt e c u v l k)
       ∙ ap₂ (λ i j. (double_coefficient T y.0 i j).0) (div-mul-add u c v k) (mod-mul-add u c v k)
 
-  value-list_of : (y : TowerElement T) → value (list_of y) ≡ y
+  pub value-list_of : (y : TowerElement T) → value (list_of y) ≡ y
   value-list_of y = Remainder-ext T.first Z1 T.second_modulus T.second_monic (value (list_of y)) y (λ u. ⊎_elim
       (λ (l : u < e). Remainder-ext R Z T.first_modulus T.first_monic (coefficient T.first (value (list_of y)).0 u)
       (coefficient T.first y.0 u) (λ v. ⊎_elim
@@ -148,6 +148,23 @@ module _ (q : ℕ) (two_le : 2 ≤ q) (T : TowerMod q two_le) (e c : ℕ) (heigh
   -- the ring of the lists
   pub ring_of_lists : CommRingOn W
   ring_of_lists = embedded_comm_ring T.second embedding
+
+  -- its operations are those of T
+  pub lists-zero : ring_of_lists.zero ≡ list_of T.second.zero
+  unfolding ring_of_lists embedding
+  lists-zero = refl
+
+  pub lists-one : ring_of_lists.one ≡ list_of T.second.one
+  unfolding ring_of_lists embedding
+  lists-one = refl
+
+  pub lists-add : (a b : W) → ring_of_lists.◌⊕◌ a b ≡ list_of (T.second.◌⊕◌ (value a) (value b))
+  unfolding ring_of_lists embedding
+  lists-add a b = refl
+
+  pub lists-mul : (a b : W) → ring_of_lists.◌⊗◌ a b ≡ list_of (T.second.◌⊗◌ (value a) (value b))
+  unfolding ring_of_lists embedding
+  lists-mul a b = refl
 
   pub value_hom : IsRingHom ring_of_lists.ring T.second.ring value
   unfolding ring_of_lists embedding
