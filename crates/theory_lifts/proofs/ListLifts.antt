@@ -34,7 +34,7 @@ module _ (p : ℕ) (two_le : 2 ≤ p) (m : List ℕ) (d : 1 ≤ length m) (o : O
     abbrev pub lift_tower : TowerMod (p ^ n) two_le_pow
     lift_tower = tower p two_le m d o D L n two_le_pow π monic
 
-    height : degree lift_tower.second_modulus.0 ≡ degree π.0
+    pub height : degree lift_tower.second_modulus.0 ≡ degree π.0
     height = same_degree (elements o L).cring (elements o L).zero_test (T p two_le m d o D L n two_le_pow)
         (ZT p two_le m d o D L n two_le_pow) p n
         (elem_down p two_le m d o D L n two_le_pow)
@@ -42,7 +42,7 @@ module _ (p : ℕ) (two_le : 2 ≤ p) (m : List ℕ) (d : 1 ≤ length m) (o : O
         (g_monic p two_le m d o D L n two_le_pow π monic) π monic
         (g_reduces p two_le m d o D L n two_le_pow π monic)
 
-    width : degree lift_tower.first_modulus.0 ≡ length m
+    pub width : degree lift_tower.first_modulus.0 ≡ length m
     width = degree-f p two_le m d o D L n two_le_pow
 
     abbrev list_value : LiftList p m o L π n → Remainder lift_tower.first lift_tower.second_modulus
@@ -67,6 +67,10 @@ module _ (p : ℕ) (two_le : 2 ≤ p) (m : List ℕ) (d : 1 ≤ length m) (o : O
           list_value (value_hom (p ^ n) two_le_pow lift_tower (degree π.0) (length m) height width)
           (value_bijective (p ^ n) two_le_pow lift_tower (degree π.0) (length m) height width);
     }
+
+    pub list_lift-ring : list_lift.ring ≡ ring_of_lists (p ^ n) two_le_pow lift_tower (degree π.0) (length m) height width
+    unfolding list_lift
+    list_lift-ring = refl
 
     pub is_lift_of_lists : IsLiftOfLists p m o L π n two_le_pow lift_tower F list_lift
     unfolding list_lift list_down
