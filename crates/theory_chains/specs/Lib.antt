@@ -1,0 +1,2 @@
+pub mod Radical
+pub mod NumberRows
