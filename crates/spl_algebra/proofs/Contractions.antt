@@ -11,7 +11,7 @@ use Rattle.theory_spaces.proofs.Tuples.Tuples.{at-table}
 use Rattle.theory_spaces.proofs.Tuples.TupleProducts.{product_basis}
 use Rattle.theory_tables.proofs.Rows.Sums.{sum_of_comm, mul-sum_of}
 use Rattle.theory_tables.specs.Structure.{Structure}
-use Rattle.theory_tables.specs.Traces.{left_matrix, trace, trace_form}
+use Rattle.theory_tables.specs.Traces.{left_matrix, trace, trace_matrix}
 use Rattle.spl_algebra.specs.Products.{sum_of_rows}
 use Rattle.spl_algebra.specs.Contractions.{contracted, contraction, basis_trace}
 use Rattle.spl_algebra.proofs.Rows.{constant-row, constant-column}
@@ -108,7 +108,7 @@ module _ {E : Type 0} (o : Ops E) (L : FieldLaws o) (m : ℕ) (cs : List E) (con
   basis_trace-elem i = sum_of-elem o L m (λ j. constant o m cs i j j) (λ j _. constant-elem i j j)
 
   pub contraction-form : (traces : List E) → traces ≡ table m (basis_trace o m cs)
-      → contraction o m traces cs (m * m) m 1 ≡ trace_form o A
+      → contraction o m traces cs (m * m) m 1 ≡ trace_matrix o A
   contraction-form traces e = table_congr m
       (λ r. table m (λ j. contracted o m traces cs (r * (m * m) + j * m) 1))
       (λ i. table m (λ j. trace o A (product o m cs (basis o m i) (basis o m j))))
@@ -130,7 +130,7 @@ module _ {E : Type 0} (o : Ops E) (L : FieldLaws o) (m : ℕ) (cs : List E) (con
       row-elems r j = All-table (IsElem o) m (λ l. constant o m cs r j l) (λ l _. constant-elem r j l)
 
   pub contraction-form_of : (n d : ℕ) (s k : List E) → n ≡ m → d ≡ m → s ≡ table m (basis_trace o m cs) → k ≡ cs
-      → contraction o n s k (d * d) d 1 ≡ trace_form o A
+      → contraction o n s k (d * d) d 1 ≡ trace_matrix o A
   contraction-form_of n d s k en ed es ek =
       ap₂ (λ x y. contraction o x s k (y * y) y 1) en ed ∙ ap (λ y. contraction o m s y (m * m) m 1) ek
       ∙ contraction-form s es

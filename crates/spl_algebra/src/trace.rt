@@ -4,7 +4,7 @@ ghost use Rattle.theory_rings.specs.Ops.{IsElem};
 ghost use Rattle.theory_rings.specs.Sum.{table};
 ghost use Rattle.theory_spaces.specs.Tuples.{IsTuple};
 ghost use Rattle.theory_tables.specs.Matrix.{IsMatrix};
-ghost use Rattle.theory_tables.specs.Traces.{left_matrix, trace_form};
+ghost use Rattle.theory_tables.specs.Traces.{left_matrix, trace_matrix};
 ghost use Rattle.theory_tables.specs.Structure.{IsOver, IsElement};
 ghost use Rattle.spl_algebra.specs.Contractions.{contracted_row, contraction, basis_trace};
 
@@ -128,7 +128,7 @@ impl<F: Field> Algebra<F> {
     pub fn trace_form(&self, alloc: Global, f: &F) -> Result<Matrix<F>, NoMemory>
         requires { IsOver (F.ops f.now) self.now }
         ensures shape { IfOk result (IsMatrix (F.ops f.now) self.now.dim) }
-        ensures value { IfOk result (λ r. r ≡ trace_form (F.ops f.now) self.now) }
+        ensures value { IfOk result (λ r. r ≡ trace_matrix (F.ops f.now) self.now) }
     {
         let m = self.dim();
         let constants = self.constants();

@@ -16,7 +16,7 @@ use Rattle.spl_matrix.proofs.ReducedBases.{reduced_basis_is_independent}
 use Rattle.spl_matrix.proofs.Regular.{full_basis_spans}
 use Rattle.theory_tables.specs.Structure.{Structure, IsOver, IsAssociative}
 use Rattle.theory_tables.specs.Algebras.{HasIdentity}
-use Rattle.theory_tables.specs.Traces.{trace, trace_form, InTraceRadical, IsNondegenerate}
+use Rattle.theory_tables.specs.Traces.{trace, trace_matrix, InTraceRadical, IsNondegenerate}
 use Rattle.theory_tables.specs.Claims.{IdealClaim}
 use Rattle.theory_tables.proofs.Algebras.TraceRadical.{trace_radical}
 
@@ -24,10 +24,10 @@ module _ {E : Type 0} (o : Ops E) (A : Structure E) where
   abbrev form_row : ℕ → List E
   form_row i = table A.dim (λ j. trace o A (product o A.dim A.constants (basis o A.dim i) (basis o A.dim j)))
 
-  pub form_height : (form : List (List E)) → form ≡ trace_form o A → length form ≡ A.dim
+  pub form_height : (form : List (List E)) → form ≡ trace_matrix o A → length form ≡ A.dim
   form_height form e = ap (λ (g : List (List E)). length g) e ∙ length-table A.dim form_row
 
-  pub form_width : (form : List (List E)) → form ≡ trace_form o A → 1 ≤ A.dim → width_of form ≡ A.dim
+  pub form_width : (form : List (List E)) → form ≡ trace_matrix o A → 1 ≤ A.dim → width_of form ≡ A.dim
   form_width form e some =
       ap (λ (g : List (List E)). length (get_or g 0 [])) e
       ∙ ap (λ (row : List E). length row) (get_or-table A.dim form_row 0 [] some)
@@ -45,7 +45,7 @@ module _ {E : Type 0} (o : Ops E) (L : FieldLaws o) (A : Structure E) (over : Is
   abbrev SpansRadical : List (List E) → Type 0
   SpansRadical rows = (v : List E) → IsTuple o m v → (InSpan o m rows v ↔ InTraceRadical o A v)
 
-  pub kernel_is_radical : (form rows : List (List E)) → form ≡ trace_form o A → 1 ≤ m
+  pub kernel_is_radical : (form rows : List (List E)) → form ≡ trace_matrix o A → 1 ≤ m
       → SpansKernel o (length form) (width_of form) form rows → SpansRadical rows
   kernel_is_radical form rows e some k v hv =
       let height = form_height o A form e in

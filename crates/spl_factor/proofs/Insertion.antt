@@ -15,7 +15,7 @@ use Rattle.theory_rings.proofs.Polynomials.Monic.{divides_trans}
 use Rattle.spl_field.specs.SmallField.{small_ops}
 use Rattle.spl_field.specs.declared.small.SmallField.{SmallField}
 use Rattle.spl_poly.specs.Order.{poly_cmp, IsPolynomialOrder}
-use Rattle.spl_factor.specs.Factorisation.{Powers, ComesBefore, IsFactor, AreFactors}
+use Rattle.spl_factor.specs.Factorisation.{Powers, PrecedesAll, IsFactor, AreFactors}
 use Rattle.spl_factor.specs.Steps.{field, ring, poly, IsMonicList, DividesList, product_of_powers, NoneDivides}
 use Rattle.spl_factor.specs.Steps.{IsWork, IsNext}
 
@@ -32,7 +32,7 @@ module _ (f : SmallField) (order : IsPolynomialOrder poly_cmp) where
   abbrev T : IsTotalOrder poly_cmp
   T = order.total
 
-  before_trans : (a b : List ℕ) (xs : Powers) → poly_cmp a b ≡ Less → ComesBefore b xs → ComesBefore a xs
+  before_trans : (a b : List ℕ) (xs : Powers) → poly_cmp a b ≡ Less → PrecedesAll b xs → PrecedesAll a xs
   before_trans a b [] h k = tt
   before_trans a b (y ∷ ys) h k = (T.trans a b y.0 h k.0, before_trans a b ys h k.1)
 
@@ -62,8 +62,8 @@ module _ (f : SmallField) (order : IsPolynomialOrder poly_cmp) where
     absent_of_none a (y ∷ ys) h d =
         (λ s. h.0 (subst (λ z. DividesList f z a) (sym s) d), absent_of_none a ys h.1 d)
 
-    insert_before : (a : List ℕ) (xs : Powers) (k : ℕ) → k ≤ length xs → ComesBefore a xs → poly_cmp a p ≡ Less
-        → ComesBefore a (insert xs k (p, e))
+    insert_before : (a : List ℕ) (xs : Powers) (k : ℕ) → k ≤ length xs → PrecedesAll a xs → poly_cmp a p ≡ Less
+        → PrecedesAll a (insert xs k (p, e))
     insert_before a [] zero l h c = (c, tt)
     insert_before a (y ∷ ys) zero l h c = (c, h)
     insert_before a [] (suc k) l h c = absurd (omega arith)

@@ -14,9 +14,9 @@ abbrev pub Powers : Type 0
 Powers = List (List ℕ × ℕ)
 
 -- a comes before each, in the order of polynomials
-abbrev pub ComesBefore : List ℕ → Powers → Type 0
-ComesBefore a [] = Unit {0}
-ComesBefore a (f ∷ fs) = (poly_cmp a f.0 ≡ Less) × ComesBefore a fs
+abbrev pub PrecedesAll : List ℕ → Powers → Type 0
+PrecedesAll a [] = Unit {0}
+PrecedesAll a (f ∷ fs) = (poly_cmp a f.0 ≡ Less) × PrecedesAll a fs
 
 module _ (o : Ops ℕ) where
   -- a monic irreducible polynomial with an exponent of at least 1
@@ -28,7 +28,7 @@ module _ (o : Ops ℕ) where
   -- factors in strictly increasing order
   abbrev pub AreFactors : Powers → Type 0
   AreFactors [] = Unit {0}
-  AreFactors (f ∷ fs) = IsFactor f × ComesBefore f.0 fs × AreFactors fs
+  AreFactors (f ∷ fs) = IsFactor f × PrecedesAll f.0 fs × AreFactors fs
 
   -- the coefficients of the product of the powers
   abbrev pub product_coefficients : Powers → ℕ → ℕ

@@ -42,7 +42,7 @@ use Rattle.theory_tables.specs.Subspace as rows_of
 use Rattle.theory_tables.specs.Subspace.{Combinations}
 use Rattle.theory_tables.specs.Structure.{Structure, IsAssociative, tuple_ops}
 use Rattle.theory_tables.specs.Algebras.{IsIdentity, SpansIdeal}
-use Rattle.theory_tables.specs.Traces.{PowerVanishes, trace_form, trace as list_trace}
+use Rattle.theory_tables.specs.Traces.{PowerVanishes, trace_matrix, trace as list_trace}
 use Rattle.theory_tables.proofs.Algebras.Bridge.{as_tuple, IsTuple-of, algebra, algebra_is, table_basis, one-is, row}
 use Rattle.theory_tables.proofs.Algebras.Bridge.{coord-is, vec-is, trace-is}
 use Rattle.theory_tables.proofs.Algebras.TraceRadical.{trace_radical}
@@ -434,7 +434,7 @@ module _ {E : Type 0} (o : Ops E) (L : FieldLaws o) (T : Structure E) (over : st
       (lift.is_lift.kernel (trace_power lift A m B 0 N) (down_trace y N g ∙ e))
 
   pub first_rows : (rows : List (List E)) → IsMatrix o m rows
-      → rows_of.SpansKernel o m m (trace_form o T) rows → SpansMember 1 rows
+      → rows_of.SpansKernel o m m (trace_matrix o T) rows → SpansMember 1 rows
   first_rows rows shape kernel =
       let R = trace_radical o L T over assoc in
       record {

@@ -11,7 +11,7 @@ use Rattle.theory_spaces.proofs.Tuples.Tuples.{at-table, IsTuple-table, IsTuple-
 use Rattle.theory_spaces.proofs.Tuples.TupleProducts.{IsTuple-product, IsTuple-basis, scale-product, product-scale}
 use Rattle.theory_tables.specs.Matrix.{entry}
 use Rattle.theory_tables.specs.Structure.{Structure, IsOver}
-use Rattle.theory_tables.specs.Traces.{trace, trace_form, InTraceRadical}
+use Rattle.theory_tables.specs.Traces.{trace, trace_matrix, InTraceRadical}
 use Rattle.theory_tables.proofs.Rows.Terms.{mul-zero, mul-inv}
 use Rattle.theory_tables.proofs.Rows.Sums.{mul-sum_of, entry_table}
 use Rattle.theory_constants.specs.Scaled.{scaled}
@@ -192,7 +192,7 @@ module _ {E : Type 0} (o : Ops E) (L : FieldLaws o) (A : Structure E) (over : Is
       ∙ ap (o.mul c) (trace-times ab h)
 
   form : (i j : ℕ) → i < n → j < n
-      → entry o (trace_form o B) i j ≡ o.mul c (o.mul c (entry o (trace_form o A) i j))
+      → entry o (trace_matrix o B) i j ≡ o.mul c (o.mul c (entry o (trace_matrix o A) i j))
   form i j hi hj =
       entry_table o L n n (λ i j. trace o B (product o n ds (basis o n i) (basis o n j))) i j hi hj
       ∙ trace_product (basis o n i) (basis o n j) (basis-tuple i) (basis-tuple j)

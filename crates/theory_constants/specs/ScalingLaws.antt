@@ -6,7 +6,7 @@ use Rattle.theory_spaces.specs.Tuples.{tuple_scale}
 use Rattle.theory_tables.specs.Matrix.{entry}
 use Rattle.theory_tables.specs.Structure.{Structure, IsOver, IsElement, AssociatesAt, product_of}
 use Rattle.theory_tables.specs.Algebras.{IsIdentity, IsCentral}
-use Rattle.theory_tables.specs.Traces.{trace_form, InTraceRadical, IsNondegenerate}
+use Rattle.theory_tables.specs.Traces.{trace_matrix, InTraceRadical, IsNondegenerate}
 use Rattle.theory_constants.specs.Scaled.{scaled}
 
 module _ {E : Type 0} (o : Ops E) (A : Structure E) where
@@ -25,7 +25,7 @@ module _ {E : Type 0} (o : Ops E) (A : Structure E) where
     pub central : Same (IsCentral o A) (IsCentral o (scaled o c A))
     -- the trace form is c² times that of the other
     pub form : (i j : ℕ) → i < A.dim → j < A.dim
-        → entry o (trace_form o (scaled o c A)) i j ≡ o.mul c (o.mul c (entry o (trace_form o A) i j))
+        → entry o (trace_matrix o (scaled o c A)) i j ≡ o.mul c (o.mul c (entry o (trace_matrix o A) i j))
     pub radical : Same (InTraceRadical o A) (InTraceRadical o (scaled o c A))
     pub nondegenerate : IsNondegenerate o A ↔ IsNondegenerate o (scaled o c A)
 

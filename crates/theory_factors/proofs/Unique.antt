@@ -13,7 +13,7 @@ use Rattle.theory_rings.proofs.Polynomials.Bezout.{field_polynomials, degree_of_
 use Rattle.theory_rings.proofs.Polynomials.Bezout.{poly_mul_cancel_left, poly_one-ne-zero}
 use Rattle.theory_rings.proofs.Polynomials.Irreducible.{divides_or, irreducible-ne-zero, irreducible_coprime}
 use Rattle.theory_rings.proofs.Polynomials.Irreducible.{irreducible_prime}
-use Rattle.theory_factors.specs.Factorisation.{Factors, product_of, ComesBefore, IsFactor, IsFactorisation}
+use Rattle.theory_factors.specs.Factorisation.{Factors, product_of, PrecedesAll, IsFactor, IsFactorisation}
 use Rattle.theory_factors.specs.Factorisation.{FactorisationIsUnique}
 use Rattle.theory_rings.proofs.Polynomials.Monic.{divides_self}
 
@@ -53,7 +53,7 @@ module _ {K : Type 0} (F : FieldOn K) where
     -- what divides the product and comes before each factor is none
     outside : (g : Poly R) → IsMonic R g → IsIrreducible R P g → (a : Poly R) (fs : Factors R)
         → IsFactorisation R P Less fs
-        → ComesBefore R Less a fs → Divides P g (product_of R P fs) → Less a g
+        → PrecedesAll R Less a fs → Divides P g (product_of R P fs) → Less a g
     outside g mg ig a [] t b d = absurd (not_divides_one g ig d)
     outside g mg ig a (f ∷ fs) t b d =
         let p : IsFactor R P f = t.0 in

@@ -18,9 +18,9 @@ module _ {K : Type 0} (R : CommRingOn K) where
   product_of P (f ∷ fs) = P.◌⊗◌ (power P.ring f.0 f.1) (product_of P fs)
 
   -- g comes before each
-  abbrev pub ComesBefore : (Poly R → Poly R → Type 0) → Poly R → Factors → Type 0
-  ComesBefore Less g [] = Unit {0}
-  ComesBefore Less g (f ∷ fs) = Less g f.0 × ComesBefore Less g fs
+  abbrev pub PrecedesAll : (Poly R → Poly R → Type 0) → Poly R → Factors → Type 0
+  PrecedesAll Less g [] = Unit {0}
+  PrecedesAll Less g (f ∷ fs) = Less g f.0 × PrecedesAll Less g fs
 
   -- a factor of a factorisation
   pub record IsFactor (P : CommRingOn (Poly R)) (f : Poly R × ℕ) : Type 0 where
@@ -31,7 +31,7 @@ module _ {K : Type 0} (R : CommRingOn K) where
   -- monic irreducible polynomials in order, each once, with exponents from 1
   abbrev pub IsFactorisation : CommRingOn (Poly R) → (Poly R → Poly R → Type 0) → Factors → Type 0
   IsFactorisation P Less [] = Unit {0}
-  IsFactorisation P Less (f ∷ fs) = IsFactor P f × ComesBefore Less f.0 fs × IsFactorisation P Less fs
+  IsFactorisation P Less (f ∷ fs) = IsFactor P f × PrecedesAll Less f.0 fs × IsFactorisation P Less fs
 
 module _ {K : Type 0} (F : FieldOn K) where
   -- each polynomial of degree at least 1 has a monic irreducible factor

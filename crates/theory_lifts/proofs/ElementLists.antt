@@ -162,8 +162,7 @@ module _ (o : Ops ℕ) (L : FieldLaws o) (m : List ℕ) (i : IsIrreducible o m) 
         (sym (elem_lift-ring o L m i p two_le n d D k two_le_pow
         ∙ list_lift-ring p two_le n d o D L M (monic o L m i) (field_polynomials F)
         (is_polynomial_ring F.cring F.zero_test) (Q o L m i)
-        (is_remainder_ring F.cring F.zero_test M (monic o L m i)) k two_le_pow))
-        (
+        (is_remainder_ring F.cring F.zero_test M (monic o L m i)) k two_le_pow)) (
           R.0,
           λ v. R.1 v ∙ ap (λ (x : Fin (p ^ k)). (p ^ k - x.0) % p ^ k) (moduli.first v),
           λ u v. R.2 u v ∙ ap (λ (x : Fin (p ^ k)). (p ^ k - x.0) % p ^ k) (moduli.second u v),

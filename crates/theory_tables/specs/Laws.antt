@@ -11,7 +11,7 @@ use Rattle.theory_tables.specs.Subspace.{Combinations}
 use Rattle.theory_tables.specs.Structure.{Structure, IsOver, IsAssociative, tuple_ops}
 use Rattle.theory_tables.specs.Conditions.{IsClosedFromLeft, IsClosedFromRight}
 use Rattle.theory_tables.specs.Algebras.{IsIdentity, HasIdentity, HasSmallCentre, SpansIdeal, IsCentralSimple}
-use Rattle.theory_tables.specs.Traces.{trace_form, InTraceRadical, IsNondegenerate, PowerVanishes}
+use Rattle.theory_tables.specs.Traces.{trace_matrix, InTraceRadical, IsNondegenerate, PowerVanishes}
 use Rattle.theory_tables.specs.Split.{IsSplit}
 use Rattle.theory_tables.specs.Claims.{TripleClaim, NoIdentityClaim, CentralClaim, IdealClaim}
 
@@ -34,7 +34,7 @@ module _ {E : Type 0} (o : Ops E) (A : Structure E) where
     -- its elements are those that the matrix of the form sends to 0
     pub kernel : (a : List E) → IsTuple o A.dim a
         → (InTraceRadical o A a ↔
-        ((i : ℕ) → i < A.dim → sum_of o A.dim (λ j. o.mul (entry o (trace_form o A) i j) (at o a j)) ≡ o.zero))
+        ((i : ℕ) → i < A.dim → sum_of o A.dim (λ j. o.mul (entry o (trace_matrix o A) i j) (at o a j)) ≡ o.zero))
 
   abbrev pub TraceRadicalLaw : Type 0
   TraceRadicalLaw = IsOver o A → IsAssociative o A → TraceRadical

@@ -19,8 +19,8 @@ module _ {E : Type 0} (o : Ops E) (A : Structure E) where
   trace a = sum_of o A.dim (λ j. at o (product_of o A a (basis_of o A j)) j)
 
   -- the matrix of the trace form: tr(b_i·b_j) at (i, j)
-  abbrev pub trace_form : List (List E)
-  trace_form = table A.dim (λ i. table A.dim (λ j. trace (product_of o A (basis_of o A i) (basis_of o A j))))
+  abbrev pub trace_matrix : List (List E)
+  trace_matrix = table A.dim (λ i. table A.dim (λ j. trace (product_of o A (basis_of o A i) (basis_of o A j))))
 
   -- tr(a·b) = 0 for each tuple b
   pub record InTraceRadical (a : List E) : Type 0 where

@@ -31,7 +31,7 @@ use Rattle.theory_tables.specs.Subspace.{Combinations}
 use Rattle.theory_tables.specs.Structure.{Structure, IsAssociative, tuple_ops}
 use Rattle.theory_tables.proofs.Rows.Sums.{entry_table}
 use Rattle.theory_tables.specs.Algebras.{IsIdentity, SpansIdeal}
-use Rattle.theory_tables.specs.Traces.{trace as list_trace, trace_form, InTraceRadical, PowerVanishes}
+use Rattle.theory_tables.specs.Traces.{trace as list_trace, trace_matrix, InTraceRadical, PowerVanishes}
 use Rattle.theory_tables.specs.Laws.{TraceRadicalLaw}
 use Rattle.theory_tables.proofs.Algebras.Bridge.{as_tuple, IsTuple-of, basis-at}
 
@@ -108,11 +108,11 @@ module _ {E : Type 0} (o : Ops E) (L : FieldLaws o) (A : Structure E) (constants
 
   -- row i of the form, times a tuple
   form_row : (x : Tuple o m) (i : ℕ) → i < m → sum_of o m
-      (λ j. o.mul (entry o (trace_form o A) i j) (at o x.0 j)) ≡ (t (x ⊗ B.vec i)).0
+      (λ j. o.mul (entry o (trace_matrix o A) i j) (at o x.0 j)) ≡ (t (x ⊗ B.vec i)).0
   form_row x i i_in =
       let c = B.coord x in
       let v = B.vec i in
-      sum_of_congr o m (λ j. o.mul (entry o (trace_form o A) i j) (at o x.0 j))
+      sum_of_congr o m (λ j. o.mul (entry o (trace_matrix o A) i j) (at o x.0 j))
       (λ j. (K.◌⊗◌ (c j) (t (v ⊗ B.vec j))).0) (λ j j_in.
       ap₂ o.mul (entry_table o L m m (λ i j. list_trace o A
       (product o m cs (basis o m i) (basis o m j))) i j i_in j_in

@@ -1,7 +1,7 @@
 use Rattle.std.proofs.Common.{◌≡◌, ◌*◌, List, length, refl, sym, ◌∙◌, ap, ap₂}
 use Rattle.std.proofs.lemmas.Result.{IfOk-weaker}
 use Rattle.theory_rings.specs.Sum.{table}
-use Rattle.theory_tables.specs.Traces.{trace_form}
+use Rattle.theory_tables.specs.Traces.{trace_matrix}
 use Rattle.spl_algebra.specs.Contractions.{contraction, basis_trace}
 use Rattle.spl_algebra.proofs.Contractions.{first_within, contraction-form_of}
 use Rattle.spl_algebra.proofs.algebra.Algebra.trace_form.Goals as goal
@@ -24,7 +24,7 @@ returns-clause-value g c =
     let A = c.args.self.now in
     let P : List (List g.row.F-Elem.Denot)
     → Type 0 = λ r. r ≡ contraction o (length items) items constants (d * d) d 1 in
-    let Q : List (List g.row.F-Elem.Denot) → Type 0 = λ r. r ≡ trace_form o A in
+    let Q : List (List g.row.F-Elem.Denot) → Type 0 = λ r. r ≡ trace_matrix o A in
     IfOk-weaker c.contraction_of.result P Q
     (λ r e. e ∙ contraction-form_of o L A.dim A.constants c.requires.of_elements (length items) d items constants
     (ap length c.as_slice.ensures ∙ c.in_ok-traces.ensures.elem.right_length ∙ c.dim-m.ensures.dim) c.dim-m.ensures.dim
