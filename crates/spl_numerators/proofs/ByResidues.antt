@@ -1,5 +1,5 @@
--- An algebra over the rational functions is associative where basis elements generate the algebra of the residues of its
--- numerators at an irreducible polynomial, and all triples with one of these in the middle associate.
+-- An algebra over the rational functions is associative where basis elements generate the algebra of the residues of
+-- its numerators at an irreducible polynomial, and all triples with one of these in the middle associate.
 use Rattle.std.specs.Prelude.{◌≡◌, ◌*◌, ◌<◌, ℕ, List, [], get_or}
 use Rattle.std.proofs.Common.{sym, ◌∙◌, subst, arith}
 use Rattle.std.proofs.lemmas.List.{get_or_default}

@@ -3,8 +3,8 @@
 //
 // It stands on spl_algebra, on spl_fraction, whose rational functions are the constants, on spl_generators and
 // spl_residue for the generators of the algebra of residues, and on theory_constants and theory_reductions, by which
-// multiplied constants keep what associates, and these generators tell it. Read specs/Numerators.antt, then `numerators_of` and
-// `first_failed_triple`.
+// multiplied constants keep what associates, and few triples tell that all do. Read specs/Numerators.antt and
+// specs/Residues.antt, then `numerators_of` and `first_failed_triple`.
 #![tactic(auto)]
 
 mod associates;

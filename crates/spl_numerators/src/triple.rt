@@ -20,8 +20,8 @@ use spl_fraction::field::Fractions;
 use spl_residue::field::ResidueField;
 use std::alloc::Global;
 
-/// Whether (b_i·b_j)·b_k and b_i·(b_j·b_k) are the same, for an algebra with these constants.
-fn associates_at(
+/// Whether (b_i·b_j)·b_k and b_i·(b_j·b_k) are the same, by polynomials.
+fn associates_by_numerators(
     alloc: Global,
     f: &SmallField,
     a: &Algebra<Fractions>,
@@ -41,21 +41,51 @@ fn associates_at(
     Ok(associates(alloc, f, a.dim(), n.entries.as_slice(), i, j, k)?)
 }
 
+/// The greatest number of coefficients of a denominator by which the polynomials are taken: products of longer ones
+/// take longer than sums of fractions do.
+const LONGEST: usize = 100;
+
+/// Whether (b_i·b_j)·b_k and b_i·(b_j·b_k) are the same, for an algebra with these constants: by polynomials, and by
+/// fractions where the common denominator has more than 100 coefficients.
+fn associates_at(
+    alloc: Global,
+    f: &Fractions,
+    a: &Algebra<Fractions>,
+    n: &Numerators,
+    i: usize,
+    j: usize,
+    k: usize,
+) -> Result<bool, NoMemory>
+    requires over { IsOver (fractions_over (field_of f.now)) a.now }
+    requires numerators { AreNumerators (small_ops (field_of f.now)) (small_laws (field_of f.now)) n.now.denominator
+        a.now n.now.entries }
+    requires first { i < a.now.dim }
+    requires second { j < a.now.dim }
+    requires third { k < a.now.dim }
+    ensures { IfOk result (λ b. IsTrue b ↔ AssociatesAt (fractions_over (field_of f.now)) a.now i j k) }
+{
+    if n.denominator.as_slice().len() > LONGEST {
+        return Ok(a.associates_at(alloc, f, i, j, k)?);
+    }
+    Ok(associates_by_numerators(alloc, f.field(), a, n, i, j, k)?)
+}
+
 /// The first k where (b_i·b_j)·b_k and b_i·(b_j·b_k) differ.
 fn first_third(
     alloc: Global,
-    f: &SmallField,
+    f: &Fractions,
     a: &Algebra<Fractions>,
     n: &Numerators,
     i: usize,
     j: usize,
 ) -> Result<Option<usize>, NoMemory>
-    requires over { IsOver (fractions_over f.now) a.now }
-    requires numerators { AreNumerators (small_ops f.now) (small_laws f.now) n.now.denominator a.now n.now.entries }
+    requires over { IsOver (fractions_over (field_of f.now)) a.now }
+    requires numerators { AreNumerators (small_ops (field_of f.now)) (small_laws (field_of f.now)) n.now.denominator
+        a.now n.now.entries }
     requires first { i < a.now.dim }
     requires second { j < a.now.dim }
-    ensures { IfOk result (λ r. MatchOption r (AssociatesAtPair (fractions_over f.now) a.now i j)
-        (FailsFirstAt (fractions_over f.now) a.now i j)) }
+    ensures { IfOk result (λ r. MatchOption r (AssociatesAtPair (fractions_over (field_of f.now)) a.now i j)
+        (FailsFirstAt (fractions_over (field_of f.now)) a.now i j)) }
 {
     for k in 0..a.dim() {
         if !associates_at(alloc, f, a, n, i, j, k)? {
@@ -68,17 +98,18 @@ fn first_third(
 /// The first j and k where (b_i·b_j)·b_k and b_i·(b_j·b_k) differ.
 fn first_pair(
     alloc: Global,
-    f: &SmallField,
+    f: &Fractions,
     a: &Algebra<Fractions>,
     n: &Numerators,
     i: usize,
 ) -> Result<Option<(usize, usize)>, NoMemory>
-    requires over { IsOver (fractions_over f.now) a.now }
-    requires numerators { AreNumerators (small_ops f.now) (small_laws f.now) n.now.denominator a.now n.now.entries }
+    requires over { IsOver (fractions_over (field_of f.now)) a.now }
+    requires numerators { AreNumerators (small_ops (field_of f.now)) (small_laws (field_of f.now)) n.now.denominator
+        a.now n.now.entries }
     requires first { i < a.now.dim }
     ensures { IfOk result (λ r. MatchOption r
-        ((j : ℕ) → j < a.now.dim → AssociatesAtPair (fractions_over f.now) a.now i j)
-        (λ p. FailsFirstAtPair (fractions_over f.now) a.now i p.0 p.1)) }
+        ((j : ℕ) → j < a.now.dim → AssociatesAtPair (fractions_over (field_of f.now)) a.now i j)
+        (λ p. FailsFirstAtPair (fractions_over (field_of f.now)) a.now i p.0 p.1)) }
 {
     for j in 0..a.dim() {
         match first_third(alloc, f, a, n, i, j)? {
@@ -106,14 +137,15 @@ fn from_places(i: usize, j: usize, k: usize) -> Triple
 /// The first failed triple, by these polynomials.
 fn first_by_numerators(
     alloc: Global,
-    f: &SmallField,
+    f: &Fractions,
     a: &Algebra<Fractions>,
     n: &Numerators,
 ) -> Result<Option<Triple>, NoMemory>
-    requires over { IsOver (fractions_over f.now) a.now }
-    requires numerators { AreNumerators (small_ops f.now) (small_laws f.now) n.now.denominator a.now n.now.entries }
-    ensures { IfOk result (λ r. MatchOption r (IsAssociative (fractions_over f.now) a.now)
-        (IsFirstFailed (fractions_over f.now) a.now)) }
+    requires over { IsOver (fractions_over (field_of f.now)) a.now }
+    requires numerators { AreNumerators (small_ops (field_of f.now)) (small_laws (field_of f.now)) n.now.denominator
+        a.now n.now.entries }
+    ensures { IfOk result (λ r. MatchOption r (IsAssociative (fractions_over (field_of f.now)) a.now)
+        (IsFirstFailed (fractions_over (field_of f.now)) a.now)) }
 {
     for i in 0..a.dim() {
         match first_pair(alloc, f, a, n, i)? {
@@ -127,16 +159,17 @@ fn first_by_numerators(
 /// Whether all triples with the basis element j in the middle associate.
 fn middle_associates(
     alloc: Global,
-    f: &SmallField,
+    f: &Fractions,
     a: &Algebra<Fractions>,
     n: &Numerators,
     j: usize,
 ) -> Result<bool, NoMemory>
-    requires over { IsOver (fractions_over f.now) a.now }
-    requires numerators { AreNumerators (small_ops f.now) (small_laws f.now) n.now.denominator a.now n.now.entries }
+    requires over { IsOver (fractions_over (field_of f.now)) a.now }
+    requires numerators { AreNumerators (small_ops (field_of f.now)) (small_laws (field_of f.now)) n.now.denominator
+        a.now n.now.entries }
     requires middle { j < a.now.dim }
     ensures { IfOk result (λ b. IsTrue b
-        → (i k : ℕ) → i < a.now.dim → k < a.now.dim → AssociatesAt (fractions_over f.now) a.now i j k) }
+        → (i k : ℕ) → i < a.now.dim → k < a.now.dim → AssociatesAt (fractions_over (field_of f.now)) a.now i j k) }
 {
     for first in 0..a.dim() {
         match first_third(alloc, f, a, n, first, j)? {
@@ -150,15 +183,16 @@ fn middle_associates(
 /// Whether all triples with one of these basis elements in the middle associate.
 fn middles_associate(
     alloc: Global,
-    f: &SmallField,
+    f: &Fractions,
     a: &Algebra<Fractions>,
     n: &Numerators,
     by: &[usize],
 ) -> Result<bool, NoMemory>
-    requires over { IsOver (fractions_over f.now) a.now }
-    requires numerators { AreNumerators (small_ops f.now) (small_laws f.now) n.now.denominator a.now n.now.entries }
+    requires over { IsOver (fractions_over (field_of f.now)) a.now }
+    requires numerators { AreNumerators (small_ops (field_of f.now)) (small_laws (field_of f.now)) n.now.denominator
+        a.now n.now.entries }
     requires within { (s : ℕ) → s < length by.now → get_or by.now s 0 < a.now.dim }
-    ensures { IfOk result (λ b. IsTrue b → MiddlesAssociate (fractions_over f.now) a.now by.now) }
+    ensures { IfOk result (λ b. IsTrue b → MiddlesAssociate (fractions_over (field_of f.now)) a.now by.now) }
 {
     for s in 0..by.len() {
         if !middle_associates(alloc, f, a, n, by[s])? {
@@ -172,15 +206,16 @@ fn middles_associate(
 /// residues.
 fn associates_by_generators(
     alloc: Global,
-    f: &SmallField,
+    f: &Fractions,
     a: &Algebra<Fractions>,
     n: &Numerators,
     k: &ResidueField,
 ) -> Result<bool, NoMemory>
-    requires over { IsOver (fractions_over f.now) a.now }
-    requires numerators { AreNumerators (small_ops f.now) (small_laws f.now) n.now.denominator a.now n.now.entries }
-    requires field { small_ops (residue_field_of k.now) ≡ small_ops f.now }
-    ensures { IfOk result (λ b. IsTrue b → IsAssociative (fractions_over f.now) a.now) }
+    requires over { IsOver (fractions_over (field_of f.now)) a.now }
+    requires numerators { AreNumerators (small_ops (field_of f.now)) (small_laws (field_of f.now)) n.now.denominator
+        a.now n.now.entries }
+    requires field { small_ops (residue_field_of k.now) ≡ small_ops (field_of f.now) }
+    ensures { IfOk result (λ b. IsTrue b → IsAssociative (fractions_over (field_of f.now)) a.now) }
 {
     let _count = a.constants().len();
     let _irreducible = k.modulus();
@@ -191,15 +226,16 @@ fn associates_by_generators(
 /// Whether the algebra is seen to be associative by few triples, at the first place that is found.
 fn associates_at_a_place(
     alloc: Global,
-    f: &SmallField,
+    f: &Fractions,
     a: &Algebra<Fractions>,
     n: &Numerators,
 ) -> Result<bool, NoMemory>
-    requires over { IsOver (fractions_over f.now) a.now }
-    requires numerators { AreNumerators (small_ops f.now) (small_laws f.now) n.now.denominator a.now n.now.entries }
-    ensures { IfOk result (λ b. IsTrue b → IsAssociative (fractions_over f.now) a.now) }
+    requires over { IsOver (fractions_over (field_of f.now)) a.now }
+    requires numerators { AreNumerators (small_ops (field_of f.now)) (small_laws (field_of f.now)) n.now.denominator
+        a.now n.now.entries }
+    ensures { IfOk result (λ b. IsTrue b → IsAssociative (fractions_over (field_of f.now)) a.now) }
 {
-    match place(alloc, f, &n.denominator)? {
+    match place(alloc, f.field(), &n.denominator)? {
         Some(k) => Ok(associates_by_generators(alloc, f, a, n, &k)?),
         None => Ok(false),
     }
@@ -208,24 +244,21 @@ fn associates_at_a_place(
 /// The first failed triple, by these polynomials: all triples are searched where few do not tell that there is none.
 fn first_by_generators(
     alloc: Global,
-    f: &SmallField,
+    f: &Fractions,
     a: &Algebra<Fractions>,
     n: &Numerators,
 ) -> Result<Option<Triple>, NoMemory>
-    requires over { IsOver (fractions_over f.now) a.now }
-    requires numerators { AreNumerators (small_ops f.now) (small_laws f.now) n.now.denominator a.now n.now.entries }
-    ensures { IfOk result (λ r. MatchOption r (IsAssociative (fractions_over f.now) a.now)
-        (IsFirstFailed (fractions_over f.now) a.now)) }
+    requires over { IsOver (fractions_over (field_of f.now)) a.now }
+    requires numerators { AreNumerators (small_ops (field_of f.now)) (small_laws (field_of f.now)) n.now.denominator
+        a.now n.now.entries }
+    ensures { IfOk result (λ r. MatchOption r (IsAssociative (fractions_over (field_of f.now)) a.now)
+        (IsFirstFailed (fractions_over (field_of f.now)) a.now)) }
 {
     if associates_at_a_place(alloc, f, a, n)? {
         return Ok(None);
     }
     Ok(first_by_numerators(alloc, f, a, n)?)
 }
-
-/// The greatest number of coefficients of a denominator by which the polynomials are taken: products of longer ones
-/// take longer than sums of fractions do.
-const LONGEST: usize = 100;
 
 /// The first triple (i, j, k) in lexicographic order where (b_i·b_j)·b_k and b_i·(b_j·b_k) differ; None exactly where
 /// the algebra is associative. It works on polynomials over the common denominator of the constants, and on fractions
@@ -242,8 +275,5 @@ pub fn first_failed_triple(
         (IsFirstFailed (fractions_over (field_of f.now)) a.now)) }
 {
     let numerators = numerators_of(alloc, f, a)?;
-    if numerators.denominator.as_slice().len() > LONGEST {
-        return a.first_failed_triple(alloc, f);
-    }
-    first_by_generators(alloc, f.field(), a, &numerators)
+    Ok(first_by_generators(alloc, f, a, &numerators)?)
 }

@@ -3,6 +3,7 @@ use Rattle.theory_rings.specs.Ops.{Ops}
 use Rattle.theory_fractions.specs.PolynomialLists.{IsPolynomialList}
 use Rattle.theory_constants.specs.Generated.{MiddlesAssociate}
 use Rattle.spl_fraction.specs.FractionsOver.{fractions_over}
+use Rattle.spl_fraction.specs.Fractions.{field_of as fractions_field_of}
 use Rattle.spl_residue.specs.declared.field.ResidueField.{ResidueField}
 use Rattle.spl_field.specs.SmallField.{small_ops, small_laws}
 use Rattle.spl_residue.specs.Residue.{field_of, polynomial_of}
@@ -22,11 +23,12 @@ generators_at-requires-clause-count c =
 
 pub generators_at-requires-clause-polynomials : goal.generators_at-requires-clause-polynomials
 generators_at-requires-clause-polynomials c p l =
+    let f = fractions_field_of c.args.f.now in
     let P : Ops ℕ → Type 0 = λ o. IsPolynomialList o (get_or c.as_slice.result.now p []) in
     subst P (sym c.requires.field)
-    (has_polynomials (small_ops c.args.f.now) (small_laws c.args.f.now) c.args.n.now.denominator
-    c.args.a.now.constants (c.args.a.now.dim * c.args.a.now.dim * c.args.a.now.dim) c.args.n.now.entries
-    c.requires.numerators.multiples c.as_slice.result.now c.as_slice.ensures p l)
+    (has_polynomials (small_ops f) (small_laws f) c.args.n.now.denominator c.args.a.now.constants
+    (c.args.a.now.dim * c.args.a.now.dim * c.args.a.now.dim) c.args.n.now.entries c.requires.numerators.multiples
+    c.as_slice.result.now c.as_slice.ensures p l)
 
 -- what the call gave, of the polynomials and the dimension of the algebra
 given : (k : ResidueField) (xs ys : List (List ℕ)) (d m : ℕ) (by : List ℕ) → xs ≡ ys → d ≡ m
@@ -45,7 +47,7 @@ middles_associate-requires-clause-within c =
 pub returns : goal.returns
 returns c t =
     let k = c.args.k.now in
-    let f = c.args.f.now in
+    let f = fractions_field_of c.args.f.now in
     let n = c.args.n.now in
     let A = c.args.a.now in
     let by = c.in_ok-by.by in
