@@ -1,0 +1,4 @@
+pub mod TupleLattices
+pub mod Bases
+pub mod BasisLaws
+pub mod Joined

@@ -1,0 +1,11 @@
+// Lattices of tuples of fractions, and their bases as rows of polynomials over one denominator: what the rows tell of
+// the tuples, and orders and dual bases by structure constants.
+//
+// It stands on theory_rows (rows of polynomials, and their kernels over the fractions), theory_tables (tuples and
+// structure constants) and theory_fractions, and has no code: each public function does nothing, and its contract is a
+// theorem.
+//
+// Read specs/TupleLattices and specs/Bases first, then basis_laws.
+#![tactic(auto)]
+
+pub mod basis_laws;
