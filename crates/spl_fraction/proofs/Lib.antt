@@ -3,3 +3,5 @@ pub mod PlaceOrders
 pub mod CanonicalTexts
 pub mod FractionsSame
 pub mod Generators
+pub mod Multiplicities
+pub mod Swaps

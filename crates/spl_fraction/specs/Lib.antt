@@ -3,3 +3,5 @@ pub mod Fractions
 pub mod Place
 pub mod CanonicalText
 pub mod CanonicalWords
+pub mod Valuation
+pub mod Multiplicity

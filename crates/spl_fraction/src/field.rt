@@ -10,12 +10,16 @@ ghost use Rattle.theory_fractions.specs.Fraction.{Pair, IsLowestTerms, IsFractio
 ghost use Rattle.theory_fractions.specs.Fraction.{IsFractionNegative, IsFractionInverse};
 ghost use Rattle.theory_fractions.specs.CommonDenominator.{IsCommonDenominator};
 ghost use Rattle.spl_fraction.specs.FractionsOver.{fractions_over, fractions_laws, fractions_zero};
+ghost use Rattle.spl_fraction.specs.Valuation.{IsPlaceOver, HasValuation, IsSwapped};
 
 use crate::arithmetic::{are_same, copy_of, inverse_of, negative_of, product_of, sum_of};
 use crate::denominator::denominator_of;
 use crate::fraction::Fraction;
+use crate::place::Place;
 use crate::reading::fraction_of_text;
 use crate::reduction::{one_poly, reduced};
+use crate::swap::swapped;
+use crate::valuation::valuation_of;
 use crate::writing::push_fraction;
 use spl_field::field::{Field, NoMemory};
 use spl_field::small::SmallField;
@@ -154,6 +158,34 @@ impl Fractions {
         let num = num.copy(alloc, &self.field)?;
         let den = den.copy(alloc, &self.field)?;
         Ok(Some(reduced(alloc, &self.field, num, den)?))
+    }
+
+    /// The valuation of the fraction at a place, whose polynomial m is irreducible: where the fraction is
+    /// (m^s·u)/(m^t·v), and m divides neither u nor v, it is s - t; at infinity it is the degree of the denominator
+    /// less that of the numerator. None exactly where the fraction is 0. The one fault is want of memory. (Reiner,
+    /// Maximal Orders, section 5; Stichtenoth, Algebraic Function Fields and Codes, section 1.2.)
+    pub fn valuation(
+        &self,
+        alloc: Global,
+        a: &Fraction,
+        place: &Place,
+    ) -> Result<Option<i64>, NoMemory>
+        requires elem { IsElem (fractions_over (field_of self.now)) a.now }
+        requires place { IsPlaceOver (small_ops (field_of self.now)) place.now }
+        ensures none { IfOk result (λ o. (o ≡ None) ↔ (a.now.0 ≡ [])) }
+        ensures value { IfOk result (λ o. IfSome o (HasValuation (small_ops (field_of self.now)) place.now a.now)) }
+    {
+        valuation_of(alloc, &self.field, a, place)
+    }
+
+    /// The fraction with 1/x put for x, written in x again: of u/v it is (x^n·u(1/x))/(x^n·v(1/x)). The one fault is
+    /// want of memory.
+    pub fn swap_infinity(&self, alloc: Global, a: &Fraction) -> Result<Fraction, NoMemory>
+        requires { IsElem (fractions_over (field_of self.now)) a.now }
+        ensures elem { IfOk result (IsElem (fractions_over (field_of self.now))) }
+        ensures value { IfOk result (IsSwapped (small_ops (field_of self.now)) a.now) }
+    {
+        Ok(swapped(alloc, &self.field, a)?)
     }
 
     /// The monic polynomial of least degree that makes each of the list a polynomial: it divides each other with this

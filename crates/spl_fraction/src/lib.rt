@@ -12,5 +12,7 @@ pub mod laws;
 pub mod place;
 mod reading;
 mod reduction;
+mod swap;
 pub mod tuples;
+mod valuation;
 mod writing;
