@@ -26,8 +26,9 @@ pub struct Numerators {
     pub entries: List<Poly>,
 }
 
-/// The product of a polynomial and a fraction whose denominator divides it.
-fn multiple_of(alloc: Global, f: &SmallField, c: &Poly, w: &Fraction) -> Result<Poly, NoMemory>
+/// The product of a polynomial and a fraction whose denominator divides it, which is a polynomial. The one fault is want
+/// of memory.
+pub fn multiple_of(alloc: Global, f: &SmallField, c: &Poly, w: &Fraction) -> Result<Poly, NoMemory>
     requires c_over { IsOver (small_ops f.now) c.now }
     requires c_trimmed { IsTrimmed 0 c.now }
     requires elem { IsElem (fractions_over f.now) w.now }
