@@ -1,3 +1,5 @@
 pub mod Characteristic
 pub mod Multiples
 pub mod Radicals
+pub mod Rows
+pub mod Guesses

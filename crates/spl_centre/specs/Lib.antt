@@ -1,1 +1,2 @@
 pub mod TraceIdeal
+pub mod Guess

@@ -10,6 +10,7 @@ ghost use Rattle.theory_tables.specs.Traces.{IsNondegenerate};
 ghost use Rattle.theory_tables.specs.Claims.{CentralClaim};
 ghost use Rattle.spl_centre.specs.TraceIdeal.{IsTraceIdeal};
 
+use crate::guess::guessed_identity;
 use crate::identity::{fault_of, identity_of};
 use crate::radical::radical_of;
 use spl_algebra::algebra::Algebra;
@@ -35,7 +36,10 @@ pub fn identity_or_refutation(
     ensures refuted { IfOk result (λ r.
         IsRefuted r ↔ (HasIdentity (fractions_over (field_of f.now)) a.now → ⊥)) }
 {
-    a.identity(alloc, f)
+    match guessed_identity(alloc, f, a)? {
+        Some(tuple) => Ok(One::Here { tuple }),
+        None => a.identity(alloc, f),
+    }
 }
 
 /// A central element that is no multiple of the identity; None exactly where the centre is the multiples of the
