@@ -44,13 +44,14 @@ use Rattle.theory_tables.specs.Structure.{Structure, IsAssociative, tuple_ops}
 use Rattle.theory_tables.specs.Algebras.{IsIdentity, SpansIdeal}
 use Rattle.theory_tables.specs.Traces.{PowerVanishes, trace_matrix, trace as list_trace}
 use Rattle.theory_tables.proofs.Algebras.Bridge.{as_tuple, IsTuple-of, algebra, algebra_is, table_basis, one-is, row}
-use Rattle.theory_tables.proofs.Algebras.Bridge.{coord-is, vec-is, trace-is}
+use Rattle.theory_tables.proofs.Algebras.Bridge.{coord-is, vec-is, trace-is, row-at}
 use Rattle.theory_tables.proofs.Algebras.TraceRadical.{trace_radical}
 use Rattle.theory_tables.proofs.Rows.Spans.{InSpan-member}
 use Rattle.theory_tables.proofs.Algebras.Bridge.{to_span, row-is, to_ideal, ideal_row, list_span}
 use Rattle.theory_tables.proofs.Algebras.Powers.{nilpotent_by_powers}
 use Rattle.theory_tables.specs.Structure as structures
 use Rattle.theory_chains.specs.Radical.{SpansRadical}
+use Rattle.theory_chains.specs.Members.{SpansMember, MembersByRows}
 
 module _ {E : Type 0} (o : Ops E) (L : FieldLaws o) (T : Structure E) (over : structures.IsOver o T)
     (assoc : IsAssociative o T) (one : List E) (is_one : IsIdentity o T one)
@@ -77,10 +78,8 @@ module _ {E : Type 0} (o : Ops E) (L : FieldLaws o) (T : Structure E) (over : st
   tuple = as_tuple o L m
 
   -- the rows span member i of the chain
-  pub record SpansMember (i : ℕ) (rows : List (List E)) : Type 0 where
-    pub shape : IsMatrix o m rows
-    pub inside : (x : Tuple o m) → rows_of.InSpan o m rows x.0 → I i x
-    pub spans : (x : Tuple o m) → I i x → rows_of.InSpan o m rows x.0
+  abbrev Spans : ℕ → List (List E) → Type 0
+  Spans = SpansMember o L T over assoc one is_one lift
 
   abbrev mul-is : (x y : Tuple o m) → (A.◌⊗◌ x y).0 ≡ product o m cs x.0 y.0
   mul-is = let h = algebra_is o L T over.of_elements assoc one is_one in h.product-is
@@ -92,7 +91,7 @@ module _ {E : Type 0} (o : Ops E) (L : FieldLaws o) (T : Structure E) (over : st
   zero-is = let h = algebra_is o L T over.of_elements assoc one is_one in h.zero-is
 
   -- such rows span an ideal
-  module _ (i : ℕ) (rows : List (List E)) (h : SpansMember i rows) where
+  module _ (i : ℕ) (rows : List (List E)) (h : Spans i rows) where
     J : List E → Type 0
     J = Combinations o m rows
 
@@ -166,7 +165,7 @@ module _ {E : Type 0} (o : Ops E) (L : FieldLaws o) (T : Structure E) (over : st
       (tuple a g.0) (span_of_list other ideal.shape (tuple a g.0) g.1)
 
   -- rows that span a member which is the largest nilpotent ideal
-  radical_of : (i : ℕ) (rows : List (List E)) → SpansMember i rows → PowerVanishes o T rows
+  radical_of : (i : ℕ) (rows : List (List E)) → Spans i rows → PowerVanishes o T rows
       → ideals.IsLargestNilpotentIdeal A (I i) → SpansRadical o T rows
   radical_of i rows h power largest = record {
     ideal = member_ideal i rows h;
@@ -175,7 +174,7 @@ module _ {E : Type 0} (o : Ops E) (L : FieldLaws o) (T : Structure E) (over : st
   }
 
   -- the chain may stop at a member that is nilpotent
-  pub radical_of_nilpotent : (i : ℕ) (rows : List (List E)) → SpansMember i rows → PowerVanishes o T rows
+  pub radical_of_nilpotent : (i : ℕ) (rows : List (List E)) → Spans i rows → PowerVanishes o T rows
       → SpansRadical o T rows
   radical_of_nilpotent i rows h power =
       let ideal = member_ideal i rows h in
@@ -188,7 +187,7 @@ module _ {E : Type 0} (o : Ops E) (L : FieldLaws o) (T : Structure E) (over : st
       }))
 
   -- and it ends in the radical
-  pub radical_of_last : m < p ^ n → (rows : List (List E)) → SpansMember n rows → SpansRadical o T rows
+  pub radical_of_last : m < p ^ n → (rows : List (List E)) → Spans n rows → SpansRadical o T rows
   radical_of_last enough rows h =
       let largest = chain_end prime lift A m B enough in
       let nil = largest.nilpotent in
@@ -373,7 +372,7 @@ module _ {E : Type 0} (o : Ops E) (L : FieldLaws o) (T : Structure E) (over : st
           ∙ ap (λ (c : Elem o). c.0) (sym (functional-product x j))
 
       -- rows of member i, on which the functional is a root of the residues: the next member is where the form is 0
-      module _ (i : ℕ) (below : i < n) (rows : List (List E)) (h : SpansMember i rows)
+      module _ (i : ℕ) (below : i < n) (rows : List (List E)) (h : Spans i rows)
           (values : (s : ℕ) → s < length rows
           → TraceResidue lift A m B i (row o L m rows h.shape s)
           (power K.ring (functional (row o L m rows h.shape s)) (p ^ i))) where
@@ -388,7 +387,7 @@ module _ {E : Type 0} (o : Ops E) (L : FieldLaws o) (T : Structure E) (over : st
             (λ x g. span_of_list rows h.shape x (h.spans x g)) values
 
         pub next_rows : (kernel new : List (List E)) → rows_of.SpansKernel o m m form kernel
-            → rows_of.SpansMeet o m new rows kernel → IsMatrix o m new → SpansMember (suc i) new
+            → rows_of.SpansMeet o m new rows kernel → IsMatrix o m new → Spans (suc i) new
         next_rows kernel new is_kernel is_meet shape = record {
           shape = shape;
           inside = λ x s.
@@ -434,7 +433,7 @@ module _ {E : Type 0} (o : Ops E) (L : FieldLaws o) (T : Structure E) (over : st
       (lift.is_lift.kernel (trace_power lift A m B 0 N) (down_trace y N g ∙ e))
 
   pub first_rows : (rows : List (List E)) → IsMatrix o m rows
-      → rows_of.SpansKernel o m m (trace_matrix o T) rows → SpansMember 1 rows
+      → rows_of.SpansKernel o m m (trace_matrix o T) rows → Spans 1 rows
   first_rows rows shape kernel =
       let R = trace_radical o L T over assoc in
       record {
@@ -458,3 +457,22 @@ module _ {E : Type 0} (o : Ops E) (L : FieldLaws o) (T : Structure E) (over : st
                   ∙ ap (λ (y : Elem o). y.0) (vanishes_zero (A.◌⊗◌ x c) (g.1 c));
             }));
       }
+
+  -- the members by rows
+  pub members_by_rows : MembersByRows o L T over assoc one is_one lift
+  members_by_rows = record {
+    first = first_rows;
+    next = λ i below rows h w w_tuple roots form is_form kernel new is_kernel is_meet shape.
+        next_rows w w_tuple form is_form i below rows h
+        (λ s l.
+        let r = row o L m rows h.shape s in
+        let y = roots s l in
+        let e : y.0 ≡ functional w w_tuple r = Elem-path o y.0 (functional w w_tuple r)
+        (y.1 ∙ sum_of_congr o m (λ j. o.mul (entry o rows s j) (at o w j)) (λ j. o.mul (at o r.0 j) (at o w j))
+        (λ j lj. ap (λ x. o.mul x (at o w j)) (sym (row-at o L m rows h.shape s j lj)))
+        ∙ sym (functional-value w w_tuple r)) in
+        subst (λ z. TraceResidue lift A m B i r (power K.ring z (p ^ i))) e y.2)
+        kernel new is_kernel is_meet shape;
+    stop = radical_of_nilpotent;
+    last = radical_of_last;
+  }

@@ -1,2 +1,4 @@
 pub mod Radical
 pub mod NumberRows
+pub mod Members
+pub mod ElementLifts
