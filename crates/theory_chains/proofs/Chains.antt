@@ -159,8 +159,8 @@ module _ {E : Type 0} (o : Ops E) (L : FieldLaws o) (T : Structure E) (over : st
         ideal = to_ideal o L T over.of_elements assoc one is_one other ideal;
         exponent = nil.exponent;
         vanishes = vanish_of_lists (Combinations o m other) J
-            (λ x s. (IsTuple-of o L m x, list_span o L T over.of_elements assoc one is_one other ideal x s)) nil.exponent
-            nil.vanishes;
+            (λ x s. (IsTuple-of o L m x, list_span o L T over.of_elements assoc one is_one other ideal x s))
+            nil.exponent nil.vanishes;
       })
       (tuple a g.0) (span_of_list other ideal.shape (tuple a g.0) g.1)
 
@@ -349,7 +349,8 @@ module _ {E : Type 0} (o : Ops E) (L : FieldLaws o) (T : Structure E) (over : st
 
     -- the entries of the form: row j has the values at b_i·b_j
     module _ (form : List (List E)) (entries : (i j : ℕ) → i < m → j < m
-        → entry o form j i ≡ sum_of o m (λ k. o.mul (at o w k) (at o (product o m cs (basis o m i) (basis o m j)) k))) where
+        → entry o form j i ≡ sum_of o m
+        (λ k. o.mul (at o w k) (at o (product o m cs (basis o m i) (basis o m j)) k))) where
       form-entry : (i j : ℕ) → i < m → j < m → entry o form j i ≡ (functional (A.◌⊗◌ (B.vec i) (B.vec j))).0
       form-entry i j li lj = entries i j li lj
           ∙ sum_of_congr o m (λ k. o.mul (at o w k) (at o (product o m cs (basis o m i) (basis o m j)) k))

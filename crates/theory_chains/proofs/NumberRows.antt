@@ -16,7 +16,8 @@ use Rattle.theory_rings.proofs.Sums.NaturalSums.{sum-mod}
 use Rattle.theory_spaces.proofs.Matrices.PairIndex.{pair-lt, row-lt}
 use Rattle.theory_spaces.proofs.Tuples.Tuples.{IsTuple-is_tuple, IsTuple-table, at-table}
 use Rattle.std.proofs.lemmas.Bool.{lt-ltb}
-use Rattle.theory_lifts.proofs.ListProducts.{Numbers, ListRing, ent, ent-ext, ent-tau, ent-xi, ent-product, ent-sum, mono}
+use Rattle.theory_lifts.proofs.ListProducts.{Numbers, ListRing, ent, ent-ext, ent-tau, ent-xi, ent-product}
+use Rattle.theory_lifts.proofs.ListProducts.{ent-sum, mono}
 use Rattle.theory_lifts.proofs.ListProducts.{top, sum_pairs}
 use Rattle.theory_chains.specs.NumberRows.{shifted_number, turned_number, combined_number, AreNumbers, AreRows}
 

@@ -1,6 +1,6 @@
--- The members of the chain of ideals by lifted traces, as spans of rows: the first is where the trace form is 0, each next
--- one is where a form by a tuple is 0, and one that is nilpotent, or the last one, is the radical. (Rónyai, Computing the
--- structure of finite algebras.)
+-- The members of the chain of ideals by lifted traces, as spans of rows: the first is where the trace form is 0, each
+-- next one is where a form by a tuple is 0, and one that is nilpotent, or the last one, is the radical. (Rónyai,
+-- Computing the structure of finite algebras.)
 use Rattle.std.specs.Prelude.{◌≡◌, ℕ, suc, ◌^◌, ◌<◌, List, length}
 use Rattle.theory_rings.specs.Ring.{FieldOn}
 use Rattle.theory_rings.specs.Ops.{Ops, FieldLaws}

@@ -13,9 +13,9 @@ pub fn radical_is_unique<E>()
     ensures unique { (o : Ops E) → (A : Structure E) → RadicalIsUnique o A }
 {}
 
-/// The members of the chain by lifted traces, as spans of rows: the kernel of the trace form is the first; where a tuple
-/// gives the p^i-th roots of the residues at rows that span a member, the meet of the member with the kernel of a form
-/// by this tuple is the next; a member of which some power is 0 is the radical, and so is the last one.
+/// The members of the chain by lifted traces, as spans of rows: the kernel of the trace form is the first; where a
+/// tuple gives the p^i-th roots of the residues at rows that span a member, the meet of the member with the kernel of
+/// a form by this tuple is the next; a member of which some power is 0 is the radical, and so is the last one.
 pub fn members_by_rows<E, W>()
     ensures members { (o : Ops E) (L : FieldLaws o) (p n : ℕ) (lift : LiftRingOn (elements o L) p n W)
         → MembersByRowsLaw o L lift }

@@ -1,7 +1,7 @@
 -- The lift ring of a residue field on lists, as a program has it: its operations by numbers, the list of the digits of
 -- an element, and elements by their digits.
 use Rattle.std.specs.Prelude.{◌≡◌, ℕ, zero, suc, ◌+◌, ◌-◌, ◌*◌, ◌/◌, ◌%◌, ◌^◌, ◌<◌, ◌≤◌, List, [], length, get_or}
-use Rattle.std.proofs.Common.{refl, sym, ◌∙◌, ap, ap₂, subst, arith, ⊎_elim}
+use Rattle.std.proofs.Common.{sym, ◌∙◌, ap, ap₂, subst, arith, ⊎_elim}
 use Rattle.std.proofs.Math.Nat as nat
 use Rattle.std.proofs.Math.Nat.{mod-eq_of_lt, pow-suc}
 use Rattle.std.proofs.lemmas.Bool.{cases_lt, lt-ltb}
@@ -22,7 +22,6 @@ use Rattle.theory_rings.proofs.Polynomials.Bezout.{field_polynomials}
 use Rattle.theory_rings.proofs.Polynomials.Degrees.{length-degree}
 use Rattle.theory_rings.proofs.Polynomials.PolynomialRing.{IsTrimmed-injective, is_polynomial_ring}
 use Rattle.theory_rings.proofs.Polynomials.Remainders.{is_remainder_ring}
-use Rattle.theory_spaces.specs.Tuples.{Tuple}
 use Rattle.theory_spaces.proofs.Tuples.Tuples.{IsTuple-is_tuple, IsTuple-table, at-table}
 use Rattle.theory_spaces.proofs.Matrices.PairIndex.{pair-lt}
 use Rattle.theory_radical.specs.LiftRing.{LiftRingOn}
@@ -34,7 +33,7 @@ use Rattle.theory_remainders.proofs.RemainderValues.{of_elem}
 use Rattle.theory_remainders.proofs.IrreducibleLists.{length-modulus, two_le_length}
 use Rattle.theory_lifts.specs.DigitLift.{LiftList}
 use Rattle.theory_lifts.proofs.DigitLifts.{has_digit_moduli}
-use Rattle.theory_lifts.proofs.ListLifts.{lift_tower, list_lift, list_lift-ring, height, width}
+use Rattle.theory_lifts.proofs.ListLifts.{lift_tower, list_lift-ring, height, width}
 use Rattle.theory_lifts.proofs.ListProducts.{ListRing}
 use Rattle.theory_lifts.proofs.ListRings.{list_ring_of}
 use Rattle.theory_lifts.proofs.ElementLifts.{elem_lift, elem_lift-ring, elem_lift-digit}

@@ -68,7 +68,8 @@ module _ (p : ℕ) (two_le : 2 ≤ p) (m : List ℕ) (d : 1 ≤ length m) (o : O
           (value_bijective (p ^ n) two_le_pow lift_tower (degree π.0) (length m) height width);
     }
 
-    pub list_lift-ring : list_lift.ring ≡ ring_of_lists (p ^ n) two_le_pow lift_tower (degree π.0) (length m) height width
+    pub list_lift-ring : list_lift.ring
+        ≡ ring_of_lists (p ^ n) two_le_pow lift_tower (degree π.0) (length m) height width
     unfolding list_lift
     list_lift-ring = refl
 

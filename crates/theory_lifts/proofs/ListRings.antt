@@ -14,7 +14,8 @@ use Rattle.theory_rings.proofs.Rings.Solver.{◌⊞◌, ◌⊠◌, minus, nil, u
 use Rattle.theory_rings.proofs.Numbers.IntegersMod.{residue_zero_test}
 use Rattle.theory_rings.proofs.Polynomials.PolynomialRing.{series_prepend, coefficient-one, coefficient-neg}
 use Rattle.theory_rings.proofs.Polynomials.Remainders.{is_zero_remainder, remainders-one_poly, remainders-neg_poly}
-use Rattle.theory_rings.proofs.Polynomials.RemainderRings.{remainders_zero_test, for_remainders, Remainder-ext, remainder-past}
+use Rattle.theory_rings.proofs.Polynomials.RemainderRings.{remainders_zero_test, for_remainders, Remainder-ext}
+use Rattle.theory_rings.proofs.Polynomials.RemainderRings.{remainder-past}
 use Rattle.theory_rings.proofs.Polynomials.RemainderRings.{remainder-coefficient-zero, remainder-coefficient-add}
 use Rattle.theory_spaces.specs.Tuples.{Tuple}
 use Rattle.theory_radical.specs.Tower.{TowerElement, TowerMod, double_coefficient}

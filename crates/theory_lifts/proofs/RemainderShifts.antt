@@ -13,7 +13,8 @@ use Rattle.theory_rings.proofs.Polynomials.PolynomialRing.{series_prepend, Poly-
 use Rattle.theory_rings.proofs.Polynomials.PolynomialRing.{constant, prepend, coefficient-prepend, coefficient_past}
 use Rattle.theory_rings.proofs.Polynomials.Constants.{coefficient-constant_mul, variable, prepend-zero}
 use Rattle.theory_rings.proofs.Polynomials.Degrees.{length-degree}
-use Rattle.theory_rings.proofs.Polynomials.Remainders.{remainders, remainder, remainder_hom, remainder-small, remainder_eq}
+use Rattle.theory_rings.proofs.Polynomials.Remainders.{remainders, remainder, remainder_hom, remainder-small}
+use Rattle.theory_rings.proofs.Polynomials.Remainders.{remainder_eq}
 use Rattle.theory_rings.proofs.Polynomials.RemainderRings.{remainder-past, small_remainder, small_remainder-coefficient}
 use Rattle.theory_rings.proofs.Polynomials.RemainderRings.{small_remainder-all}
 
@@ -98,7 +99,8 @@ module _ {K : Type 0} (R : CommRingOn K) {is_zero : K → Bool} (Z : ZeroTest R.
           further (suc k) l = beyond k l
 
           strictly : (k : ℕ) → suc c ≤ k → (k ≡ suc c → ⊥) → suc c < k
-          strictly k l n = ⊎_elim (λ (h : suc c < k). h) (λ (h : k ≤ suc c). absurd (n (omega arith))) (cases_lt (suc c) k)
+          strictly k l n = ⊎_elim (λ (h : suc c < k). h) (λ (h : k ≤ suc c). absurd (n (omega arith)))
+              (cases_lt (suc c) k)
 
           above : (k : ℕ) → suc c ≤ k → (k ≡ suc c) ⊎ (k ≡ suc c → ⊥)
               → series_prepend R.zero (coef y) k ≡ coef r k ⊕ coef y c ⊗ coefficient R m k
