@@ -1,0 +1,9 @@
+pub mod Tables
+pub mod FixedSpace
+pub mod FixedWeights
+pub mod Remainders
+pub mod Residues
+pub mod SimpleBlocks
+pub mod PowerSteps
+pub mod Equations
+pub mod SimpleResidue
