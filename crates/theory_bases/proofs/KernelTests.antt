@@ -87,7 +87,8 @@ module _ {E : Type 0} (o : Ops E) (L : FieldLaws o) (w : ℕ) (c : List E) (rows
     killed_of_combined : ((j : ℕ) → j < w → sum_of k (length T) (λ i. k.mul (at k v i) (entry k T i j)) ≡ k.zero)
         → IsKilled k w n (fraction_columns o w rows) v
     killed_of_combined z j j_in = killed j j_in
-        ∙ sym (divided-mul o L c hc nonzero (sum_of k n (term j)) (sum_of-elem k laws n (term j) (λ i _. term-elem j i)))
+        ∙ sym (divided-mul o L c hc nonzero (sum_of k n (term j))
+        (sum_of-elem k laws n (term j) (λ i _. term-elem j i)))
         ∙ ap (λ x. k.mul x (as_fraction o c)) (sym (combined j j_in) ∙ z j j_in)
         ∙ zero-mul k laws (as_fraction o c) (as_fraction-elem o L c hc)
 

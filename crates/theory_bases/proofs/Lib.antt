@@ -3,3 +3,7 @@ pub mod KernelTests
 pub mod Denominators
 pub mod PolynomialSums
 pub mod TupleRows
+pub mod PolynomialWeights
+pub mod LatticeBridge
+pub mod Clearing
+pub mod StartOrders

@@ -48,7 +48,8 @@ module _ {E : Type 0} (o : Ops E) (L : FieldLaws o) where
       let s = total n p a in
       let hpn = hp n (omega arith) in
       let han = ha n (omega arith) in
-      as_fraction-add_product o L (list s) (p n) (a n) (list (total (suc n) p a)) (IsPolynomialList-values o L s) hpn han
+      as_fraction-add_product o L (list s) (p n) (a n) (list (total (suc n) p a)) (IsPolynomialList-values o L s) hpn
+      han
       (IsPolynomialList-values o L (total (suc n) p a))
       (coefficients_of_eq o L (total (suc n) p a) (P.◌⊕◌ s (P.◌⊗◌ (poly (p n)) (poly (a n))))
       (at o (list (total (suc n) p a)))

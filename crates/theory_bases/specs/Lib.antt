@@ -2,3 +2,4 @@ pub mod TupleLattices
 pub mod Bases
 pub mod BasisLaws
 pub mod Joined
+pub mod StartOrders
