@@ -1,0 +1,5 @@
+pub mod ResidueRings
+pub mod LeftOrders
+pub mod ResidueAlgebras
+pub mod TupleLattices
+pub mod TupleLeftOrders

@@ -1,0 +1,98 @@
+-- Lattices of tuples, as lists, and those of the rows as vectors; independent tuples as a basis.
+use Rattle.std.specs.Prelude.{◌≡◌, ℕ, ◌<◌, List, length}
+use Rattle.std.proofs.Common.{sym, ◌∙◌, ap, subst, arith}
+use Rattle.std.proofs.lemmas.List.Elements.{All-get_or}
+use Rattle.theory_rings.specs.Ring.{FieldOn}
+use Rattle.theory_rings.specs.Ops.{Ops, FieldLaws}
+use Rattle.theory_rings.specs.Elements.{Elem, elements}
+use Rattle.theory_rings.specs.Sum.{at, sum_of, table}
+use Rattle.theory_rings.proofs.Rings.Elements.{at-elem, sum_of_congr}
+use Rattle.theory_rings.proofs.Sums.Lists.{All-table}
+use Rattle.theory_spaces.specs.Module.{ModuleOn}
+use Rattle.theory_spaces.specs.Linear.{comb, InSpan, Independent, Basis}
+use Rattle.theory_spaces.specs.Lattice.{LatticeOver}
+use Rattle.theory_spaces.specs.Tuples.{Tuple}
+use Rattle.theory_spaces.proofs.Linear.Modules.{comb_congr_right}
+use Rattle.theory_spaces.proofs.Linear.Spaces.{coords_of, full_span, basis_of}
+use Rattle.theory_spaces.proofs.Tuples.Tables.{space_basis, space_expand, unit}
+use Rattle.theory_spaces.proofs.Tuples.Tuples.{at-table, IsTuple-table, IsTuple-ext, Tuple-path, tuples, tuple_space}
+use Rattle.theory_tables.specs.Matrix.{entry, IsMatrix}
+use Rattle.theory_tables.proofs.Algebras.Bridge.{comb-at, row, row-at, IsTuple-of, to_independent}
+use Rattle.theory_bases.specs.TupleLattices.{InSpanOver, TupleLattice, AreIndependentTuples}
+
+-- the lattices of families with the same members
+pub lattice_congr : {K V : Type 0} (F : FieldOn K) (P : K → Type 0) (M : ModuleOn F.ring V) (n : ℕ) (v w : ℕ → V)
+    → ((i : ℕ) → i < n → v i ≡ w i) → (x : V) → LatticeOver M P n v x → LatticeOver M P n w x
+lattice_congr F P M n v w e x s = record {
+  weights = s.weights;
+  passes = s.passes;
+  combines = s.combines ∙ comb_congr_right M n s.weights v w e;
+}
+
+module _ {E : Type 0} (o : Ops E) (L : FieldLaws o) (m : ℕ) where
+  abbrev K : FieldOn (Elem o)
+  K = elements o L
+
+  abbrev M : ModuleOn K.ring (Tuple o m)
+  M = tuples o L m
+
+  module _ (rows : List (List E)) (shape : IsMatrix o m rows) where
+    abbrev v : ℕ → Tuple o m
+    v = row o L m rows shape
+
+    pub row-sum : (n : ℕ) (c : ℕ → Elem o) (j : ℕ) → j < m
+        → at o (comb M n c v).0 j ≡ sum_of o n (λ i. o.mul (c i).0 (entry o rows i j))
+    row-sum n c j j_in = comb-at o L m n c v j j_in
+        ∙ sum_of_congr o n (λ i. o.mul (c i).0 (at o (v i).0 j)) (λ i. o.mul (c i).0 (entry o rows i j))
+        (λ i _. ap (o.mul (c i).0) (row-at o L m rows shape i j j_in))
+
+    -- a tuple whose entries are those of a combination
+    pub is_comb : (x : Tuple o m) (n : ℕ) (c : ℕ → Elem o)
+        → ((j : ℕ) → j < m → at o x.0 j ≡ sum_of o n (λ i. o.mul (c i).0 (entry o rows i j))) → x ≡ comb M n c v
+    is_comb x n c e =
+        let y = comb M n c v in
+        Tuple-path o L m x y (IsTuple-ext o m x.0 y.0 (IsTuple-of o L m x) (IsTuple-of o L m y)
+        (λ j j_in. e j j_in ∙ sym (row-sum n c j j_in)))
+
+    module _ (P : E → Type 0) where
+      pub to_lattice : (x : Tuple o m) → InSpanOver o P m rows x.0 → LatticeOver M (λ c. P c.0) (length rows) v x
+      to_lattice x h =
+          let c : ℕ → Elem o = λ i. (at o h.weights i, at-elem o L h.weights h.tuple.of_elements i) in
+          record {
+            weights = c;
+            passes = λ i l. All-get_or P h.weights i o.zero (omega (arith, l, h.tuple.right_length)) h.allowed;
+            combines = is_comb x (length rows) c h.combines;
+          }
+
+      pub from_lattice : (x : Tuple o m) → LatticeOver M (λ c. P c.0) (length rows) v x → TupleLattice o P m rows x.0
+      from_lattice x s =
+          let n = length rows in
+          let c : ℕ → E = λ i. (s.weights i).0 in (
+            IsTuple-of o L m x,
+            record {
+              weights = table n c;
+              tuple = IsTuple-table o n c (λ i _. (s.weights i).1);
+              allowed = All-table P n c s.passes;
+              combines = λ j j_in. ap (λ (y : Tuple o m). at o y.0 j) s.combines ∙ row-sum n s.weights j j_in
+                  ∙ sum_of_congr o n (λ i. o.mul (c i) (entry o rows i j))
+                  (λ i. o.mul (at o (table n c) i) (entry o rows i j))
+                  (λ i i_in. ap (λ x. o.mul x (entry o rows i j)) (sym (at-table o n c i i_in)));
+            },
+          )
+
+  -- m independent tuples are a basis
+  module _ (rows : List (List E)) (h : AreIndependentTuples o m rows) where
+    pub vectors : Independent M m (row o L m rows h.shape)
+    vectors = let T : ℕ → Type 0 = λ n. Independent M n (row o L m rows h.shape) in
+        subst T h.count (to_independent o L m rows h.shape h.independent)
+
+    pub span_all : (x : Tuple o m) → InSpan M m (row o L m rows h.shape) x
+    span_all = full_span K M m (coords_of M m (space_basis M m (tuple_space o L m))) m
+        (unit M m (tuple_space o L m)) (row o L m rows h.shape)
+        (λ x. record {
+          weights = (tuple_space o L m).coord x;
+          combines = space_expand M m (tuple_space o L m) x;
+        }) vectors
+
+    abbrev pub rows_basis : Basis M m
+    rows_basis = basis_of M m (row o L m rows h.shape) vectors span_all

@@ -1,0 +1,306 @@
+-- The left order of a lattice of tuples.
+use Rattle.std.specs.Prelude.{◌≡◌, ◌<◌, ℕ, ◌+◌, ◌*◌, ◌/◌, ◌%◌, ◌-◌, ◌≤◌, List, [], ◌++◌, length, get_or}
+use Rattle.std.proofs.Common.{refl, sym, ◌∙◌, ap, ap₂, subst, arith, length-append, ⊎_elim}
+use Rattle.std.proofs.lemmas.Nat.{div-add-mod'}
+use Rattle.std.proofs.lemmas.List.{get_or_append_left, get_or-append-add}
+use Rattle.std.proofs.lemmas.List.Elements.{All-append, All-get_or}
+use Rattle.std.proofs.lemmas.Bool.{cases_lt}
+use Rattle.theory_rings.specs.Ring.{FieldOn}
+use Rattle.theory_rings.specs.Ops.{Ops, FieldLaws}
+use Rattle.theory_rings.specs.Elements.{Elem, Elem-path, elements}
+use Rattle.theory_rings.specs.Sum.{at, sum, sum_of, table}
+use Rattle.theory_rings.proofs.Rings.Elements.{at-elem, sum_of-elements, sum_of_congr}
+use Rattle.theory_spaces.specs.Module.{ModuleOn, AlgebraOn, module_of}
+use Rattle.theory_spaces.specs.Linear.{comb, Basis}
+use Rattle.theory_spaces.specs.Lattice.{LatticeOver}
+use Rattle.theory_spaces.specs.Sets.{ring_ops, Same, LeftOrder}
+use Rattle.theory_spaces.specs.Tuples.{IsTuple, Tuple, tuple_scale, product, IsTableAlgebra}
+use Rattle.theory_spaces.proofs.Linear.Families.{join, join-below, join-above}
+use Rattle.theory_spaces.proofs.Linear.Spaces.{Basis-coord}
+use Rattle.theory_spaces.proofs.Matrices.PairIndex.{pair-lt, row-lt, column-lt}
+use Rattle.theory_spaces.proofs.Tuples.TupleProducts.{tuple_algebra}
+use Rattle.theory_spaces.proofs.Tuples.Tuples.{at-table, IsTuple-table, Tuple-path, tuples, tuples-scale}
+use Rattle.theory_tables.specs.Matrix.{entry, IsMatrix}
+use Rattle.theory_tables.specs.Subspace.{SpansKernel, IsKilled}
+use Rattle.theory_tables.specs.Structure.{Structure, IsOver, IsAssociative}
+use Rattle.theory_tables.specs.Algebras.{IsIdentity}
+use Rattle.theory_tables.proofs.Algebras.Bridge.{algebra, algebra_is, one-is, row, row-at, row-is, IsTuple-of, as_tuple}
+use Rattle.theory_tables.proofs.Rows.Sums.{entry-elem}
+use Rattle.theory_tables.proofs.Rows.Spans.{InSpan-member}
+use Rattle.theory_bases.specs.TupleLattices.{TupleLattice, AreIndependentTuples}
+use Rattle.theory_left_orders.specs.ResidueRings.{ResidueRingOn}
+use Rattle.theory_left_orders.specs.LeftOrders.{BasisLattice, IsClosedOver, InProductKernel, SpansProductKernel}
+use Rattle.theory_left_orders.specs.TupleResidues.{AreResidueRows, IsProductMatrix, AreOverP}
+use Rattle.theory_left_orders.specs.TupleResidues.{IsClosedTuples, LeftOrderOf, LeftOrderOfTuples}
+use Rattle.theory_left_orders.proofs.ResidueRings.{q-p_scale}
+use Rattle.theory_left_orders.proofs.LeftOrders.{left_order_by_kernel}
+use Rattle.theory_left_orders.proofs.TupleLattices.{lattice_congr, is_comb, to_lattice, from_lattice, rows_basis}
+
+module _ {E R : Type 0} (o : Ops E) (L : FieldLaws o) (P : E → Type 0) (p q : Elem o) (r : Ops R) (N : FieldLaws r)
+    (D : ResidueRingOn (elements o L) (λ x. P x.0) p q (elements r N))
+    (A : Structure E) (over : IsOver o A) (assoc : IsAssociative o A) (one : List E) (is_one : IsIdentity o A one)
+    (rows : List (List E)) (ind : AreIndependentTuples o A.dim rows) where
+  abbrev n : ℕ
+  n = A.dim
+
+  abbrev K : FieldOn (Elem o)
+  K = elements o L
+
+  abbrev k : FieldOn (Elem r)
+  k = elements r N
+
+  abbrev Q : Elem o → Type 0
+  Q x = P x.0
+
+  abbrev V : Type 0
+  V = Tuple o n
+
+  abbrev M : ModuleOn K.ring V
+  M = tuples o L n
+
+  abbrev Alg : AlgebraOn K.ring V
+  Alg = algebra o L A over.of_elements assoc one is_one
+
+  is : IsTableAlgebra o L n A.constants Alg
+  is = algebra_is o L A over.of_elements assoc one is_one
+
+  abbrev v : ℕ → V
+  v = row o L n rows ind.shape
+
+  -- the rows as a basis of the algebra
+  unfoldable pub B : Basis (module_of Alg) n
+  unfolding tuple_algebra
+  B = rows_basis o L n rows ind
+
+  pub vec-is : (i : ℕ) → B.vec i ≡ v i
+  unfolding B tuple_algebra
+  vec-is i = refl
+
+  abbrev T : List E → Type 0
+  T = TupleLattice o P n rows
+
+  abbrev BL : V → Type 0
+  BL = BasisLattice K Q p q k D Alg n B
+
+  pub to_basis : (x : V) → T x.0 → BL x
+  unfolding B tuple_algebra
+  to_basis x h = let S : ℕ → Type 0 = λ t. LatticeOver M Q t v x in
+      subst S ind.count (to_lattice o L n rows ind.shape P x h.1)
+
+  pub from_basis : (x : V) → BL x → T x.0
+  unfolding B tuple_algebra
+  from_basis x h = let S : ℕ → Type 0 = λ t. LatticeOver M Q t v x in
+      from_lattice o L n rows ind.shape P x (subst S (sym ind.count) h)
+
+  -- a product that is a combination, by its coordinates
+  pub coord_of : (x : V) (c : ℕ → Elem o)
+      → ((j : ℕ) → j < n → at o x.0 j ≡ sum_of o n (λ i. o.mul (c i).0 (entry o rows i j)))
+      → (l : ℕ) → l < n → B.coord x l ≡ c l
+  unfolding B tuple_algebra
+  coord_of x c e l l_in = ap (λ y. B.coord y l) (is_comb o L n rows ind.shape x n c e) ∙ Basis-coord M n B c l l_in
+
+  pub row_list : (i : ℕ) → i < n → (v i).0 ≡ get_or rows i []
+  row_list i l = row-is o L n rows ind.shape i (omega (arith, l, ind.count))
+
+  module _ (closed : IsClosedTuples o L P p q r N D A rows one) where
+    closed_over : IsClosedOver K Q p q k D Alg n B
+    closed_over = record {
+      holds = to_basis (Alg.◌•◌ p Alg.one) (subst T (sym (is.scale-is p Alg.one
+          ∙ ap (tuple_scale o n p.0) (one-is o L A over.of_elements assoc one is_one))) closed.holds);
+      products = λ x y hx hy. to_basis (Alg.◌⊗◌ x y)
+          (subst T (sym (is.product-is x y)) (closed.products x.0 y.0 (from_basis x hx) (from_basis y hy)));
+    }
+
+    module _ (a : List (List R)) (kernel : List (List R)) (m : IsProductMatrix o L P p q r N D A rows a)
+        (shape : IsMatrix r n kernel) (spans : SpansKernel r (n * n) n a kernel) where
+      abbrev g : ℕ → ℕ → ℕ → Elem o
+      g i j l = (m.coordinate i j l, m.elements_of i j l)
+
+      abbrev e : ℕ → ℕ → V
+      e i j = Alg.◌⊗◌ (B.vec i) (B.vec j)
+
+      coord_is : (i j l : ℕ) → i < n → j < n → l < n → B.coord (e i j) l ≡ g i j l
+      coord_is i j l a_in b_in c_in = coord_of (e i j) (g i j) (λ s s_in.
+          ap (λ xs. at o xs s) (is.product-is (B.vec i) (B.vec j)
+          ∙ ap₂ (product o n A.constants) (ap (λ (x : V). x.0) (vec-is i) ∙ row_list i a_in)
+          (ap (λ (x : V). x.0) (vec-is j) ∙ row_list j b_in))
+          ∙ m.products i j s a_in b_in s_in) l c_in
+
+      residue_is : (i j l : ℕ) → i < n → j < n → l < n
+          → (D.res (B.coord (e i j) l)).0 ≡ entry r a (j * n + l) i
+      residue_is i j l a_in b_in c_in =
+          let h = m.residues i j l a_in b_in c_in in
+          ap (λ (x : Elem o). (D.res x).0) (coord_is i j l a_in b_in c_in
+          ∙ Elem-path o (g i j l) (m.coordinate i j l, h.elem) refl) ∙ h.residue
+
+      abbrev sum_at : (ℕ → Elem r) → ℕ → ℕ → Elem r
+      sum_at c j l = sum k.monoid n (λ i. k.◌⊗◌ (D.res (B.coord (e i j) l)) (c i))
+
+      -- the sum as one over the matrix
+      sum_is : (c : ℕ → Elem r) (u : List R) → ((i : ℕ) → i < n → at r u i ≡ (c i).0) → (j l : ℕ) → j < n → l < n
+          → sum_of r n (λ i. r.mul (entry r a (j * n + l) i) (at r u i)) ≡ (sum_at c j l).0
+      sum_is c u h j l b_in c_in =
+          sum_of_congr r n (λ i. r.mul (entry r a (j * n + l) i) (at r u i))
+          (λ i. (k.◌⊗◌ (D.res (B.coord (e i j) l)) (c i)).0)
+          (λ i a_in. ap₂ r.mul (sym (residue_is i j l a_in b_in c_in)) (h i a_in))
+          ∙ sum_of-elements r N n (λ i. k.◌⊗◌ (D.res (B.coord (e i j) l)) (c i))
+
+      abbrev Killed : (ℕ → Elem r) → Type 0
+      Killed = InProductKernel K Q p q k D Alg n B
+
+      to_kernel : (c : ℕ → Elem r) (u : List R) → ((i : ℕ) → i < n → at r u i ≡ (c i).0)
+          → IsKilled r (n * n) n a u → Killed c
+      to_kernel c u h z j l b_in c_in = Elem-path r (sum_at c j l) k.zero
+          (sym (sum_is c u h j l b_in c_in) ∙ z (j * n + l) (pair-lt n n j l b_in c_in))
+
+      from_kernel : (c : ℕ → Elem r) (u : List R) → ((i : ℕ) → i < n → at r u i ≡ (c i).0) → Killed c
+          → IsKilled r (n * n) n a u
+      from_kernel c u h z t t_in =
+          let S : ℕ → Type 0 = λ t. sum_of r n (λ i. r.mul (entry r a t i) (at r u i)) ≡ r.zero in
+          let j_in = row-lt n n t t_in in
+          let l_in = column-lt n n t t_in in
+          subst S (div-add-mod' t n) (sum_is c u h (t / n) (t % n) j_in l_in
+          ∙ ap (λ (x : Elem r). x.0) (z (t / n) (t % n) j_in l_in))
+
+      abbrev row_of : ℕ → ℕ → Elem r
+      row_of s i = (entry r kernel s i, entry-elem r N n kernel shape s i)
+
+      spans_kernel : SpansProductKernel K Q p q k D Alg n B (length kernel) row_of
+      spans_kernel = record {
+        inside = λ s s_in. to_kernel (row_of s) (get_or kernel s []) (λ i _. refl)
+            ((spans (get_or kernel s []) (All-get_or (IsTuple r n) kernel s [] s_in shape)).0
+            (InSpan-member r N n kernel shape s s_in));
+        spans = λ c z.
+            let w : ℕ → R = λ i. (c i).0 in
+            let u = table n w in
+            let h = (spans u (IsTuple-table r n w (λ i _. (c i).1))).1
+            (from_kernel c u (λ i l. at-table r n w i l) z) in
+            let d : ℕ → Elem r = λ s. (at r h.0 s, at-elem r N h.0 h.1.of_elements s) in
+            let total : ℕ → Elem r = λ i. sum k.monoid (length kernel) (λ s. k.◌⊗◌ (d s) (row_of s i)) in (
+              d,
+              λ i l. Elem-path r (c i) (total i) (sym (at-table r n w i l) ∙ h.2 i l
+                  ∙ sum_of-elements r N (length kernel) (λ s. k.◌⊗◌ (d s) (row_of s i))),
+            );
+      }
+
+      module _ (lifts grown : List (List E)) (res : AreResidueRows o L P p q r N D n lifts kernel)
+          (by_p : AreOverP o L P p q r N D A rows lifts grown) where
+        abbrev s : ℕ
+        s = length kernel
+
+        abbrev lift_of : ℕ → ℕ → Elem o
+        lift_of t i = (entry o lifts t i, entry-elem o L n lifts res.shape t i)
+
+        lift_allowed : (t i : ℕ) → t < s → i < n → Q (lift_of t i)
+        lift_allowed t i t_in i_in = (res.entries t i (omega (arith, t_in, res.count)) i_in).allowed
+
+        lift_residue : (t i : ℕ) → t < s → i < n → D.res (lift_of t i) ≡ row_of t i
+        lift_residue t i t_in i_in =
+            let h = res.entries t i (omega (arith, t_in, res.count)) i_in in
+            Elem-path r (D.res (lift_of t i)) (row_of t i)
+            (ap (λ (x : Elem o). (D.res x).0) (Elem-path o (lift_of t i) (entry o lifts t i, h.elem) refl) ∙ h.residue)
+
+        abbrev big : ℕ → V
+        big = row o L n grown by_p.shape
+
+        -- a row of grown is q times the combination by the lifts
+        big-is : (t : ℕ) → t < s → Alg.◌•◌ q (comb (module_of Alg) n (lift_of t) B.vec) ≡ big t
+        unfolding B tuple_algebra
+        big-is t t_in =
+            let x : V = M.◌•◌ p (big t) in
+            ap (M.◌•◌ q) (sym (is_comb o L n rows ind.shape x n (lift_of t) (λ c c_in.
+            ap (λ xs. at o xs c) (tuples-scale o L n p (big t)) ∙ at-table o n (λ i. o.mul p.0 (at o (big t).0 i)) c c_in
+            ∙ ap (o.mul p.0) (row-at o L n grown by_p.shape t c c_in)
+            ∙ by_p.combines t c (omega (arith, t_in, res.count)) c_in)))
+            ∙ q-p_scale K Q p q k D M (big t)
+
+        abbrev all : List (List E)
+        all = grown ++ rows
+
+        all_shape : IsMatrix o n all
+        all_shape = All-append (IsTuple o n) grown rows by_p.shape ind.shape
+
+        all_count : length all ≡ s + n
+        all_count = length-append grown rows ∙ ap₂ ◌+◌ (by_p.count ∙ res.count) ind.count
+
+        abbrev each : ℕ → V
+        each = row o L n all all_shape
+
+        grown_count : length grown ≡ s
+        grown_count = by_p.count ∙ res.count
+
+        each-below : (t : ℕ) → t < s → big t ≡ each t
+        each-below t t_in = Tuple-path o L n (big t) (each t)
+            (row-is o L n grown by_p.shape t (omega (arith, t_in, grown_count))
+            ∙ sym (get_or_append_left grown rows [] t (omega (arith, t_in, grown_count)))
+            ∙ sym (row-is o L n all all_shape t (omega (arith, t_in, all_count))))
+
+        each-above : (i : ℕ) → i < n → v i ≡ each (s + i)
+        each-above i i_in = Tuple-path o L n (v i) (each (s + i))
+            (row_list i i_in ∙ sym (get_or-append-add grown rows i [])
+            ∙ ap (λ t. get_or all (t + i) []) grown_count
+            ∙ sym (row-is o L n all all_shape (s + i) (omega (arith, i_in, all_count))))
+
+        abbrev joined : ℕ → V
+        joined = join s (λ t. Alg.◌•◌ q (comb (module_of Alg) n (lift_of t) B.vec)) B.vec
+
+        joined-is : (t : ℕ) → t < s + n → joined t ≡ each t
+        joined-is t t_in = ⊎_elim
+            (λ (l : t < s). join-below s (λ t. Alg.◌•◌ q (comb (module_of Alg) n (lift_of t) B.vec)) B.vec t l
+            ∙ big-is t l ∙ each-below t l)
+            (λ (l : s ≤ t).
+            let i = t - s in
+            let f : s + i ≡ t = omega arith in
+            subst (λ t. joined t ≡ each t) f
+            (join-above s (λ t. Alg.◌•◌ q (comb (module_of Alg) n (lift_of t) B.vec)) B.vec i ∙ vec-is i
+            ∙ each-above i (omega arith)))
+            (cases_lt t s)
+
+        abbrev Out : V → Type 0
+        Out = LatticeOver (module_of Alg) Q (s + n) joined
+
+        out_to : (x : V) → Out x → TupleLattice o P n all x.0
+        unfolding tuple_algebra
+        out_to x h = let S : ℕ → Type 0 = λ t. LatticeOver M Q t each x in
+            from_lattice o L n all all_shape P x
+            (subst S (sym all_count) (lattice_congr K Q M (s + n) joined each joined-is x h))
+
+        out_from : (x : V) → TupleLattice o P n all x.0 → Out x
+        unfolding tuple_algebra
+        out_from x h = let S : ℕ → Type 0 = λ t. LatticeOver M Q t each x in
+            lattice_congr K Q M (s + n) each joined (λ t l. sym (joined-is t l)) x
+            (subst S all_count (to_lattice o L n all all_shape P x h.1))
+
+        abbrev Left : V → Type 0
+        Left = LeftOrder (ring_ops Alg.ring) BL
+
+        same : Same Left Out
+        same = left_order_by_kernel K Q p q k D Alg n B closed_over s row_of spans_kernel lift_of lift_allowed
+            lift_residue
+
+        left_to : (x : V) → Left x → LeftOrderOf o L P p q r N D A rows x.0
+        left_to x h = (
+          IsTuple-of o L n x,
+          λ y hy.
+              let z = as_tuple o L n y hy.0 in
+              subst T (is.product-is x z) (from_basis (Alg.◌⊗◌ x z) (h z (to_basis z hy))),
+        )
+
+        left_from : (x : V) → LeftOrderOf o L P p q r N D A rows x.0 → Left x
+        left_from x h y hy = to_basis (Alg.◌⊗◌ x y) (subst T (sym (is.product-is x y)) (h.1 y.0 (from_basis y hy)))
+
+        pub left_order : Same (LeftOrderOf o L P p q r N D A rows) (TupleLattice o P n all)
+        left_order = (
+          λ x h.
+              let y = as_tuple o L n x h.0 in
+              out_to y (same.0 y (left_from y h)),
+          λ x h.
+              let y = as_tuple o L n x h.0 in
+              left_to y (same.1 y (out_from y h)),
+        )
+
+module _ {E R : Type 0} (o : Ops E) (L : FieldLaws o) (P : E → Type 0) (p q : Elem o) (r : Ops R) (N : FieldLaws r)
+    (D : ResidueRingOn (elements o L) (λ x. P x.0) p q (elements r N)) where
+  pub left_order_of_tuples : LeftOrderOfTuples o L P p q r N D
+  left_order_of_tuples A over assoc one is_one rows ind closed a kernel m shape spans lifts grown res by_p =
+      left_order o L P p q r N D A over assoc one is_one rows ind closed a kernel m shape spans lifts grown res by_p

@@ -1,0 +1,5 @@
+pub mod ResidueRings
+pub mod LeftOrders
+pub mod ResidueAlgebras
+pub mod ResidueLaws
+pub mod TupleResidues
