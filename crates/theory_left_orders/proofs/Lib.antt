@@ -3,3 +3,4 @@ pub mod LeftOrders
 pub mod ResidueAlgebras
 pub mod TupleLattices
 pub mod TupleLeftOrders
+pub mod FractionResidues

@@ -3,3 +3,4 @@ pub mod LeftOrders
 pub mod ResidueAlgebras
 pub mod ResidueLaws
 pub mod TupleResidues
+pub mod FractionResidues

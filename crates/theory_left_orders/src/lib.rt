@@ -6,7 +6,8 @@
 // its contract is a theorem.
 //
 // Read specs/ResidueRings and specs/LeftOrders first, then specs/TupleResidues, which says the same of lists, and then
-// left_order_laws.
+// left_order_laws. specs/FractionResidues has the subrings of the fractions for which it holds.
 #![tactic(auto)]
 
 pub mod left_order_laws;
+pub mod fraction_laws;
