@@ -4,3 +4,4 @@ pub mod ResidueAlgebras
 pub mod TupleLattices
 pub mod TupleLeftOrders
 pub mod FractionResidues
+pub mod TupleIdeals

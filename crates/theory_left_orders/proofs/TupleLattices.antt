@@ -1,7 +1,9 @@
 -- Lattices of tuples, as lists, and those of the rows as vectors; independent tuples as a basis.
-use Rattle.std.specs.Prelude.{◌≡◌, ℕ, ◌<◌, List, length}
-use Rattle.std.proofs.Common.{sym, ◌∙◌, ap, subst, arith}
-use Rattle.std.proofs.lemmas.List.Elements.{All-get_or}
+use Rattle.std.specs.Prelude.{◌≡◌, ℕ, ◌+◌, ◌-◌, ◌<◌, ◌≤◌, List, [], ◌++◌, length, get_or}
+use Rattle.std.proofs.Common.{sym, ◌∙◌, ap, ap₂, subst, arith, length-append, ⊎_elim}
+use Rattle.std.proofs.lemmas.Bool.{cases_lt}
+use Rattle.std.proofs.lemmas.List.{get_or_append_left, get_or-append-add}
+use Rattle.std.proofs.lemmas.List.Elements.{All-append, All-get_or}
 use Rattle.theory_rings.specs.Ring.{FieldOn}
 use Rattle.theory_rings.specs.Ops.{Ops, FieldLaws}
 use Rattle.theory_rings.specs.Elements.{Elem, elements}
@@ -11,13 +13,14 @@ use Rattle.theory_rings.proofs.Sums.Lists.{All-table}
 use Rattle.theory_spaces.specs.Module.{ModuleOn}
 use Rattle.theory_spaces.specs.Linear.{comb, InSpan, Independent, Basis}
 use Rattle.theory_spaces.specs.Lattice.{LatticeOver}
-use Rattle.theory_spaces.specs.Tuples.{Tuple}
+use Rattle.theory_spaces.specs.Tuples.{IsTuple, Tuple}
+use Rattle.theory_spaces.proofs.Linear.Families.{join, join-below, join-above}
 use Rattle.theory_spaces.proofs.Linear.Modules.{comb_congr_right}
 use Rattle.theory_spaces.proofs.Linear.Spaces.{coords_of, full_span, basis_of}
 use Rattle.theory_spaces.proofs.Tuples.Tables.{space_basis, space_expand, unit}
 use Rattle.theory_spaces.proofs.Tuples.Tuples.{at-table, IsTuple-table, IsTuple-ext, Tuple-path, tuples, tuple_space}
 use Rattle.theory_tables.specs.Matrix.{entry, IsMatrix}
-use Rattle.theory_tables.proofs.Algebras.Bridge.{comb-at, row, row-at, IsTuple-of, to_independent}
+use Rattle.theory_tables.proofs.Algebras.Bridge.{comb-at, row, row-at, row-is, IsTuple-of, to_independent}
 use Rattle.theory_bases.specs.TupleLattices.{InSpanOver, TupleLattice, AreIndependentTuples}
 
 -- the lattices of families with the same members
@@ -79,6 +82,55 @@ module _ {E : Type 0} (o : Ops E) (L : FieldLaws o) (m : ℕ) where
                   (λ i i_in. ap (λ x. o.mul x (entry o rows i j)) (sym (at-table o n c i i_in)));
             },
           )
+
+  -- two families one after the other, and the rows of two matrices
+  module _ (a b : List (List E)) (sa : IsMatrix o m a) (sb : IsMatrix o m b) (s n : ℕ) (ca : length a ≡ s)
+      (cb : length b ≡ n)
+      (u w : ℕ → Tuple o m) (u-is : (i : ℕ) → i < s → u i ≡ row o L m a sa i)
+      (w-is : (i : ℕ) → i < n → w i ≡ row o L m b sb i) where
+    abbrev all : List (List E)
+    all = a ++ b
+
+    all_shape : IsMatrix o m all
+    all_shape = All-append (IsTuple o m) a b sa sb
+
+    all_count : length all ≡ s + n
+    all_count = length-append a b ∙ ap₂ ◌+◌ ca cb
+
+    abbrev each : ℕ → Tuple o m
+    each = row o L m all all_shape
+
+    below : (t : ℕ) → t < s → u t ≡ each t
+    below t t_in = u-is t t_in ∙ Tuple-path o L m (row o L m a sa t) (each t)
+        (row-is o L m a sa t (omega (arith, t_in, ca))
+        ∙ sym (get_or_append_left a b [] t (omega (arith, t_in, ca)))
+        ∙ sym (row-is o L m all all_shape t (omega (arith, t_in, all_count))))
+
+    above : (i : ℕ) → i < n → w i ≡ each (s + i)
+    above i i_in = w-is i i_in ∙ Tuple-path o L m (row o L m b sb i) (each (s + i))
+        (row-is o L m b sb i (omega (arith, i_in, cb)) ∙ sym (get_or-append-add a b i [])
+        ∙ ap (λ t. get_or all (t + i) []) ca
+        ∙ sym (row-is o L m all all_shape (s + i) (omega (arith, i_in, all_count))))
+
+    joined-is : (t : ℕ) → t < s + n → join s u w t ≡ each t
+    joined-is t t_in = ⊎_elim
+        (λ (l : t < s). join-below s u w t l ∙ below t l)
+        (λ (l : s ≤ t).
+        let i = t - s in
+        let f : s + i ≡ t = omega arith in
+        subst (λ t. join s u w t ≡ each t) f (join-above s u w i ∙ above i (omega arith)))
+        (cases_lt t s)
+
+    module _ (P : E → Type 0) where
+      pub joined_to : (x : Tuple o m) → LatticeOver M (λ c. P c.0) (s + n) (join s u w) x → TupleLattice o P m all x.0
+      joined_to x h = let S : ℕ → Type 0 = λ t. LatticeOver M (λ c. P c.0) t each x in
+          from_lattice all all_shape P x
+          (subst S (sym all_count) (lattice_congr K (λ c. P c.0) M (s + n) (join s u w) each joined-is x h))
+
+      pub joined_from : (x : Tuple o m) → TupleLattice o P m all x.0 → LatticeOver M (λ c. P c.0) (s + n) (join s u w) x
+      joined_from x h = let S : ℕ → Type 0 = λ t. LatticeOver M (λ c. P c.0) t each x in
+          lattice_congr K (λ c. P c.0) M (s + n) each (join s u w) (λ t l. sym (joined-is t l)) x
+          (subst S all_count (to_lattice all all_shape P x h.1))
 
   -- m independent tuples are a basis
   module _ (rows : List (List E)) (h : AreIndependentTuples o m rows) where

@@ -13,16 +13,18 @@ use Rattle.theory_rings.proofs.Rings.Elements.{at-elem, sum_of-elements, sum_of_
 use Rattle.theory_spaces.specs.Module.{ModuleOn, AlgebraOn, module_of}
 use Rattle.theory_spaces.specs.Linear.{comb, Basis}
 use Rattle.theory_spaces.specs.Lattice.{LatticeOver}
-use Rattle.theory_spaces.specs.Sets.{ring_ops, Same, LeftOrder}
+use Rattle.theory_spaces.specs.Sets.{ring_ops, Same, IsOrder, LeftOrder}
+use Rattle.theory_rings.proofs.Rings.RingLaws.{zero-mul, neg-mul}
+use Rattle.theory_spaces.proofs.Linear.LatticeSpans.{span-zero, span-add, span-neg}
 use Rattle.theory_spaces.specs.Tuples.{IsTuple, Tuple, tuple_scale, product, IsTableAlgebra}
 use Rattle.theory_spaces.proofs.Linear.Families.{join, join-below, join-above}
 use Rattle.theory_spaces.proofs.Linear.Spaces.{Basis-coord}
 use Rattle.theory_spaces.proofs.Matrices.PairIndex.{pair-lt, row-lt, column-lt}
-use Rattle.theory_spaces.proofs.Tuples.TupleProducts.{tuple_algebra}
+use Rattle.theory_spaces.proofs.Tuples.TupleProducts.{tuple_algebra, one-product}
 use Rattle.theory_spaces.proofs.Tuples.Tuples.{at-table, IsTuple-table, Tuple-path, tuples, tuples-scale}
 use Rattle.theory_tables.specs.Matrix.{entry, IsMatrix}
 use Rattle.theory_tables.specs.Subspace.{SpansKernel, IsKilled}
-use Rattle.theory_tables.specs.Structure.{Structure, IsOver, IsAssociative}
+use Rattle.theory_tables.specs.Structure.{Structure, IsOver, IsAssociative, tuple_ops}
 use Rattle.theory_tables.specs.Algebras.{IsIdentity}
 use Rattle.theory_tables.proofs.Algebras.Bridge.{algebra, algebra_is, one-is, row, row-at, row-is, IsTuple-of, as_tuple}
 use Rattle.theory_tables.proofs.Rows.Sums.{entry-elem}
@@ -32,9 +34,10 @@ use Rattle.theory_left_orders.specs.ResidueRings.{ResidueRingOn}
 use Rattle.theory_left_orders.specs.LeftOrders.{BasisLattice, IsClosedOver, InProductKernel, SpansProductKernel}
 use Rattle.theory_left_orders.specs.TupleResidues.{AreResidueRows, IsProductMatrix, AreOverP}
 use Rattle.theory_left_orders.specs.TupleResidues.{IsClosedTuples, LeftOrderOf, LeftOrderOfTuples}
+use Rattle.theory_left_orders.specs.TupleResidues.{LeftOrdersAreOrders}
 use Rattle.theory_left_orders.proofs.ResidueRings.{q-p_scale}
 use Rattle.theory_left_orders.proofs.LeftOrders.{left_order_by_kernel}
-use Rattle.theory_left_orders.proofs.TupleLattices.{lattice_congr, is_comb, to_lattice, from_lattice, rows_basis}
+use Rattle.theory_left_orders.proofs.TupleLattices.{is_comb, to_lattice, from_lattice, rows_basis, joined_to, joined_from}
 
 module _ {E R : Type 0} (o : Ops E) (L : FieldLaws o) (P : E → Type 0) (p q : Elem o) (r : Ops R) (N : FieldLaws r)
     (D : ResidueRingOn (elements o L) (λ x. P x.0) p q (elements r N))
@@ -102,6 +105,49 @@ module _ {E R : Type 0} (o : Ops E) (L : FieldLaws o) (P : E → Type 0) (p q : 
   pub row_list : (i : ℕ) → i < n → (v i).0 ≡ get_or rows i []
   row_list i l = row-is o L n rows ind.shape i (omega (arith, l, ind.count))
 
+  abbrev Left : V → Type 0
+  Left = LeftOrder (ring_ops Alg.ring) BL
+
+  left_to : (x : V) → Left x → LeftOrderOf o L P p q r N D A rows x.0
+  left_to x h = (
+    IsTuple-of o L n x,
+    λ y hy.
+        let z = as_tuple o L n y hy.0 in
+        subst T (is.product-is x z) (from_basis (Alg.◌⊗◌ x z) (h z (to_basis z hy))),
+  )
+
+  left_from : (x : V) → LeftOrderOf o L P p q r N D A rows x.0 → Left x
+  left_from x h y hy = to_basis (Alg.◌⊗◌ x y) (subst T (sym (is.product-is x y)) (h.1 y.0 (from_basis y hy)))
+
+  -- the left order is a subring with the one
+  pub left_is_order : IsOrder (tuple_ops o A) one (LeftOrderOf o L P p q r N D A rows)
+  left_is_order =
+      let S : List E → Type 0 = LeftOrderOf o L P p q r N D A rows in
+      let M : ModuleOn K.ring V = module_of Alg in
+      record {
+        one_in = (
+          is_one.tuple,
+          λ y hy. subst T (sym (one-product o L n A.constants over.of_elements one is_one y hy.0)) hy,
+        );
+        zero_in = subst S is.zero-is (left_to Alg.zero (λ y hy.
+            subst BL (sym (zero-mul Alg.ring y)) (span-zero K Q D.subring M n B.vec)));
+        add_in = λ x y f g.
+            let u = as_tuple o L n x f.0 in
+            let w = as_tuple o L n y g.0 in
+            subst S (is.add-is u w) (left_to (Alg.◌⊕◌ u w) (λ z hz. subst BL (sym (Alg.add-mul u w z))
+            (span-add K Q D.subring M n B.vec (Alg.◌⊗◌ u z) (Alg.◌⊗◌ w z) (left_from u f z hz)
+            (left_from w g z hz))));
+        neg_in = λ x f.
+            let u = as_tuple o L n x f.0 in
+            subst S (is.neg-is u) (left_to (Alg.neg u) (λ z hz. subst BL (sym (neg-mul Alg.ring u z))
+            (span-neg K Q D.subring M n B.vec (Alg.◌⊗◌ u z) (left_from u f z hz))));
+        mul_in = λ x y f g.
+            let u = as_tuple o L n x f.0 in
+            let w = as_tuple o L n y g.0 in
+            subst S (is.product-is u w) (left_to (Alg.◌⊗◌ u w) (λ z hz. subst BL (sym (Alg.mul_assoc u w z))
+            (left_from u f (Alg.◌⊗◌ w z) (left_from w g z hz))));
+      }
+
   module _ (closed : IsClosedTuples o L P p q r N D A rows one) where
     closed_over : IsClosedOver K Q p q k D Alg n B
     closed_over = record {
@@ -114,7 +160,7 @@ module _ {E R : Type 0} (o : Ops E) (L : FieldLaws o) (P : E → Type 0) (p q : 
     module _ (a : List (List R)) (kernel : List (List R)) (m : IsProductMatrix o L P p q r N D A rows a)
         (shape : IsMatrix r n kernel) (spans : SpansKernel r (n * n) n a kernel) where
       abbrev g : ℕ → ℕ → ℕ → Elem o
-      g i j l = (m.coordinate i j l, m.elements_of i j l)
+      g i j l = (m.coordinate i j l, m.coordinates.elements_of i j l)
 
       abbrev e : ℕ → ℕ → V
       e i j = Alg.◌⊗◌ (B.vec i) (B.vec j)
@@ -124,7 +170,7 @@ module _ {E R : Type 0} (o : Ops E) (L : FieldLaws o) (P : E → Type 0) (p q : 
           ap (λ xs. at o xs s) (is.product-is (B.vec i) (B.vec j)
           ∙ ap₂ (product o n A.constants) (ap (λ (x : V). x.0) (vec-is i) ∙ row_list i a_in)
           (ap (λ (x : V). x.0) (vec-is j) ∙ row_list j b_in))
-          ∙ m.products i j s a_in b_in s_in) l c_in
+          ∙ m.coordinates.products i j s a_in b_in s_in) l c_in
 
       residue_is : (i j l : ℕ) → i < n → j < n → l < n
           → (D.res (B.coord (e i j) l)).0 ≡ entry r a (j * n + l) i
@@ -214,82 +260,30 @@ module _ {E R : Type 0} (o : Ops E) (L : FieldLaws o) (P : E → Type 0) (p q : 
             ∙ by_p.combines t c (omega (arith, t_in, res.count)) c_in)))
             ∙ q-p_scale K Q p q k D M (big t)
 
-        abbrev all : List (List E)
-        all = grown ++ rows
-
-        all_shape : IsMatrix o n all
-        all_shape = All-append (IsTuple o n) grown rows by_p.shape ind.shape
-
-        all_count : length all ≡ s + n
-        all_count = length-append grown rows ∙ ap₂ ◌+◌ (by_p.count ∙ res.count) ind.count
-
-        abbrev each : ℕ → V
-        each = row o L n all all_shape
-
         grown_count : length grown ≡ s
         grown_count = by_p.count ∙ res.count
 
-        each-below : (t : ℕ) → t < s → big t ≡ each t
-        each-below t t_in = Tuple-path o L n (big t) (each t)
-            (row-is o L n grown by_p.shape t (omega (arith, t_in, grown_count))
-            ∙ sym (get_or_append_left grown rows [] t (omega (arith, t_in, grown_count)))
-            ∙ sym (row-is o L n all all_shape t (omega (arith, t_in, all_count))))
-
-        each-above : (i : ℕ) → i < n → v i ≡ each (s + i)
-        each-above i i_in = Tuple-path o L n (v i) (each (s + i))
-            (row_list i i_in ∙ sym (get_or-append-add grown rows i [])
-            ∙ ap (λ t. get_or all (t + i) []) grown_count
-            ∙ sym (row-is o L n all all_shape (s + i) (omega (arith, i_in, all_count))))
-
-        abbrev joined : ℕ → V
-        joined = join s (λ t. Alg.◌•◌ q (comb (module_of Alg) n (lift_of t) B.vec)) B.vec
-
-        joined-is : (t : ℕ) → t < s + n → joined t ≡ each t
-        joined-is t t_in = ⊎_elim
-            (λ (l : t < s). join-below s (λ t. Alg.◌•◌ q (comb (module_of Alg) n (lift_of t) B.vec)) B.vec t l
-            ∙ big-is t l ∙ each-below t l)
-            (λ (l : s ≤ t).
-            let i = t - s in
-            let f : s + i ≡ t = omega arith in
-            subst (λ t. joined t ≡ each t) f
-            (join-above s (λ t. Alg.◌•◌ q (comb (module_of Alg) n (lift_of t) B.vec)) B.vec i ∙ vec-is i
-            ∙ each-above i (omega arith)))
-            (cases_lt t s)
+        abbrev scaled : ℕ → V
+        scaled t = Alg.◌•◌ q (comb (module_of Alg) n (lift_of t) B.vec)
 
         abbrev Out : V → Type 0
-        Out = LatticeOver (module_of Alg) Q (s + n) joined
+        Out = LatticeOver (module_of Alg) Q (s + n) (join s scaled B.vec)
 
-        out_to : (x : V) → Out x → TupleLattice o P n all x.0
+        out_to : (x : V) → Out x → TupleLattice o P n (grown ++ rows) x.0
         unfolding tuple_algebra
-        out_to x h = let S : ℕ → Type 0 = λ t. LatticeOver M Q t each x in
-            from_lattice o L n all all_shape P x
-            (subst S (sym all_count) (lattice_congr K Q M (s + n) joined each joined-is x h))
+        out_to x h = joined_to o L n grown rows by_p.shape ind.shape s n grown_count ind.count scaled B.vec big-is
+            (λ i _. vec-is i) P x h
 
-        out_from : (x : V) → TupleLattice o P n all x.0 → Out x
+        out_from : (x : V) → TupleLattice o P n (grown ++ rows) x.0 → Out x
         unfolding tuple_algebra
-        out_from x h = let S : ℕ → Type 0 = λ t. LatticeOver M Q t each x in
-            lattice_congr K Q M (s + n) each joined (λ t l. sym (joined-is t l)) x
-            (subst S all_count (to_lattice o L n all all_shape P x h.1))
-
-        abbrev Left : V → Type 0
-        Left = LeftOrder (ring_ops Alg.ring) BL
+        out_from x h = joined_from o L n grown rows by_p.shape ind.shape s n grown_count ind.count scaled B.vec big-is
+            (λ i _. vec-is i) P x h
 
         same : Same Left Out
         same = left_order_by_kernel K Q p q k D Alg n B closed_over s row_of spans_kernel lift_of lift_allowed
             lift_residue
 
-        left_to : (x : V) → Left x → LeftOrderOf o L P p q r N D A rows x.0
-        left_to x h = (
-          IsTuple-of o L n x,
-          λ y hy.
-              let z = as_tuple o L n y hy.0 in
-              subst T (is.product-is x z) (from_basis (Alg.◌⊗◌ x z) (h z (to_basis z hy))),
-        )
-
-        left_from : (x : V) → LeftOrderOf o L P p q r N D A rows x.0 → Left x
-        left_from x h y hy = to_basis (Alg.◌⊗◌ x y) (subst T (sym (is.product-is x y)) (h.1 y.0 (from_basis y hy)))
-
-        pub left_order : Same (LeftOrderOf o L P p q r N D A rows) (TupleLattice o P n all)
+        pub left_order : Same (LeftOrderOf o L P p q r N D A rows) (TupleLattice o P n (grown ++ rows))
         left_order = (
           λ x h.
               let y = as_tuple o L n x h.0 in
@@ -304,3 +298,13 @@ module _ {E R : Type 0} (o : Ops E) (L : FieldLaws o) (P : E → Type 0) (p q : 
   pub left_order_of_tuples : LeftOrderOfTuples o L P p q r N D
   left_order_of_tuples A over assoc one is_one rows ind closed a kernel m shape spans lifts grown res by_p =
       left_order o L P p q r N D A over assoc one is_one rows ind closed a kernel m shape spans lifts grown res by_p
+
+  pub left_orders_are_orders : LeftOrdersAreOrders o L P p q r N D
+  left_orders_are_orders A over assoc one is_one order ideal ind is_order is_ideal above = record {
+    is_order = left_is_order o L P p q r N D A over assoc one is_one ideal ind;
+    holds = λ a h. (h.0, λ x hx. is_ideal.left a x h hx);
+    closed = record {
+      holds = above (tuple_scale o A.dim p.0 one) (one, is_order.one_in, refl);
+      products = λ x y hx hy. is_ideal.left x y (is_ideal.inside x hx) hy;
+    };
+  }

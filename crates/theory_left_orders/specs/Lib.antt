@@ -4,3 +4,4 @@ pub mod ResidueAlgebras
 pub mod ResidueLaws
 pub mod TupleResidues
 pub mod FractionResidues
+pub mod TupleIdeals

@@ -4,7 +4,7 @@ use Rattle.std.specs.Prelude.{◌≡◌, ◌<◌, ℕ, ◌+◌, ◌*◌, List, [
 use Rattle.theory_rings.specs.Ops.{Ops, IsElem, FieldLaws}
 use Rattle.theory_rings.specs.Elements.{Elem, elements}
 use Rattle.theory_rings.specs.Sum.{at, sum_of}
-use Rattle.theory_spaces.specs.Sets.{Same, LeftOrder}
+use Rattle.theory_spaces.specs.Sets.{Within, Same, Multiple, IsOrder, IsIdeal, LeftOrder}
 use Rattle.theory_spaces.specs.Tuples.{tuple_scale}
 use Rattle.theory_tables.specs.Matrix.{entry, IsMatrix}
 use Rattle.theory_tables.specs.Subspace.{SpansKernel}
@@ -12,6 +12,14 @@ use Rattle.theory_tables.specs.Structure.{Structure, IsOver, IsElement, IsAssoci
 use Rattle.theory_tables.specs.Algebras.{IsIdentity}
 use Rattle.theory_bases.specs.TupleLattices.{TupleLattice, AreIndependentTuples}
 use Rattle.theory_left_orders.specs.ResidueRings.{ResidueRingOn}
+
+-- coordinates by the tuples of their products: at i, j and l that of the product of i and j at l
+pub record AreProductCoordinates {E : Type 0} (o : Ops E) (A : Structure E) (tuples : List (List E))
+    (coordinate : ℕ → ℕ → ℕ → E) : Type 0 where
+  pub elements_of : (i j l : ℕ) → IsElem o (coordinate i j l)
+  pub products : (i j c : ℕ) → i < A.dim → j < A.dim → c < A.dim
+      → at o (product_of o A (get_or tuples i []) (get_or tuples j [])) c
+      ≡ sum_of o A.dim (λ l. o.mul (coordinate i j l) (entry o tuples l c))
 
 module _ {E R : Type 0} (o : Ops E) (L : FieldLaws o) (P : E → Type 0) (p q : Elem o) (r : Ops R) (N : FieldLaws r)
     (D : ResidueRingOn (elements o L) (λ x. P x.0) p q (elements r N)) where
@@ -28,14 +36,10 @@ module _ {E R : Type 0} (o : Ops E) (L : FieldLaws o) (P : E → Type 0) (p q : 
     pub entries : (i j : ℕ) → i < length a → j < w → HasResidue (entry o a i j) (entry r b i j)
 
   module _ (A : Structure E) (tuples : List (List E)) where
-    -- the products of the tuples have coordinates by them: at i, j and l that of the product of i and j at l; the
-    -- matrix has the residue of this in the row j·n + l and the column i
+    -- the matrix has the residue of coordinate l of the product of i and j in the row j·n + l and the column i
     pub record IsProductMatrix (a : List (List R)) : Type 0 where
       pub coordinate : ℕ → ℕ → ℕ → E
-      pub elements_of : (i j l : ℕ) → IsElem o (coordinate i j l)
-      pub products : (i j c : ℕ) → i < A.dim → j < A.dim → c < A.dim
-          → at o (product_of o A (get_or tuples i []) (get_or tuples j [])) c
-          ≡ sum_of o A.dim (λ l. o.mul (coordinate i j l) (entry o tuples l c))
+      pub coordinates : AreProductCoordinates o A tuples coordinate
       pub residues : (i j l : ℕ) → i < A.dim → j < A.dim → l < A.dim
           → HasResidue (coordinate i j l) (entry r a (j * A.dim + l) i)
 
@@ -55,6 +59,22 @@ module _ {E R : Type 0} (o : Ops E) (L : FieldLaws o) (P : E → Type 0) (p q : 
     -- the elements that send the lattice into itself from the left
     abbrev pub LeftOrderOf : List E → Type 0
     LeftOrderOf a = IsElement o A a × LeftOrder (tuple_ops o A) (TupleLattice o P A.dim tuples) a
+
+  -- the left order of an ideal over p times an order: an order that holds the given one; the ideal holds p and is
+  -- closed under products
+  pub record IsLeftOrderOver (A : Structure E) (one : List E) (order ideal : List (List E)) : Type 0 where
+    pub is_order : IsOrder (tuple_ops o A) one (LeftOrderOf A ideal)
+    pub holds : Within (TupleLattice o P A.dim order) (LeftOrderOf A ideal)
+    pub closed : IsClosedTuples A ideal one
+
+  abbrev pub LeftOrdersAreOrders : Type 0
+  LeftOrdersAreOrders = (A : Structure E) → IsOver o A → IsAssociative o A → (one : List E) → IsIdentity o A one
+      → (order ideal : List (List E)) → AreIndependentTuples o A.dim ideal
+      → IsOrder (tuple_ops o A) one (TupleLattice o P A.dim order)
+      → IsIdeal (tuple_ops o A) (TupleLattice o P A.dim order) (TupleLattice o P A.dim ideal)
+      → Within (Multiple (tuple_ops o A) (tuple_scale o A.dim) p.0 (TupleLattice o P A.dim order))
+      (TupleLattice o P A.dim ideal)
+      → IsLeftOrderOver A one order ideal
 
   -- the left order of the lattice is the lattice of the tuples, and of what p times is a combination of them by lifts
   -- of a basis of the kernel

@@ -9,7 +9,8 @@ ghost use Rattle.theory_left_orders.specs.ResidueRings.{ResidueRingOn};
 ghost use Rattle.theory_left_orders.specs.LeftOrders.{LeftOrderByKernel};
 ghost use Rattle.theory_left_orders.specs.ResidueAlgebras.{ResidueProductIsAlgebra};
 ghost use Rattle.theory_left_orders.specs.ResidueLaws.{OrderReducesOver, PreimagesOfIdeals};
-ghost use Rattle.theory_left_orders.specs.TupleResidues.{LeftOrderOfTuples};
+ghost use Rattle.theory_left_orders.specs.TupleResidues.{LeftOrderOfTuples, LeftOrdersAreOrders};
+ghost use Rattle.theory_left_orders.specs.TupleIdeals.{ResidueTablesAreAlgebras, PreimagesOfRows};
 
 /// An algebra with a basis over a field, and a subring of the field, with a member p of it, which has the inverse q in
 /// the field, and a residue field modulo p. The type `Reduced` is that of the elements of the residue algebra.
@@ -86,6 +87,17 @@ pub trait TupleResidueRing {
 
 /// The left order of a lattice of tuples that is closed under products and holds p is the lattice of these tuples and
 /// of those that p carries to lifts of a basis of a kernel over the residue field.
+///
+/// An ideal of an order Λ over p·Λ is such a lattice, and its left order is an order that holds Λ.
 pub fn left_order_of_tuples<T: TupleResidueRing>()
-    ensures { LeftOrderOfTuples T.ops T.laws T.Weight T.p T.q T.residue_ops T.residue_laws T.residue }
+    ensures order { LeftOrdersAreOrders T.ops T.laws T.Weight T.p T.q T.residue_ops T.residue_laws T.residue }
+    ensures lattice { LeftOrderOfTuples T.ops T.laws T.Weight T.p T.q T.residue_ops T.residue_laws T.residue }
+{}
+
+/// The residues of the constants of an order of tuples are those of an associative algebra with one; the preimage of an
+/// ideal of it is the lattice of the combinations of the order's tuples by lifts of rows that span it, followed by p
+/// times these tuples, an ideal of the order.
+pub fn preimages_of_rows<T: TupleResidueRing>()
+    ensures algebra { ResidueTablesAreAlgebras T.ops T.laws T.Weight T.p T.q T.residue_ops T.residue_laws T.residue }
+    ensures preimages { PreimagesOfRows T.ops T.laws T.Weight T.p T.q T.residue_ops T.residue_laws T.residue }
 {}

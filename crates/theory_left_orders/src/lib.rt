@@ -9,5 +9,5 @@
 // left_order_laws. specs/FractionResidues has the subrings of the fractions for which it holds.
 #![tactic(auto)]
 
-pub mod left_order_laws;
 pub mod fraction_laws;
+pub mod left_order_laws;
