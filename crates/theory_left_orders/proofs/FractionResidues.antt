@@ -51,6 +51,10 @@ use Rattle.theory_reductions.specs.Reductions.{IsResidueOf, ReductionBy}
 use Rattle.theory_reductions.proofs.Reductions.{fractions_reduce}
 use Rattle.theory_bases.specs.Bases.{IsPolynomialFraction}
 use Rattle.theory_left_orders.specs.ResidueRings.{ResidueRingOn}
+use Rattle.theory_left_orders.proofs.TupleLattices.{larger_lattice}
+use Rattle.theory_remainders.proofs.RemainderField.{remainder_laws}
+use Rattle.theory_fractions.proofs.FractionField.{fraction_laws}
+use Rattle.theory_left_orders.specs.FractionResidues.{PolynomialLatticesAtPlaces}
 use Rattle.theory_left_orders.specs.FractionResidues.{HasResidues, ResidueRingsBy, PlacesHaveResidueRings}
 
 module _ {E : Type 0} (o : Ops E) (L : FieldLaws o) (M : FieldLaws (fraction_ops o L)) (m : List E)
@@ -184,7 +188,7 @@ module _ {E : Type 0} (o : Ops E) (L : FieldLaws o) (M : FieldLaws (fraction_ops
   place_polynomial : rational.IsPlace F (Finite (poly m))
   place_polynomial = is_place_of o L (Finite m) s
 
-  poly_loc : (w : FE) → IsPoly w → IsLoc w
+  pub poly_loc : (w : FE) → IsPoly w → IsLoc w
   poly_loc w e = (integral_at o L (Finite m) s w.0 w.1).0
       (subst (rational.IsIntegralOff F (poly m)) (sym (poly_value w e)) (
         poly w.0.0,
@@ -351,3 +355,16 @@ module _ {E : Type 0} (o : Ops E) (L : FieldLaws o) (M : FieldLaws (fraction_ops
 module _ {E : Type 0} (o : Ops E) (L : FieldLaws o) (M : FieldLaws (fraction_ops o L)) where
   pub places_have_residue_rings : PlacesHaveResidueRings o L M
   places_have_residue_rings m s N = residue_rings o L M m s N
+
+module _ {E : Type 0} (o : Ops E) (L : FieldLaws o) where
+  pub polynomial_lattices_at_places : PolynomialLatticesAtPlaces o L
+  polynomial_lattices_at_places m s w a b sa sb same =
+      let k = fraction_ops o L in
+      let M = fraction_laws o L in
+      let R = residue_rings o L M m s (remainder_laws o L m s.irreducible) in
+      let small : Pair E → Type 0 = IsPolynomialFraction o in
+      let large : Pair E → Type 0 = IsIntegralAt o (Finite m) in
+      let in_large = poly_loc o L M m s in (
+        larger_lattice k M w small large R.polynomials.subring R.at_place.subring in_large a b sa sb same.0,
+        larger_lattice k M w small large R.polynomials.subring R.at_place.subring in_large b a sb sa same.1,
+      )

@@ -12,7 +12,9 @@ use Rattle.theory_rings.proofs.Rings.Elements.{at-elem, sum_of_congr}
 use Rattle.theory_rings.proofs.Sums.Lists.{All-table}
 use Rattle.theory_spaces.specs.Module.{ModuleOn}
 use Rattle.theory_spaces.specs.Linear.{comb, InSpan, Independent, Basis}
-use Rattle.theory_spaces.specs.Lattice.{LatticeOver}
+use Rattle.theory_spaces.specs.Lattice.{IsSubring, LatticeOver}
+use Rattle.theory_spaces.specs.Sets.{Within}
+use Rattle.theory_spaces.proofs.Linear.LatticeSpans.{span-member, span_trans}
 use Rattle.theory_spaces.specs.Tuples.{IsTuple, Tuple}
 use Rattle.theory_spaces.proofs.Linear.Families.{join, join-below, join-above}
 use Rattle.theory_spaces.proofs.Linear.Modules.{comb_congr_right}
@@ -20,7 +22,7 @@ use Rattle.theory_spaces.proofs.Linear.Spaces.{coords_of, full_span, basis_of}
 use Rattle.theory_spaces.proofs.Tuples.Tables.{space_basis, space_expand, unit}
 use Rattle.theory_spaces.proofs.Tuples.Tuples.{at-table, IsTuple-table, IsTuple-ext, Tuple-path, tuples, tuple_space}
 use Rattle.theory_tables.specs.Matrix.{entry, IsMatrix}
-use Rattle.theory_tables.proofs.Algebras.Bridge.{comb-at, row, row-at, row-is, IsTuple-of, to_independent}
+use Rattle.theory_tables.proofs.Algebras.Bridge.{comb-at, row, row-at, row-is, IsTuple-of, as_tuple, to_independent}
 use Rattle.theory_bases.specs.TupleLattices.{InSpanOver, TupleLattice, AreIndependentTuples}
 
 -- the lattices of families with the same members
@@ -131,6 +133,22 @@ module _ {E : Type 0} (o : Ops E) (L : FieldLaws o) (m : ℕ) where
       joined_from x h = let S : ℕ → Type 0 = λ t. LatticeOver M (λ c. P c.0) t each x in
           lattice_congr K (λ c. P c.0) M (s + n) each (join s u w) (λ t l. sym (joined-is t l)) x
           (subst S all_count (to_lattice all all_shape P x h.1))
+
+  -- rows in a lattice over a subring are in that over a larger one
+  pub larger_lattice : (P Q : E → Type 0) → IsSubring K.ring (λ x. P x.0) → IsSubring K.ring (λ x. Q x.0)
+      → ((x : Elem o) → P x.0 → Q x.0)
+      → (a b : List (List E)) → IsMatrix o m a → IsMatrix o m b
+      → Within (TupleLattice o P m a) (TupleLattice o P m b)
+      → Within (TupleLattice o Q m a) (TupleLattice o Q m b)
+  larger_lattice P Q hp hq f a b sa sb within x h =
+      let y = as_tuple o L m x h.0 in
+      let u = row o L m a sa in
+      let w = row o L m b sb in
+      from_lattice b sb Q y (span_trans K (λ c. Q c.0) hq M (length b) w (length a) u (λ i l.
+      let s = within (u i).0 (from_lattice a sa P (u i) (span-member K (λ c. P c.0) hp M (length a) u i l)) in
+      let t = to_lattice b sb P (u i) s.1 in
+      record { weights = t.weights; passes = λ j g. f (t.weights j) (t.passes j g); combines = t.combines })
+      y (to_lattice a sa Q y h.1))
 
   -- m independent tuples are a basis
   module _ (rows : List (List E)) (h : AreIndependentTuples o m rows) where

@@ -1,6 +1,6 @@
 -- Fractions over a program's field: what is integral at a finite place, and the polynomials, have the remainders by the
 -- place's polynomial as residue field. (Reiner, Maximal Orders, section 5.)
-use Rattle.std.specs.Prelude.{◌≡◌, List}
+use Rattle.std.specs.Prelude.{◌≡◌, ℕ, List}
 use Rattle.theory_rings.specs.Ops.{Ops, FieldLaws}
 use Rattle.theory_rings.specs.Elements.{Elem, elements}
 use Rattle.theory_rings.specs.Sum.{at}
@@ -14,6 +14,8 @@ use Rattle.theory_remainders.proofs.RemainderField.{monic}
 use Rattle.theory_places.specs.Places.{Finite}
 use Rattle.theory_places.specs.FractionPlaces.{IsIntegralAt, IsMonicIrreducible, fractions}
 use Rattle.theory_reductions.specs.Reductions.{IsResidueOf}
+use Rattle.theory_tables.specs.Matrix.{IsMatrix}
+use Rattle.theory_bases.specs.TupleLattices.{SameTupleLattice}
 use Rattle.theory_bases.specs.Bases.{IsPolynomialFraction}
 use Rattle.theory_left_orders.specs.ResidueRings.{ResidueRingOn}
 
@@ -41,3 +43,11 @@ module _ {E : Type 0} (o : Ops E) (L : FieldLaws o) (M : FieldLaws (fraction_ops
   abbrev pub PlacesHaveResidueRings : Type 0
   PlacesHaveResidueRings = (m : List E) (s : IsMonicIrreducible o m)
       → (let r = remainder_ops o L m (monic o L m s.irreducible) in (N : FieldLaws r) → ResidueRingsBy m r N)
+
+module _ {E : Type 0} (o : Ops E) (L : FieldLaws o) where
+  -- rows with the same lattice over the polynomials have the same lattice at each place
+  abbrev pub PolynomialLatticesAtPlaces : Type 0
+  PolynomialLatticesAtPlaces = (m : List E) → IsMonicIrreducible o m → (w : ℕ) (a b : List (List (Pair E)))
+      → IsMatrix (fraction_ops o L) w a → IsMatrix (fraction_ops o L) w b
+      → SameTupleLattice (fraction_ops o L) (IsPolynomialFraction o) w a b
+      → SameTupleLattice (fraction_ops o L) (IsIntegralAt o (Finite m)) w a b
