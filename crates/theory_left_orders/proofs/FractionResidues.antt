@@ -1,17 +1,16 @@
 -- What is integral at a finite place of the fractions, and the polynomials among them, with the remainders as residue
 -- field.
-use Rattle.std.specs.Prelude.{◌≡◌, ◌≢◌, ◌↔◌, IsTrue, List, [], ◌∷◌}
+use Rattle.std.specs.Prelude.{◌≡◌, ◌≢◌, List, []}
 use Rattle.std.proofs.Common.{refl, sym, ◌∙◌, ap, ap₂, subst, ⊎_elim}
 use Rattle.theory_rings.specs.Ring.{FieldOn, CommRingOn}
-use Rattle.theory_rings.specs.Ops.{Ops, IsElem, FieldLaws}
+use Rattle.theory_rings.specs.Ops.{Ops, FieldLaws}
 use Rattle.theory_rings.specs.Elements.{Elem, Elem-path, elements}
 use Rattle.theory_rings.specs.Sum.{at}
 use Rattle.theory_rings.specs.Polynomial.{Poly}
-use Rattle.theory_rings.specs.Division.{Divides, Congruent}
+use Rattle.theory_rings.specs.Division.{Divides}
 use Rattle.theory_rings.specs.Homomorphism.{IsRingHom}
-use Rattle.theory_rings.specs.Remainder.{Remainder}
 use Rattle.theory_rings.specs.Fraction.{IsLowest}
-use Rattle.theory_rings.proofs.Rings.RingLaws.{zero-mul, mul-zero}
+use Rattle.theory_rings.proofs.Rings.RingLaws.{zero-mul}
 use Rattle.theory_rings.proofs.Rings.Fields.{mul_left_cancel, mul-inv}
 use Rattle.theory_rings.proofs.Rings.Homomorphisms.{map-zero, map-neg}
 use Rattle.theory_rings.proofs.Polynomials.Bezout.{field_polynomials}
@@ -23,7 +22,7 @@ use Rattle.theory_rings.proofs.Fractions.Fractions.{fraction_of_value}
 use Rattle.theory_rings.proofs.Fractions.Lowest.{polynomial_reduction, rational_functions, is_rational_functions}
 use Rattle.theory_lattices.specs.RationalFunctions.{Rational, of_polynomial}
 use Rattle.theory_lattices.proofs.Degree.FractionDegrees.{of_hom}
-use Rattle.theory_spaces.specs.Valuation.{ValuationOn, IsIntegral}
+use Rattle.theory_spaces.specs.Valuation.{IsIntegral}
 use Rattle.theory_fractions.specs.PolynomialLists.{IsPolynomialList}
 use Rattle.theory_fractions.specs.Fraction.{Pair}
 use Rattle.theory_fractions.specs.FractionOps.{polynomial_of, rational_function, pair_of, fraction_ops}
@@ -36,9 +35,8 @@ use Rattle.theory_fractions.proofs.FractionField.{polynomial_of-nil}
 use Rattle.theory_fractions.proofs.PolynomialFractions.{as_fraction-elem}
 use Rattle.theory_remainders.specs.Irreducible.{IsIrreducible}
 use Rattle.theory_remainders.specs.RemainderLaws.{IsRemainder, IsRemainderOf}
-use Rattle.theory_remainders.specs.RemainderOps.{modulus_of, remainder_of, remainder_ops}
+use Rattle.theory_remainders.specs.RemainderOps.{modulus_of, remainder_ops}
 use Rattle.theory_remainders.proofs.Divisions.{congruent_of_remainder_of}
-use Rattle.theory_remainders.proofs.IrreducibleLists.{modulus_irreducible}
 use Rattle.theory_remainders.proofs.RemainderField.{monic, of_list, to_list, is_remainder-to_list, of_list-to_list}
 use Rattle.theory_remainders.proofs.RemainderField.{of_list-nil, is_remainder-nil}
 use Rattle.theory_remainders.proofs.RemainderValues.{remainder_of_eq, of_elem, zero_is}
@@ -55,7 +53,7 @@ use Rattle.theory_left_orders.proofs.TupleLattices.{larger_lattice}
 use Rattle.theory_remainders.proofs.RemainderField.{remainder_laws}
 use Rattle.theory_fractions.proofs.FractionField.{fraction_laws}
 use Rattle.theory_left_orders.specs.FractionResidues.{PolynomialLatticesAtPlaces}
-use Rattle.theory_left_orders.specs.FractionResidues.{HasResidues, ResidueRingsBy, PlacesHaveResidueRings}
+use Rattle.theory_left_orders.specs.FractionResidues.{ResidueRingsBy, PlacesHaveResidueRings}
 
 module _ {E : Type 0} (o : Ops E) (L : FieldLaws o) (M : FieldLaws (fraction_ops o L)) (m : List E)
     (s : IsMonicIrreducible o m) where
@@ -154,7 +152,8 @@ module _ {E : Type 0} (o : Ops E) (L : FieldLaws o) (M : FieldLaws (fraction_ops
   rest-m =
       let n = modulus_of o L m in
       let d = monic_of-divides F (poly m) (irreducible-ne-zero F (poly m) (is_place_of o L (Finite m) s).1) in
-      remainder_of_eq o L m i (poly m) (at o m) (has_polynomial_of o L m i.polynomial.over) [] (is_remainder-nil o L m i)
+      remainder_of_eq o L m i (poly m) (at o m) (has_polynomial_of o L m i.polynomial.over) []
+      (is_remainder-nil o L m i)
       (remainder_eq F.cring F.zero_test n (monic o L m i) (poly m) P.zero (d.0, d.1 ∙ sym (P.zero-add (P.◌⊗◌ d.0 n)))
       ∙ sym (remainders-zero F.cring F.zero_test n (monic o L m i)) ∙ sym (of_list-nil o L m i))
 

@@ -1,43 +1,42 @@
 -- Orders of tuples modulo p, and the preimages of ideals.
-use Rattle.std.specs.Prelude.{◌≡◌, ◌<◌, ℕ, ◌+◌, ◌*◌, List, [], ◌++◌, length, get_or}
-use Rattle.std.specs.List.{All}
+use Rattle.std.specs.Prelude.{◌≡◌, ◌<◌, ℕ, List, [], ◌++◌, length, get_or}
 use Rattle.std.proofs.Common.{refl, sym, ◌∙◌, ap, ap₂, subst, arith}
 use Rattle.std.proofs.lemmas.List.Elements.{All-get_or}
 use Rattle.theory_rings.specs.Ring.{FieldOn}
-use Rattle.theory_rings.specs.Ops.{Ops, IsElem, FieldLaws}
+use Rattle.theory_rings.specs.Ops.{Ops, FieldLaws}
 use Rattle.theory_rings.specs.Elements.{Elem, Elem-path, elements}
 use Rattle.theory_rings.specs.Sum.{at, sum_of, table}
 use Rattle.theory_rings.proofs.Rings.Elements.{at-elem, sum_of_congr}
 use Rattle.theory_spaces.specs.Module.{ModuleOn, AlgebraOn, module_of}
-use Rattle.theory_spaces.specs.Linear.{comb, InSpan, Basis}
+use Rattle.theory_spaces.specs.Linear.{InSpan, Basis}
 use Rattle.theory_spaces.specs.Space.{ProductOn, product_on, SpaceOn}
-use Rattle.theory_spaces.specs.Sets.{ring_ops, Within, Same, IsOrder, IsIdeal, Multiple}
-use Rattle.theory_spaces.specs.Tuples.{IsTuple, Tuple, tuple_scale, product, basis, constant, IsTableAlgebra}
+use Rattle.theory_spaces.specs.Sets.{ring_ops, IsOrder}
+use Rattle.theory_spaces.specs.Tuples.{IsTuple, Tuple, product, basis, constant, IsTableAlgebra}
 use Rattle.theory_spaces.proofs.Tuples.Tables.{space_basis, space_basis-coord, coord-unit_mul}
 use Rattle.theory_spaces.proofs.Tuples.TupleProducts.{tuple_algebra, tuple_product, tuple_product-list, IsTuple-basis}
 use Rattle.theory_spaces.proofs.Tuples.TupleProducts.{element_constant, product_basis}
 use Rattle.theory_spaces.proofs.Tuples.Tuples.{at-table, IsTuple-table, IsTuple-ext, Tuple-path, tuples, tuple_space}
-use Rattle.theory_spaces.proofs.Tuples.Tuples.{tuples-scale}
-use Rattle.theory_tables.specs.Matrix.{entry, IsMatrix}
+use Rattle.theory_tables.specs.Matrix.{entry}
 use Rattle.theory_tables.specs.Subspace as rows_of
-use Rattle.theory_tables.specs.Structure.{Structure, IsOver, IsAssociative, tuple_ops, product_of}
-use Rattle.theory_tables.specs.Algebras.{IsIdentity, HasIdentity, SpansIdeal}
+use Rattle.theory_tables.specs.Structure.{Structure, IsOver, IsAssociative, tuple_ops}
+use Rattle.theory_tables.specs.Algebras.{IsIdentity, SpansIdeal}
 use Rattle.theory_tables.proofs.Algebras.Bridge.{algebra, algebra_is, one-is, row, row-at, row-is, IsTuple-of, as_tuple}
-use Rattle.theory_tables.proofs.Algebras.Bridge.{table_basis, vec-is as unit-is, coord-is, ideal_row, to_ideal, list_span}
+use Rattle.theory_tables.proofs.Algebras.Bridge.{table_basis, vec-is as unit-is, coord-is, ideal_row, to_ideal}
+use Rattle.theory_tables.proofs.Algebras.Bridge.{list_span}
 use Rattle.theory_tables.proofs.Algebras.Bridge.{to_span}
 use Rattle.theory_bases.specs.TupleLattices.{TupleLattice, AreIndependentTuples}
-use Rattle.theory_residue.specs.Residue.{ReductionOn, Lifted}
+use Rattle.theory_residue.specs.Residue.{Lifted}
 use Rattle.theory_left_orders.specs.ResidueRings.{ResidueRingOn}
 use Rattle.theory_left_orders.specs.LeftOrders.{BasisLattice}
 use Rattle.theory_left_orders.specs.ResidueAlgebras.{Over, ResidueProduct, HasAlgebraLaws, ReducesByCoordinates}
 use Rattle.theory_left_orders.specs.ResidueAlgebras.{AreLifts, PreimageOf}
 use Rattle.theory_left_orders.specs.TupleResidues.{HasResidue, AreResidueRows}
-use Rattle.theory_left_orders.specs.TupleIdeals.{IsResidueTable, ComesFrom, Preimage, AreCombinations, AreMultiples}
+use Rattle.theory_left_orders.specs.TupleIdeals.{IsResidueTable, Preimage, AreCombinations, AreMultiples}
 use Rattle.theory_left_orders.specs.TupleIdeals.{IsPreimage, ResidueTablesAreAlgebras, PreimagesOfRows}
 use Rattle.theory_left_orders.proofs.ResidueRings.{coord_member, member_by_coord}
 use Rattle.theory_left_orders.proofs.ResidueAlgebras.{residue_product_is_algebra, order_reduces_over}
 use Rattle.theory_left_orders.proofs.ResidueAlgebras.{preimages_of_ideals}
-use Rattle.theory_left_orders.proofs.TupleLattices.{row-sum, is_comb, joined_to, joined_from}
+use Rattle.theory_left_orders.proofs.TupleLattices.{row-sum, joined_to, joined_from}
 use Rattle.theory_left_orders.proofs.TupleLeftOrders.{B, vec-is, to_basis, from_basis, coord_of, row_list}
 
 module _ {E R : Type 0} (o : Ops E) (L : FieldLaws o) (P : E → Type 0) (p q : Elem o) (r : Ops R) (N : FieldLaws r)

@@ -1,10 +1,8 @@
 -- The left order of a lattice of tuples.
-use Rattle.std.specs.Prelude.{◌≡◌, ◌<◌, ℕ, ◌+◌, ◌*◌, ◌/◌, ◌%◌, ◌-◌, ◌≤◌, List, [], ◌++◌, length, get_or}
-use Rattle.std.proofs.Common.{refl, sym, ◌∙◌, ap, ap₂, subst, arith, length-append, ⊎_elim}
+use Rattle.std.specs.Prelude.{◌≡◌, ◌<◌, ℕ, ◌+◌, ◌*◌, ◌/◌, ◌%◌, List, [], ◌++◌, length, get_or}
+use Rattle.std.proofs.Common.{refl, sym, ◌∙◌, ap, ap₂, subst, arith}
 use Rattle.std.proofs.lemmas.Nat.{div-add-mod'}
-use Rattle.std.proofs.lemmas.List.{get_or_append_left, get_or-append-add}
-use Rattle.std.proofs.lemmas.List.Elements.{All-append, All-get_or}
-use Rattle.std.proofs.lemmas.Bool.{cases_lt}
+use Rattle.std.proofs.lemmas.List.Elements.{All-get_or}
 use Rattle.theory_rings.specs.Ring.{FieldOn}
 use Rattle.theory_rings.specs.Ops.{Ops, FieldLaws}
 use Rattle.theory_rings.specs.Elements.{Elem, Elem-path, elements}
@@ -17,11 +15,11 @@ use Rattle.theory_spaces.specs.Sets.{ring_ops, Same, IsOrder, LeftOrder}
 use Rattle.theory_rings.proofs.Rings.RingLaws.{zero-mul, neg-mul}
 use Rattle.theory_spaces.proofs.Linear.LatticeSpans.{span-zero, span-add, span-neg}
 use Rattle.theory_spaces.specs.Tuples.{IsTuple, Tuple, tuple_scale, product, IsTableAlgebra}
-use Rattle.theory_spaces.proofs.Linear.Families.{join, join-below, join-above}
+use Rattle.theory_spaces.proofs.Linear.Families.{join}
 use Rattle.theory_spaces.proofs.Linear.Spaces.{Basis-coord}
 use Rattle.theory_spaces.proofs.Matrices.PairIndex.{pair-lt, row-lt, column-lt}
 use Rattle.theory_spaces.proofs.Tuples.TupleProducts.{tuple_algebra, one-product}
-use Rattle.theory_spaces.proofs.Tuples.Tuples.{at-table, IsTuple-table, Tuple-path, tuples, tuples-scale}
+use Rattle.theory_spaces.proofs.Tuples.Tuples.{at-table, IsTuple-table, tuples, tuples-scale}
 use Rattle.theory_tables.specs.Matrix.{entry, IsMatrix}
 use Rattle.theory_tables.specs.Subspace.{SpansKernel, IsKilled}
 use Rattle.theory_tables.specs.Structure.{Structure, IsOver, IsAssociative, tuple_ops}
@@ -37,7 +35,8 @@ use Rattle.theory_left_orders.specs.TupleResidues.{IsClosedTuples, LeftOrderOf, 
 use Rattle.theory_left_orders.specs.TupleResidues.{LeftOrdersAreOrders}
 use Rattle.theory_left_orders.proofs.ResidueRings.{q-p_scale}
 use Rattle.theory_left_orders.proofs.LeftOrders.{left_order_by_kernel}
-use Rattle.theory_left_orders.proofs.TupleLattices.{is_comb, to_lattice, from_lattice, rows_basis, joined_to, joined_from}
+use Rattle.theory_left_orders.proofs.TupleLattices.{is_comb, to_lattice, from_lattice, rows_basis, joined_to}
+use Rattle.theory_left_orders.proofs.TupleLattices.{joined_from}
 
 module _ {E R : Type 0} (o : Ops E) (L : FieldLaws o) (P : E → Type 0) (p q : Elem o) (r : Ops R) (N : FieldLaws r)
     (D : ResidueRingOn (elements o L) (λ x. P x.0) p q (elements r N))
@@ -255,7 +254,8 @@ module _ {E R : Type 0} (o : Ops E) (L : FieldLaws o) (P : E → Type 0) (p q : 
         big-is t t_in =
             let x : V = M.◌•◌ p (big t) in
             ap (M.◌•◌ q) (sym (is_comb o L n rows ind.shape x n (lift_of t) (λ c c_in.
-            ap (λ xs. at o xs c) (tuples-scale o L n p (big t)) ∙ at-table o n (λ i. o.mul p.0 (at o (big t).0 i)) c c_in
+            ap (λ xs. at o xs c) (tuples-scale o L n p (big t))
+            ∙ at-table o n (λ i. o.mul p.0 (at o (big t).0 i)) c c_in
             ∙ ap (o.mul p.0) (row-at o L n grown by_p.shape t c c_in)
             ∙ by_p.combines t c (omega (arith, t_in, res.count)) c_in)))
             ∙ q-p_scale K Q p q k D M (big t)

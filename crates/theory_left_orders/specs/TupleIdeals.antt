@@ -1,6 +1,6 @@
 -- Orders of tuples modulo p, and the preimages of ideals, as lists. (Reiner, Maximal Orders, sections 6 and 39.)
 use Rattle.std.specs.Prelude.{◌≡◌, ◌<◌, ℕ, ◌*◌, List, ◌++◌, length}
-use Rattle.theory_rings.specs.Ops.{Ops, IsElem, FieldLaws}
+use Rattle.theory_rings.specs.Ops.{Ops, FieldLaws}
 use Rattle.theory_rings.specs.Elements.{Elem, elements}
 use Rattle.theory_rings.specs.Sum.{at, sum_of}
 use Rattle.theory_spaces.specs.Sets.{Within, Same, Multiple, IsOrder, IsIdeal}
