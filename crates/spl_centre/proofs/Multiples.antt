@@ -31,7 +31,7 @@ module _ {E : Type 0} (o : Ops E) (L : FieldLaws o) (m : ℕ) where
       IsTuple-table o m (λ k. o.mul c (at o a k)) (λ k _. L.mul-elem c (at o a k) hc (at-elem o L a ha.of_elements k))
 
   -- the items of a combination of one row
-  one_row : (rows : List (List E)) (v : List E) (s : InSpan o m rows v) → IsMatrix o m rows → length rows ≡ 1
+  pub one_row : (rows : List (List E)) (v : List E) (s : InSpan o m rows v) → IsMatrix o m rows → length rows ≡ 1
       → (j : ℕ) → j < m → at o v j ≡ o.mul (at o s.0 0) (entry o rows 0 j)
   one_row rows v s shape e j j_in =
       s.2 j j_in ∙ ap (λ n. sum_of o n (λ i. o.mul (at o s.0 i) (entry o rows i j))) e
@@ -160,7 +160,7 @@ module _ {E : Type 0} (o : Ops E) (L : FieldLaws o) (A : Structure E) (constants
   }
 
   -- the identity isn't 0
-  one_nonzero : 1 ≤ m → ((j : ℕ) → j < m → at o one j ≡ o.zero) → ⊥
+  pub one_nonzero : 1 ≤ m → ((j : ℕ) → j < m → at o one j ≡ o.zero) → ⊥
   one_nonzero some z = L.one-nonzero
       (sym (at-table o m (λ k. cond (nat_eq k 0) o.one o.zero) 0 some)
       ∙ ap (λ xs. at o xs 0) (sym (is_one.one-mul 0 some))

@@ -1,2 +1,3 @@
 pub mod TraceIdeal
 pub mod Guess
+pub mod Line
