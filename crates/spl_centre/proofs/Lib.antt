@@ -6,3 +6,5 @@ pub mod Guesses
 pub mod HasResidues
 pub mod Lines
 pub mod ByResidues
+pub mod AtPlaces
+pub mod Reduced

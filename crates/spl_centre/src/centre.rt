@@ -10,6 +10,7 @@ ghost use Rattle.theory_tables.specs.Traces.{IsNondegenerate};
 ghost use Rattle.theory_tables.specs.Claims.{CentralClaim};
 ghost use Rattle.spl_centre.specs.TraceIdeal.{IsTraceIdeal};
 
+use crate::by_residues::{shows_nondegenerate, shows_small_centre};
 use crate::guess::guessed_identity;
 use crate::identity::{fault_of, identity_of};
 use crate::radical::radical_of;
@@ -43,7 +44,9 @@ pub fn identity_or_refutation(
 }
 
 /// A central element that is no multiple of the identity; None exactly where the centre is the multiples of the
-/// identity. The one fault is want of memory.
+/// identity. None is mostly told by the centre of the algebra of residues at an irreducible polynomial (Reiner, Maximal
+/// Orders, section 4), and what that doesn't tell by a kernel over the rational functions. The one fault is want of
+/// memory.
 pub fn centre_fault(alloc: Global, f: &Fractions, a: &KAlgebra) -> Result<Option<Tuple>, NoMemory>
     requires over { IsOver (fractions_over (field_of f.now)) a.now }
     requires associative { IsAssociative (fractions_over (field_of f.now)) a.now }
@@ -52,6 +55,9 @@ pub fn centre_fault(alloc: Global, f: &Fractions, a: &KAlgebra) -> Result<Option
         (HasSmallCentre (fractions_over (field_of f.now)) a.now)
         (CentralClaim (fractions_over (field_of f.now)) a.now)) }
 {
+    if shows_small_centre(alloc, f, a)? {
+        return Ok(None);
+    }
     let one = identity_of(alloc, f, a)?;
     fault_of(alloc, f, a, &one)
 }
@@ -70,11 +76,15 @@ pub fn centre_fault_from(
         (HasSmallCentre (fractions_over (field_of f.now)) a.now)
         (CentralClaim (fractions_over (field_of f.now)) a.now)) }
 {
+    if shows_small_centre(alloc, f, a)? {
+        return Ok(None);
+    }
     fault_of(alloc, f, a, one)
 }
 
 /// A basis of the radical of the trace form, the set of all a with tr(a·b) = 0 for each b; None exactly where it is 0.
-/// The characteristic doesn't divide the dimension, so that the trace of the identity isn't 0. The one fault is want of
+/// The characteristic doesn't divide the dimension, so that the trace of the identity isn't 0. None is mostly told by
+/// the trace form of the algebra of residues at an irreducible polynomial, as for the centre. The one fault is want of
 /// memory.
 pub fn trace_ideal(alloc: Global, f: &Fractions, a: &KAlgebra) -> Result<Option<Tuples>, NoMemory>
     requires over { IsOver (fractions_over (field_of f.now)) a.now }
@@ -85,6 +95,9 @@ pub fn trace_ideal(alloc: Global, f: &Fractions, a: &KAlgebra) -> Result<Option<
         (IsNondegenerate (fractions_over (field_of f.now)) a.now)
         (IsTraceIdeal (fractions_over (field_of f.now)) a.now)) }
 {
+    if shows_nondegenerate(alloc, f, a)? {
+        return Ok(None);
+    }
     let radical = radical_of(alloc, f, a)?;
     if radical.dim() == 0 {
         return Ok(None);
