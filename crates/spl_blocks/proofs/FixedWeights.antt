@@ -3,9 +3,9 @@
 use Rattle.std.specs.Prelude.{◌≡◌, ◌↔◌, ◌<◌, ◌^◌, ℕ, List, [], length, get_or}
 use Rattle.std.proofs.Common.{refl, sym, ◌∙◌, ap, ap₂, subst}
 use Rattle.theory_rings.specs.Ring.{FieldOn}
-use Rattle.theory_rings.specs.Ops.{Ops, FieldLaws}
+use Rattle.theory_rings.specs.Ops.{Ops, IsElem, FieldLaws}
 use Rattle.theory_rings.specs.Elements.{Elem}
-use Rattle.theory_rings.specs.Sum.{sum_of, at}
+use Rattle.theory_rings.specs.Sum.{table, sum_of, at}
 use Rattle.theory_rings.specs.Prime.{IsPrime}
 use Rattle.theory_rings.specs.Power.{power, times}
 use Rattle.theory_rings.specs.Enumerated.{Enumerated}
@@ -17,12 +17,13 @@ use Rattle.theory_spaces.specs.Tuples.{Tuple, tuple_add}
 use Rattle.theory_spaces.proofs.Linear.Modules.{comb_congr, comb-add, comb-scale, comb_in, map-comb, InSpan-member}
 use Rattle.theory_spaces.proofs.Linear.Spaces.{BasisOf-size}
 use Rattle.theory_spaces.proofs.Tuples.TupleProducts.{tuple_algebra}
-use Rattle.theory_spaces.proofs.Tuples.Tuples.{IsTuple-ext, tuples, tuple_space}
+use Rattle.theory_spaces.proofs.Tuples.Tuples.{IsTuple-ext, IsTuple-table, at-table, tuples, tuple_space}
 use Rattle.theory_tables.specs.Matrix.{entry, IsMatrix}
 use Rattle.theory_tables.specs.Subspace.{IsReducedBasis, IsKilled, SpansKernel}
 use Rattle.theory_tables.specs.Structure.{Structure}
 use Rattle.theory_tables.proofs.Rows.Sums.{entry_table}
-use Rattle.theory_tables.proofs.Algebras.Bridge.{comb-at, zero-at, IsTuple-of, row, to_span, from_span, to_independent}
+use Rattle.theory_tables.proofs.Algebras.Bridge.{comb-at, zero-at, IsTuple-of, row, row-is, to_span, from_span}
+use Rattle.theory_tables.proofs.Algebras.Bridge.{to_independent}
 use Rattle.spl_matrix.proofs.ReducedBases.{reduced_basis_is_independent}
 use Rattle.theory_blocks.specs.FixedPoints.{IsFixed}
 use Rattle.theory_blocks.specs.Centre.{Centre}
@@ -31,6 +32,7 @@ use Rattle.theory_blocks.proofs.Ideals.Centres.{centre_submodule}
 use Rattle.spl_algebra.specs.Subspaces.{SpansCentre}
 use Rattle.spl_blocks.specs.Blocks.{IsUnital}
 use Rattle.spl_blocks.specs.Fixed.{less_self, power_equations}
+use Rattle.spl_blocks.specs.Splits.{combination_of}
 use Rattle.spl_blocks.proofs.Tables.{V, K, A, A_is, M, A_basis, V-path, power-is, family, family-is, to_rows, from_rows}
 use Rattle.spl_blocks.proofs.Tables.{rows_independent, to_centre, from_centre}
 use Rattle.spl_blocks.proofs.FixedSpace.{less, fixed_iff}
@@ -98,8 +100,8 @@ module _ {E : Type 0} (o : Ops E) (L : FieldLaws o) (T : Structure E) (u : IsUni
         sum_of_congr o r (λ i. o.mul (entry o eqs j i) (at o w.0 i)) (λ i. o.mul (S.coord w i).0 (at o (y i).0 j))
         (λ i g.
         let a = at o (y i).0 j in
-        let is : entry o eqs j i ≡ a =
-        entry_table o L m r (λ j i. at o (less_self o T q (get_or centre i [])) j) j i l g
+        let is : entry o eqs j i ≡ a = entry_table o L m r
+        (λ j i. at o (less_self o T q (get_or centre i [])) j) j i l g
         ∙ ap (λ xs. at o xs j) (sym (y-is i g)) in
         ap₂ o.mul is (sym (coord-is w i))
         ∙ L.mul_comm a (S.coord w i).0 (at-elem o L (y i).0 (let h = IsTuple-of o L m (y i) in h.of_elements) j)
@@ -145,6 +147,24 @@ module _ {E : Type 0} (o : Ops E) (L : FieldLaws o) (T : Structure E) (u : IsUni
 
       abbrev pub W : ℕ → Tuple o r
       W = row o L r weights wshape
+
+      -- the combination with row t as weights
+      pub G-is : (t : ℕ) → t < s → (G (W t)).0 ≡ combination_of o T (get_or weights t []) centre
+      unfolding tuple_algebra
+      G-is t l =
+          let w = W t in
+          let x = G w in
+          let item : ℕ → E = λ j. sum_of o r (λ i. o.mul (at o (get_or weights t []) i) (entry o centre i j)) in
+          let each : (j : ℕ) → j < m → at o x.0 j ≡ item j = λ j lj.
+          comb-at o L m r (S.coord w) z j lj
+          ∙ sum_of_congr o r (λ i. o.mul (S.coord w i).0 (at o (z i).0 j))
+          (λ i. o.mul (at o (get_or weights t []) i) (entry o centre i j))
+          (λ i li. ap₂ o.mul (coord-is w i ∙ ap (λ xs. at o xs i) (row-is o L r weights wshape t l))
+          (ap (λ xs. at o xs j) (family-is o L T u centre shape i li))) in
+          IsTuple-ext o m x.0 (table m item) (IsTuple-of o L m x)
+          (IsTuple-table o m item (λ j lj. subst (IsElem o) (each j lj)
+          (at-elem o L x.0 (let h = IsTuple-of o L m x in h.of_elements) j)))
+          (λ j lj. each j lj ∙ sym (at-table o m item j lj))
 
       pub W_fixed : (t : ℕ) → t < s → IsFixed B.ring q (G (W t))
       W_fixed t l = (killed_iff (W t)).0 ((wmembers (W t).0 (IsTuple-of o L r (W t))).0

@@ -7,3 +7,15 @@ pub mod SimpleBlocks
 pub mod PowerSteps
 pub mod Equations
 pub mod SimpleResidue
+pub mod Constants
+pub mod TraceSpan
+pub mod Components
+pub mod SplitLists
+pub mod SumLists
+pub mod FinalIdeals
+pub mod TraceValues
+pub mod MaximalBlocks
+pub mod KeptSteps
+pub mod ListSteps
+pub mod RefinedLists
+pub mod MaximalResidue

@@ -306,17 +306,18 @@ module _ {E : Type 0} (o : Ops E) (L : FieldLaws o) (T : Structure E) (u : IsUni
 
   -- ---- the centre
 
+  pub from_is_central : (x : V) → IsCentral o T x.0 → Centre A x
+  from_is_central x c y = V-path (A.◌⊗◌ x y) (A.◌⊗◌ y x)
+      (A_is.product-is x y
+      ∙ product_comm_of_basis o L m T.constants u.over.of_elements x.0 c.tuple c.commutes y.0 (of_tuple y)
+      ∙ sym (A_is.product-is y x))
+
   pub central_of : (x : V) → Centre A x → IsCentral o T x.0
   central_of x h = to_is_central o L T u.over.of_elements u.associative one u.identity.is_one x h
 
   module _ (centre : List (List E)) (members : SpansCentre o T centre) where
     pub to_centre : (x : V) → rows_of.InSpan o m centre x.0 → Centre A x
-    to_centre x h y =
-        let c = (members x.0 (of_tuple x)).0 h in
-        V-path (A.◌⊗◌ x y) (A.◌⊗◌ y x)
-        (A_is.product-is x y
-        ∙ product_comm_of_basis o L m T.constants u.over.of_elements x.0 c.tuple c.commutes y.0 (of_tuple y)
-        ∙ sym (A_is.product-is y x))
+    to_centre x h = from_is_central x ((members x.0 (of_tuple x)).0 h)
 
     pub from_centre : (x : V) → Centre A x → rows_of.InSpan o m centre x.0
     from_centre x h = (members x.0 (of_tuple x)).1 (central_of x h)

@@ -1,2 +1,4 @@
 pub mod Blocks
 pub mod Fixed
+pub mod Splits
+pub mod Classes
