@@ -18,7 +18,7 @@ use spl_matrix::subspace::Subspace;
 use std::alloc::Global;
 
 /// The difference x − y of two elements.
-fn difference<F: Field>(
+pub(crate) fn difference<F: Field>(
     alloc: Global,
     f: &F,
     x: &[F::Elem],
@@ -34,6 +34,26 @@ fn difference<F: Field>(
     for k in 0..x.len() {
         let less = f.neg(alloc, &y[k])?;
         items.push(f.add(alloc, &x[k], &less)?)?;
+    }
+    Ok(items)
+}
+
+/// The sum x + y of two elements.
+pub(crate) fn sum<F: Field>(
+    alloc: Global,
+    f: &F,
+    x: &[F::Elem],
+    y: &[F::Elem],
+) -> Result<Vector<F>, NoMemory>
+    requires left { All (IsElem (F.ops f.now)) x.now }
+    requires right { IsTuple (F.ops f.now) (length x.now) y.now }
+    ensures elem { IfOk result (IsTuple (F.ops f.now) (length x.now)) }
+    ensures value { IfOk result (λ r. r ≡ table (length x.now) (λ k.
+        (F.ops f.now).add (at (F.ops f.now) x.now k) (at (F.ops f.now) y.now k))) }
+{
+    let mut items = List::new(alloc);
+    for k in 0..x.len() {
+        items.push(f.add(alloc, &x[k], &y[k])?)?;
     }
     Ok(items)
 }
@@ -83,7 +103,7 @@ fn column_of<F: Field>(
 }
 
 /// The w columns of the matrix as rows.
-fn columns_of<F: Field>(
+pub(crate) fn columns_of<F: Field>(
     alloc: Global,
     f: &F,
     w: usize,

@@ -1,10 +1,14 @@
-// Whether an algebra over a residue field that has no nilpotent ideal but 0 is simple.
+// The maximal two-sided ideals of an algebra over a residue field that has no nilpotent ideal but 0, and whether such
+// an algebra is simple.
 //
-// It stands on spl_algebra and spl_residue, and on theory_blocks, where it is proved that such an algebra is simple
-// exactly where the solutions of z^q = z in its centre have dimension 1. Read `specs/Blocks.antt` first, then
-// `is_simple`.
+// It stands on spl_algebra and spl_residue, and on theory_blocks, where it is proved that the maximal ideals are those
+// of the field factors of the centre, and that these are as many as the dimension of the solutions of z^q = z in it.
+// Read `specs/Blocks.antt` first, then `maximal_ideals` and `is_simple`.
 #![tactic(auto)]
 
 mod fixed;
+pub mod ideals;
 mod powers;
+mod refine;
 pub mod simple;
+mod splits;
