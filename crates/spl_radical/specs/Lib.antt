@@ -1,0 +1,2 @@
+pub mod LiftRing
+pub mod LiftNumbers
