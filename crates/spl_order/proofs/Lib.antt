@@ -1,0 +1,4 @@
+pub mod NumeratorRows
+pub mod BasisRows
+pub mod BasisSteps
+pub mod MappedRows

@@ -1,0 +1,9 @@
+// Bases of lattices of tuples of rational functions, as rows of polynomials over one denominator.
+//
+// It stands on spl_lattice, whose kernels tell whether such rows are independent, on spl_fraction and spl_numerators,
+// and on theory_bases, where such rows are lattices of tuples. Read theory_bases/specs/Bases first, then `Basis`.
+#![tactic(auto)]
+
+pub mod basis;
+mod fractions;
+mod numerators;
