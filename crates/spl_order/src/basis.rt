@@ -8,6 +8,7 @@ ghost use Rattle.theory_tables.specs.Matrix.{IsMatrix};
 ghost use Rattle.theory_tables.specs.Subspace.{AreIndependent};
 ghost use Rattle.theory_bases.specs.Bases.{BasisForm, IsBasis, IsDenominatorOf, tuples_of};
 
+use crate::copies::copied_rows;
 use crate::fractions::tuples_over;
 use crate::numerators::{joined_fractions, numerator_rows};
 use spl_field::field::NoMemory;
@@ -69,6 +70,19 @@ impl Basis {
             }));
         }
         Ok(None)
+    }
+
+    /// An equal basis. The one fault is want of memory.
+    pub fn copy(&self, alloc: Global, f: &Fractions) -> Result<Basis, NoMemory>
+        requires { (n : ℕ) × IsBasis (small_ops (field_of f.now)) (small_laws (field_of f.now)) n self.now }
+        ensures { IfOk result (λ r. r ≡ self.now) }
+    {
+        let numerators = copied_rows(alloc, f.field(), self.numerators.as_slice())?;
+        let denominator = self.denominator.copy(alloc, f.field())?;
+        Ok(Basis {
+            denominator,
+            numerators,
+        })
     }
 
     /// The tuples, in their order. The one fault is want of memory.

@@ -5,5 +5,6 @@
 #![tactic(auto)]
 
 pub mod basis;
+mod copies;
 mod fractions;
 mod numerators;
