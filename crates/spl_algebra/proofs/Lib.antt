@@ -15,3 +15,4 @@ pub mod Triples
 pub mod Annihilators
 pub mod QuotientRows
 pub mod PowerSpans
+pub mod SquareIdeals

@@ -11,6 +11,7 @@ pub mod entries;
 pub mod ideal;
 pub mod identity;
 pub mod laws;
+pub mod nilpotent;
 pub mod power;
 pub mod products;
 pub mod quotient;
