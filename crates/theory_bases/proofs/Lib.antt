@@ -7,3 +7,6 @@ pub mod PolynomialWeights
 pub mod LatticeBridge
 pub mod Clearing
 pub mod StartOrders
+pub mod PolynomialDivisors
+pub mod LeastDenominators
+pub mod SpanningRows
