@@ -10,3 +10,4 @@ pub mod StartOrders
 pub mod PolynomialDivisors
 pub mod LeastDenominators
 pub mod SpanningRows
+pub mod ScaledRows

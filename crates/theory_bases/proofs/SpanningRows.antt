@@ -48,10 +48,13 @@ module _ {E : Type 0} (o : Ops E) (L : FieldLaws o) (m : ℕ) (rows : List (List
   abbrev v : ℕ → Tuple o m
   v = row o L m rows shape
 
+  pub count_at_most : AreIndependent o m rows → length rows ≤ m
+  count_at_most free = exchange F N (length rows) m v units.vec (to_independent o L m rows shape free)
+      (λ i _. record { weights = units.coord (v i); combines = units.expand (v i) })
+
   pub count_of_spanning : AreIndependent o m rows → ((x : List E) → IsTuple o m x → InSpan o m rows x) → length rows ≡ m
   count_of_spanning free spans =
-      let low : length rows ≤ m = exchange F N (length rows) m v units.vec (to_independent o L m rows shape free)
-      (λ i _. record { weights = units.coord (v i); combines = units.expand (v i) }) in
+      let low : length rows ≤ m = count_at_most free in
       let high : m ≤ length rows = exchange F N m (length rows) units.vec v units.independent
       (λ i _. let x = units.vec i in to_span o L m rows shape x (spans x.0 (IsTuple-of o L m x))) in
       omega arith
