@@ -11,3 +11,5 @@ pub mod PolynomialDivisors
 pub mod LeastDenominators
 pub mod SpanningRows
 pub mod ScaledRows
+pub mod TraceForms
+pub mod DualRows
