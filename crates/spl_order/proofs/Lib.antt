@@ -2,3 +2,4 @@ pub mod NumeratorRows
 pub mod BasisRows
 pub mod BasisSteps
 pub mod MappedRows
+pub mod SwappedTuples

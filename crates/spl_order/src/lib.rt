@@ -1,10 +1,12 @@
 // Bases of lattices of tuples of rational functions, as rows of polynomials over one denominator.
 //
 // It stands on spl_lattice, whose kernels tell whether such rows are independent, on spl_fraction and spl_numerators,
-// and on theory_bases, where such rows are lattices of tuples. Read theory_bases/specs/Bases first, then `Basis`.
+// and on theory_bases, where such rows are lattices of tuples. Read theory_bases/specs/Bases first, then `Basis`. What
+// holds at infinity holds of what `swap` makes at the place x (theory_swaps).
 #![tactic(auto)]
 
 pub mod basis;
 mod copies;
 mod fractions;
 mod numerators;
+pub mod swap;

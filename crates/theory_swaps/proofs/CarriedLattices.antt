@@ -21,7 +21,8 @@ use Rattle.theory_swaps.specs.CarriedLattices.{CarriesLattices, CarriesOrders}
 use Rattle.theory_swaps.specs.CarriedLattices.{InvolutionsCarryLattices, InvolutionsCarryOrders}
 use Rattle.theory_swaps.proofs.MappedTuples.{image_twice, images_twice, structure_twice, at-image}
 use Rattle.theory_swaps.proofs.MappedTuples.{tuple-image, s-zero, s-sum}
-use Rattle.theory_swaps.proofs.CarriedAlgebras.{over, product, product-elements, trace-elem, trace-image, carries_algebra}
+use Rattle.theory_swaps.proofs.CarriedAlgebras.{over, product, product-elements, trace-elem, trace-image}
+use Rattle.theory_swaps.proofs.CarriedAlgebras.{carries_algebra}
 use Rattle.theory_swaps.proofs.CarriedSets.{keeps, keeps_back}
 use Rattle.theory_swaps.proofs.MappedSets.{Goes, order_to}
 

@@ -107,8 +107,8 @@ module _ {V : Type 0} (f : V → V) (twice : (x : V) → f (f x) ≡ x) (U : V �
     pub left_order_to : (J J' : V → Type 0) → Within J U → Goes J J' → (a : V) → U a → LeftOrder S J a
         → LeftOrder S' J' (f a)
     left_order_to J J' w g a ua d x j =
-        pull g (S'.mul (f a) x) (subst J
-        (sym (K'.mul (f a) x (u a ua) (within_image g w x j) ∙ ap (λ t. S.mul t (f x)) (twice a))) (d (f x) (g.back x j)))
+        let e = K'.mul (f a) x (u a ua) (within_image g w x j) ∙ ap (λ t. S.mul t (f x)) (twice a) in
+        pull g (S'.mul (f a) x) (subst J (sym e) (d (f x) (g.back x j)))
 
     module _ (J : V → Type 0) (w : Within J U) where
       pub power_in : (e : ℕ) → Within (Power S J e) U
