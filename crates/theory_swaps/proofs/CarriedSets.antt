@@ -111,14 +111,15 @@ module _ {E : Type 0} (o : Ops E) (L : FieldLaws o) (s : E → E) (I : IsInvolut
           );
           multiple = λ p hp. (
             λ x m. subst (Multiple T (tuple_scale o n) (s p) (ImageSet s M)) (twice x)
-                (multiple_to im twice U u (tuple_scale o n) p (s p) (there p hp) S T M (ImageSet s M) wM gM (im x) m),
-            multiple_to im twice U u (tuple_scale o n) (s p) p (back p hp) T S (ImageSet s M) M vM bM,
+                (multiple_to im twice U u (tuple_scale o n) (tuple_scale o n) p (s p) (there p hp) S T M
+                (ImageSet s M) wM gM (im x) m),
+            multiple_to im twice U u (tuple_scale o n) (tuple_scale o n) (s p) p (back p hp) T S (ImageSet s M) M vM bM,
           );
           radical = λ p hp. (
-            radical_to im twice U u (tuple_scale o n) p (s p) (there p hp) (back p hp) S T K K' M (ImageSet s M) J
-                (ImageSet s J) wM vM gM gJ,
-            radical_to im twice U u (tuple_scale o n) (s p) p (back p hp) (there p hp) T S K' K (ImageSet s M) M
-                (ImageSet s J) J vM wM bM bJ,
+            radical_to im twice U u (tuple_scale o n) (tuple_scale o n) p (s p) (there p hp) (back p hp) S T K
+                K' M (ImageSet s M) J (ImageSet s J) wM vM gM gJ,
+            radical_to im twice U u (tuple_scale o n) (tuple_scale o n) (s p) p (back p hp) (there p hp) T S K'
+                K (ImageSet s M) M (ImageSet s J) J vM wM bM bJ,
           );
         }
 

@@ -6,3 +6,5 @@ pub mod CarriedLattices
 pub mod Extended
 pub mod ReversedPolynomials
 pub mod FractionSwaps
+pub mod Twisted
+pub mod RamifiedPlaces

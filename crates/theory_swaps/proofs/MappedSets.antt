@@ -1,9 +1,9 @@
 -- A map that is its own inverse, and on a closed set U keeps the operations of one structure as those of another,
 -- carries orders, ideals, powers, left orders and radicals of sets in U.
 use Rattle.std.specs.Prelude.{◌≡◌, ℕ, zero, suc, ◌<◌, Bool}
-use Rattle.std.proofs.Common.{sym, ◌∙◌, ap, subst, arith}
+use Rattle.std.proofs.Common.{sym, ◌∙◌, ap, subst, arith, inl, inr, ⊎_elim}
 use Rattle.theory_spaces.specs.Sets.{Within, Test, RingOps, total, IsOrder, IsIdeal, Product, Products}
-use Rattle.theory_spaces.specs.Sets.{Power, LeftOrder, Multiple, Radical}
+use Rattle.theory_spaces.specs.Sets.{Power, LeftOrder, Multiple, Radical, SimpleQuotient}
 
 module _ {V : Type 0} (f : V → V) (twice : (x : V) → f (f x) ≡ x) (U : V → Type 0) where
   pub record Keeps (S S' : RingOps V) : Type 0 where
@@ -130,28 +130,30 @@ module _ {V : Type 0} (f : V → V) (twice : (x : V) → f (f x) ≡ x) (U : V �
               (goes_back f twice U g);
         }
 
-  module _ {T : Type 0} (scale : T → V → V) (p q : T) (there : (x : V) → U x → f (scale p x) ≡ scale q (f x)) where
+  module _ {T T' : Type 0} (scale : T → V → V) (scale' : T' → V → V) (p : T) (q : T')
+      (there : (x : V) → U x → f (scale p x) ≡ scale' q (f x)) where
     pub multiple_to : (S S' : RingOps V) (I I' : V → Type 0) → Within I U → Goes f twice U I I' → (x : V)
-        → Multiple S scale p I x → Multiple S' scale q I' (f x)
+        → Multiple S scale p I x → Multiple S' scale' q I' (f x)
     multiple_to S S' I I' w g x m = (f m.0, g.into m.0 m.1, ap f m.2 ∙ there m.0 (w m.0 m.1))
 
-  module _ {T : Type 0} (scale : T → V → V) (p q : T) (there : (x : V) → U x → f (scale p x) ≡ scale q (f x))
-      (back : (x : V) → U x → f (scale q x) ≡ scale p (f x)) (S S' : RingOps V) (K : Keeps f twice U S S')
+  module _ {T T' : Type 0} (scale : T → V → V) (scale' : T' → V → V) (p : T) (q : T')
+      (there : (x : V) → U x → f (scale p x) ≡ scale' q (f x))
+      (back : (x : V) → U x → f (scale' q x) ≡ scale p (f x)) (S S' : RingOps V) (K : Keeps f twice U S S')
       (K' : Keeps f twice U S' S) (I I' J J' : V → Type 0) (wI : Within I U) (wI' : Within I' U)
       (gI : Goes f twice U I I') (gJ : Goes f twice U J J') where
-    pub radical_to : Radical S scale p I J → Radical S' scale q I' J'
+    pub radical_to : Radical S scale p I J → Radical S' scale' q I' J'
     radical_to r =
         let wJ : Within J U = λ x j. (let d = r.ideal in wI x (d.inside x j)) in
         let wJ' : Within J' U = within_image f twice U u S S' K K' gJ wJ in
-        let m : (x : V) → Multiple S scale p I x → Multiple S' scale q I' (f x) =
-        multiple_to scale p q there S S' I I' wI gI in
-        let n : (x : V) → Multiple S' scale q I' x → Multiple S scale p I (f x) =
-        multiple_to scale q p back S' S I' I wI' (goes_back f twice U gI) in
+        let m : (x : V) → Multiple S scale p I x → Multiple S' scale' q I' (f x) =
+        multiple_to scale scale' p q there S S' I I' wI gI in
+        let n : (x : V) → Multiple S' scale' q I' x → Multiple S scale p I (f x) =
+        multiple_to scale' scale q p back S' S I' I wI' (goes_back f twice U gI) in
         record {
           ideal = ideal_to f twice U u S S' K K' I J wI wJ I' J' gI gJ r.ideal;
           over = λ x h. pull f twice U gJ x (r.over (f x) (n x h));
           exponent = r.exponent;
-          falls = λ x h. subst (Multiple S' scale q I') (twice x)
+          falls = λ x h. subst (Multiple S' scale' q I') (twice x)
               (m (f x) (r.falls (f x) (let P = powers_go S S' K K' J J' wJ wJ' gJ r.exponent in P.back x h)));
           largest = λ t e d o l x h.
               let c : V → Bool = λ y. t (f y) in
@@ -165,3 +167,18 @@ module _ {V : Type 0} (f : V → V) (twice : (x : V) → f (f x) ≡ x) (U : V �
               (n (f y) (l (f y) (let P = powers_go S' S K' K (Test t) (Test c) wT wC gT e in P.back y k))))
               (f x) (gT.into x h));
         }
+
+    -- the quotient by J is simple
+    pub simple_to : Within J U → SimpleQuotient S I J → SimpleQuotient S' I' J'
+    simple_to wJ r = record {
+      proper = λ w. r.proper (λ x i. push f twice U gJ x (w (f x) (gI.into x i)));
+      nothing_between = λ t d o.
+          let c : V → Bool = λ y. t (f y) in
+          let gT : Goes f twice U (Test t) (Test c) = goes f twice U (Test t) in
+          let wT : Within (Test t) U = λ y k. wI' y (d.inside y k) in
+          ⊎_elim
+          (λ (w : Within (Test c) J). inl (λ x h. pull f twice U gJ x (w (f x) (gT.into x h))))
+          (λ (w : Within I (Test c)). inr (λ x i. push f twice U gT x (w (f x) (gI.back x i))))
+          (r.nothing_between c (ideal_to f twice U u S' S K' K I' (Test t) wI' wT I (Test c)
+          (goes_back f twice U gI) gT d) (λ x j. o (f x) (gJ.into x j)));
+    }

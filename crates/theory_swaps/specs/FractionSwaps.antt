@@ -1,16 +1,16 @@
 -- The fraction with 1/x put for x, as an automorphism of the fractions over a program's field. (Stichtenoth, Algebraic
 -- Function Fields and Codes, section 1.2.)
-use Rattle.std.specs.Prelude.{◌≡◌, ◌≤◌, ℕ, List, [], ◌∷◌, length}
+use Rattle.std.specs.Prelude.{◌≡◌, ◌≤◌, ◌↔◌, ℕ, List, [], ◌∷◌, length}
 use Rattle.theory_rings.specs.Ops.{Ops, FieldLaws}
 use Rattle.theory_fractions.specs.PolynomialLists.{IsPolynomialList}
 use Rattle.theory_fractions.specs.Fraction.{Pair}
 use Rattle.theory_fractions.specs.FractionOps.{fraction_ops}
 use Rattle.theory_fractions.specs.CommonDenominator.{as_fraction}
 use Rattle.theory_places.specs.Places.{PlaceOf, Finite, Infinite}
-use Rattle.theory_places.specs.FractionPlaces.{IsPlace, IsIntegralAt, uniformizer_at}
+use Rattle.theory_places.specs.FractionPlaces.{IsPlace, IsIntegralAt, uniformizer_at, RamifiedAtPlace}
 use Rattle.theory_tables.specs.Structure as structures
 use Rattle.theory_tables.specs.Structure.{Structure}
-use Rattle.theory_swaps.specs.Involutions.{IsInvolution, AreImages}
+use Rattle.theory_swaps.specs.Involutions.{IsInvolution, AreImages, images, image_structure}
 use Rattle.theory_swaps.specs.CarriedAlgebras.{CarriesAlgebra}
 use Rattle.theory_swaps.specs.CarriedLattices.{CarriesLattices, CarriesOrders}
 
@@ -46,3 +46,10 @@ module _ {E : Type 0} (o : Ops E) (L : FieldLaws o) where
 
   abbrev pub InfinityIsThePlaceX : Type 0
   InfinityIsThePlaceX = (s : Pair E → Pair E) → IsFractionSwap s → CarriesInfinityToX s
+
+  -- a claim of a ramified place at infinity holds exactly where that of the images at x does
+  abbrev pub RamifiedAtInfinityAtX : FieldLaws (fraction_ops o L) → Type 0
+  RamifiedAtInfinityAtX M = (s : Pair E → Pair E) → IsFractionSwap s → (A : Structure (Pair E))
+      → structures.IsOver (fraction_ops o L) A → (os js : List (List (Pair E)))
+      → RamifiedAtPlace o L M A Infinite os js
+      ↔ RamifiedAtPlace o L M (image_structure s A) (place_x o) (images s os) (images s js)
