@@ -92,13 +92,13 @@ module _ {E : Type 0} (o : Ops E) (L : FieldLaws o) (M : FieldLaws (fraction_ops
 
   -- ---- polynomials as fractions
 
-  abbrev over_one : (u : List E) → IsPolynomialList o u → FE
+  abbrev pub over_one : (u : List E) → IsPolynomialList o u → FE
   over_one u hu = (as_fraction o u, as_fraction-elem o L u hu)
 
-  over_one_is : (u : List E) (hu : IsPolynomialList o u) → h (over_one u hu) ≡ of (poly u)
+  pub over_one_is : (u : List E) (hu : IsPolynomialList o u) → h (over_one u hu) ≡ of (poly u)
   over_one_is u hu = over_one_path o L u (as_fraction-elem o L u hu)
 
-  num_is : (w : FE) → IsPolynomialList o w.0.0
+  pub num_is : (w : FE) → IsPolynomialList o w.0.0
   unfolding fraction_ops
   num_is w = is_polynomial-gives o L w.0.0 (is_fraction-parts o L w.0 w.1).0
 
@@ -117,7 +117,7 @@ module _ {E : Type 0} (o : Ops E) (L : FieldLaws o) (M : FieldLaws (fraction_ops
   poly_value w e = ap h (Elem-path (fraction_ops o L) w (over_one w.0.0 (num_is w)) (ap (λ v. (w.0.0, v)) e))
       ∙ over_one_is w.0.0 (num_is w)
 
-  poly_of_value : (w : FE) (u : Poly F.cring) → h w ≡ of u → IsPoly w
+  pub poly_of_value : (w : FE) (u : Poly F.cring) → h w ≡ of u → IsPoly w
   poly_of_value w u e =
       let v = values o L u.0 in
       let hv = IsPolynomialList-values o L u in
@@ -129,13 +129,13 @@ module _ {E : Type 0} (o : Ops E) (L : FieldLaws o) (M : FieldLaws (fraction_ops
   -- ---- remainders
 
   -- the remainder of a polynomial
-  abbrev rest : List E → List E
+  abbrev pub rest : List E → List E
   rest u = to_list o L m i (of_list o L m i u)
 
-  rest_small : (u : List E) → IsRemainder o m (rest u)
+  pub rest_small : (u : List E) → IsRemainder o m (rest u)
   rest_small u = is_remainder-to_list o L m i (of_list o L m i u)
 
-  rest_is : (u : List E) → IsPolynomialList o u → IsRemainderOf o (at o u) m (rest u)
+  pub rest_is : (u : List E) → IsPolynomialList o u → IsRemainderOf o (at o u) m (rest u)
   rest_is u hu = remainder_of_eq o L m i (poly u) (at o u) (has_polynomial_of o L u hu.over) (rest u) (rest_small u)
       (sym (of_list-to_list o L m i (of_list o L m i u)))
 

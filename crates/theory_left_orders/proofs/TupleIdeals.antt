@@ -92,7 +92,7 @@ module _ {E R : Type 0} (o : Ops E) (L : FieldLaws o) (P : E → Type 0) (p q : 
       → (l : ℕ) → l < n → b.coord x l ≡ c l
   coordinates = coord_of o L P p q r N D A over assoc one is_one rows ind
 
-  vectors_order : IsOrder (ring_ops Alg.ring) Alg.one BL
+  pub vectors_order : IsOrder (ring_ops Alg.ring) Alg.one BL
   vectors_order = record {
     one_in = to Alg.one (subst T (sym (one-is o L A over.of_elements assoc one is_one)) order.one_in);
     zero_in = to Alg.zero (subst T (sym is.zero-is) order.zero_in);
@@ -184,7 +184,7 @@ module _ {E R : Type 0} (o : Ops E) (L : FieldLaws o) (P : E → Type 0) (p q : 
   coord : (x : W) (j : ℕ) → j < n → (t.coord x j).0 ≡ at r x.0 j
   coord = coord-is r N C tab.shape.of_elements associative laws.one.0 residue_one
 
-  ra_products : ResidueProduct K Q p q k D Alg n b (module_of RA) (product_on RA) t
+  pub ra_products : ResidueProduct K Q p q k D Alg n b (module_of RA) (product_on RA) t
   ra_products i j l a_in b_in c_in =
       let x = RA.◌⊗◌ (t.vec i) (t.vec j) in
       let vec = unit-is r N C tab.shape.of_elements associative laws.one.0 residue_one in
@@ -193,7 +193,7 @@ module _ {E R : Type 0} (o : Ops E) (L : FieldLaws o) (P : E → Type 0) (p q : 
       ∙ product_basis r N n cs tab.shape.of_elements i j a_in b_in)
       ∙ at-table r n (λ u. constant r n cs i j u) l c_in ∙ sym (residue_is i j l a_in b_in c_in))
 
-  reduces : ReducesByCoordinates K Q p q k D Alg n b RA t
+  pub reduces : ReducesByCoordinates K Q p q k D Alg n b RA t
   reduces = order_reduces_over K Q p q k D Alg n b W vectors_order RA t ra_products
 
   abbrev red : V → W
@@ -214,7 +214,7 @@ module _ {E R : Type 0} (o : Ops E) (L : FieldLaws o) (P : E → Type 0) (p q : 
     abbrev Up : V → Type 0
     Up = Lifted Alg BL (Over K Q p q k D Alg n b) RA reduces.reduction (InSpan (module_of RA) s below)
 
-    in_span : (x : W) → rows_of.InSpan r n ideal x.0 → InSpan (module_of RA) s below x
+    pub in_span : (x : W) → rows_of.InSpan r n ideal x.0 → InSpan (module_of RA) s below x
     unfolding tuple_algebra
     in_span x h = to_span r N n ideal spans.shape x h
 
@@ -232,7 +232,7 @@ module _ {E R : Type 0} (o : Ops E) (L : FieldLaws o) (P : E → Type 0) (p q : 
     unfolding B tuple_algebra
     expands x c c_in = ap (λ (y : V). at o y.0 c) (b.expand x) ∙ row-sum o L n rows ind.shape n (b.coord x) c c_in
 
-    up_to : (x : V) → Up x → Preimage o L P p q r N D A rows ideal x.0
+    pub up_to : (x : V) → Up x → Preimage o L P p q r N D A rows ideal x.0
     up_to x h =
         let c : ℕ → E = λ l. (b.coord x l).0 in (
           IsTuple-of o L n x,
@@ -274,7 +274,7 @@ module _ {E R : Type 0} (o : Ops E) (L : FieldLaws o) (P : E → Type 0) (p q : 
           ∙ ap (λ (a : Elem o). (D.res a).0) (coord_c l l_in ∙ Elem-path o (c l) (at o weights l, h.elem) refl)
           ∙ h.residue)
 
-    up_from : (x : V) → Preimage o L P p q r N D A rows ideal x.0 → Up x
+    pub up_from : (x : V) → Preimage o L P p q r N D A rows ideal x.0 → Up x
     up_from x h =
         let f = h.1 in (
           comes_in x f.weights f.residues f.tuple f.inside.0 f.combines f.each,

@@ -1,0 +1,239 @@
+-- The polynomials among the fractions, and what is integral at a finite place: the second is carried into the first by
+-- denominators, and the residues are the same. A number that is 0 among the coefficients is 0 among the fractions.
+use Rattle.std.specs.Prelude.{◌≡◌, ◌≢◌, ◌<◌, ◌≤◌, ℕ, List}
+use Rattle.std.proofs.Common.{refl, sym, ◌∙◌, ap, subst, arith, ⊎_elim}
+use Rattle.std.proofs.lemmas.Bool.{cases_lt}
+use Rattle.theory_rings.specs.Ring.{FieldOn, CommRingOn}
+use Rattle.theory_rings.specs.Ops.{Ops, FieldLaws}
+use Rattle.theory_rings.specs.Elements.{Elem, Elem-path, elements}
+use Rattle.theory_rings.specs.Power.{times, times_of}
+use Rattle.theory_rings.specs.Homomorphism.{IsRingHom}
+use Rattle.theory_rings.specs.Polynomial.{Poly, IsMonic, degree, lead}
+use Rattle.theory_rings.specs.Division.{Divides, IsIrreducible}
+use Rattle.theory_rings.specs.Fraction.{IsLowest}
+use Rattle.theory_rings.proofs.Rings.RingLaws.{zero-mul}
+use Rattle.theory_rings.proofs.Rings.Elements.{times_of-elements}
+use Rattle.theory_rings.proofs.Rings.Fields.{mul_left_cancel, mul-inv}
+use Rattle.theory_rings.proofs.Rings.Homomorphisms.{map-zero}
+use Rattle.theory_rings.proofs.Powers.Times.{map-times}
+use Rattle.theory_rings.proofs.Polynomials.PolynomialRing.{constant}
+use Rattle.theory_rings.proofs.Polynomials.Constants.{constant-zero, constant-one, constant_hom}
+use Rattle.theory_rings.proofs.Polynomials.Bezout.{field_polynomials, field_degree-mul, degree_zero_inverse}
+use Rattle.theory_rings.proofs.Polynomials.Irreducible.{irreducible-ne-zero}
+use Rattle.theory_rings.proofs.Rings.RingLaws.{left_ne_zero_of_mul, right_ne_zero_of_mul}
+use Rattle.theory_rings.proofs.Polynomials.ElementLists.{values}
+use Rattle.theory_rings.proofs.Fractions.Fractions.{fraction_of_value, value_same}
+use Rattle.theory_rings.proofs.Fractions.Lowest.{monic_eq_of_divides, polynomial_reduction, rational_functions}
+use Rattle.theory_rings.proofs.Fractions.Lowest.{is_rational_functions}
+use Rattle.theory_lattices.specs.RationalFunctions.{Rational, of_polynomial}
+use Rattle.theory_lattices.proofs.Degree.FractionDegrees.{of_hom, eq_of_value, of-ne-zero}
+use Rattle.theory_fractions.specs.FractionOps.{polynomial_of, rational_function, fraction_ops}
+use Rattle.theory_fractions.specs.FractionLaws.{FractionsAreRational}
+use Rattle.theory_fractions.proofs.RationalFractions.{fractions_are_rational}
+use Rattle.theory_fractions.proofs.FractionField.{rational_function_injective, polynomial_of-values}
+use Rattle.theory_fractions.proofs.ListPolynomials.{IsPolynomialList-values, values_back}
+use Rattle.theory_fractions.specs.CommonDenominator.{as_fraction}
+use Rattle.theory_remainders.specs.RemainderOps.{remainder_ops}
+use Rattle.theory_remainders.proofs.RemainderField.{monic}
+use Rattle.theory_places.specs.Places.{Finite}
+use Rattle.theory_places.specs.Places as rational
+use Rattle.theory_places.specs.FractionPlaces.{IsIntegralAt, IsMonicIrreducible, fractions}
+use Rattle.theory_places.proofs.FractionPlaces.{integral_at, is_place_of}
+use Rattle.theory_places.proofs.Rationals.{inv_value}
+use Rattle.theory_bases.specs.Bases.{IsPolynomialFraction}
+use Rattle.theory_left_orders.specs.FractionResidues.{ResidueRingsBy}
+use Rattle.theory_left_orders.proofs.FractionResidues.{over_one, over_one_is, num_is, poly_of_value, rest, rest_small}
+use Rattle.theory_left_orders.proofs.FractionResidues.{rest_is, poly_loc}
+use Rattle.theory_growth.proofs.Localized.{Multiplier, Localizes}
+
+-- of two monic irreducible polynomials one divides the other only if they are the same
+irreducible_eq_of_divides : {K : Type 0} (F : FieldOn K) (m l : Poly F.cring)
+    → IsMonic F.cring m × IsIrreducible F.cring (field_polynomials F) m
+    → IsMonic F.cring l × IsIrreducible F.cring (field_polynomials F) l
+    → Divides (field_polynomials F) m l → m ≡ l
+irreducible_eq_of_divides F m l hm hl d =
+    let P = field_polynomials F in
+    let c = d.0 in
+    let l_ne = irreducible-ne-zero F l hl.1 in
+    let n : P.◌⊗◌ c m ≢ P.zero = λ e. l_ne (d.1 ∙ e) in
+    let sum = field_degree-mul F c m (left_ne_zero_of_mul P.ring c m n) (right_ne_zero_of_mul P.ring c m n) in
+    let same : degree l.0 ≡ degree (P.◌⊗◌ c m).0 = ap (λ (x : Poly F.cring). degree x.0) d.1 in
+    let pm = hm.1.positive in
+    let large : degree l.0 ≤ degree m.0 = ⊎_elim
+    (λ (g : degree m.0 < degree l.0). absurd (hl.1.no_factors c m (omega arith) g d.1))
+    (λ (g : degree l.0 ≤ degree m.0). g)
+    (cases_lt (degree m.0) (degree l.0)) in
+    let z : degree c.0 ≡ 0 = omega arith in
+    let i = degree_zero_inverse F c (left_ne_zero_of_mul P.ring c m n) z in
+    let inv = constant F.cring F.zero_test (F.inv (lead F.cring c)) in
+    monic_eq_of_divides F m l hm.0 hl.0 d (
+      inv,
+      sym (ap (P.◌⊗◌ inv) d.1 ∙ sym (P.mul_assoc inv c m) ∙ ap (λ x. P.◌⊗◌ x m) i ∙ P.one-mul m),
+    )
+
+module _ {E : Type 0} (o : Ops E) (L : FieldLaws o) (M : FieldLaws (fraction_ops o L)) where
+  infixl 70 ◌⊗◌
+  abbrev F : FieldOn (Elem o)
+  F = elements o L
+
+  abbrev P : CommRingOn (Poly F.cring)
+  P = field_polynomials F
+
+  abbrev Q : FieldOn (Rational F)
+  Q = rational_functions F
+
+  abbrev FE : Type 0
+  FE = Elem (fraction_ops o L)
+
+  abbrev K : FieldOn FE
+  K = fractions o L M
+
+  abbrev ◌⊗◌ : FE → FE → FE
+  ◌⊗◌ = K.◌⊗◌
+
+  abbrev h : FE → Rational F
+  h a = rational_function o L a.0
+
+  abbrev H : FractionsAreRational o L M
+  H = fractions_are_rational o L M
+
+  abbrev of : Poly F.cring → Rational F
+  of = of_polynomial F
+
+  of-hom : IsRingHom P.ring Q.ring of
+  of-hom = of_hom P (IsLowest F.cring P) (polynomial_reduction F) Q (is_rational_functions F)
+
+  h_injective : (a b : FE) → h a ≡ h b → a ≡ b
+  unfolding fraction_ops
+  h_injective a b e = Elem-path (fraction_ops o L) a b (rational_function_injective o L a.0 b.0 a.1 b.1 e)
+
+  -- the characteristic
+  pub fraction_characteristic : (c : ℕ) → times_of o c o.one ≡ o.zero → times K.monoid c K.one ≡ K.zero
+  fraction_characteristic c e =
+      let cst = constant F.cring F.zero_test in
+      let x = times K.monoid c K.one in
+      let none = constant-zero F.cring F.zero_test in
+      let z : times F.monoid c F.one ≡ F.zero =
+      Elem-path o (times F.monoid c F.one) F.zero (sym (times_of-elements o L c F.one) ∙ e) in
+      h_injective x K.zero
+      (map-times K.monoid Q.monoid h (map-zero K.ring Q.ring h H.hom) H.hom.map-add c K.one
+      ∙ ap (times Q.monoid c) (H.hom.map-one ∙ sym of-hom.map-one ∙ ap of (sym (constant-one F.cring F.zero_test)))
+      ∙ sym (map-times F.monoid Q.monoid (λ a. of (cst a))
+      (ap of none ∙ map-zero P.ring Q.ring of of-hom)
+      (λ a b. ap of ((constant_hom F.cring F.zero_test).map-add a b) ∙ of-hom.map-add (cst a) (cst b)) c F.one)
+      ∙ ap (λ a. of (cst a)) z ∙ ap of none ∙ map-zero P.ring Q.ring of of-hom
+      ∙ sym (map-zero K.ring Q.ring h H.hom))
+
+  module _ (m : List E) (s : IsMonicIrreducible o m) where
+    abbrev IsPoly : FE → Type 0
+    IsPoly w = IsPolynomialFraction o w.0
+
+    abbrev IsLoc : FE → Type 0
+    IsLoc w = IsIntegralAt o (Finite m) w.0
+
+    abbrev poly : Poly F.cring
+    poly = polynomial_of o L m
+
+    -- a polynomial as a fraction
+    as_poly : Poly F.cring → FE
+    as_poly v = over_one o L M m s (values o L v.0) (IsPolynomialList-values o L v)
+
+    as_poly_is : (v : Poly F.cring) → h (as_poly v) ≡ of v
+    unfolding as_poly
+    as_poly_is v = over_one_is o L M m s (values o L v.0) (IsPolynomialList-values o L v)
+        ∙ ap of (polynomial_of-values o L v)
+
+    -- a polynomial that m does not divide has an integral inverse
+    module _ (v : Poly F.cring) (off : Divides P poly v → ⊥) where
+      v_ne : v ≡ P.zero → ⊥
+      v_ne e = off (P.zero, e ∙ sym (zero-mul P.ring poly))
+
+      of_ne : of v ≡ Q.zero → ⊥
+      of_ne = of-ne-zero P (IsLowest F.cring P) (polynomial_reduction F) Q (is_rational_functions F) v v_ne
+
+      as_ne : as_poly v ≢ K.zero
+      as_ne e = of_ne (sym (as_poly_is v) ∙ ap h e ∙ map-zero K.ring Q.ring h H.hom)
+
+      inverse_is : h (K.inv (as_poly v)) ≡ Q.inv (of v)
+      inverse_is =
+          let y = K.inv (as_poly v) in
+          mul_left_cancel Q (of v) (h y) (Q.inv (of v)) of_ne
+          (ap (λ z. Q.◌⊗◌ z (h y)) (sym (as_poly_is v)) ∙ sym (H.hom.map-mul (as_poly v) y)
+          ∙ ap h (mul-inv K (as_poly v) as_ne) ∙ H.hom.map-one ∙ sym (mul-inv Q (of v) of_ne))
+
+      inverse_loc : IsLoc (K.inv (as_poly v))
+      inverse_loc =
+          let y = K.inv (as_poly v) in
+          (integral_at o L (Finite m) s y.0 y.1).0 (subst (rational.IsIntegralOff F poly) (sym inverse_is) (
+            P.one,
+            v,
+            inv_value F Q (is_rational_functions F) (of v) v P.one
+                (fraction_of_value P (IsLowest F.cring P) (polynomial_reduction F) v) of_ne,
+            off,
+          ))
+
+      pub off_multiplier : Multiplier (fraction_ops o L) M (IsPolynomialFraction o) (IsIntegralAt o (Finite m))
+      unfolding as_poly
+      off_multiplier = record {
+        u = as_poly v;
+        w = K.inv (as_poly v);
+        u_in = refl;
+        w_in = inverse_loc;
+        inverse = K.inv-mul (as_poly v) as_ne;
+      }
+
+    -- another monic irreducible polynomial as such
+    module _ (l : List E) (sl : IsMonicIrreducible o l) (other : l ≢ m) where
+      v : Poly F.cring
+      v = polynomial_of o L l
+
+      not_divided : Divides P poly v → ⊥
+      unfolding v
+      not_divided d = other
+          (sym (values_back o L l sl.polynomial)
+          ∙ ap (λ (x : Poly F.cring). values o L x.0) (sym (irreducible_eq_of_divides F poly v
+          (is_place_of o L (Finite m) s) (is_place_of o L (Finite l) sl) d))
+          ∙ values_back o L m s.polynomial)
+
+      pub place_multiplier : Multiplier (fraction_ops o L) M (IsPolynomialFraction o) (IsIntegralAt o (Finite m))
+      place_multiplier = off_multiplier v not_divided
+
+      pub place_multiplier-is : place_multiplier.u.0 ≡ as_fraction o l
+      unfolding place_multiplier off_multiplier as_poly v
+      place_multiplier-is = ap (as_fraction o) (values_back o L l sl.polynomial)
+
+    pub localizes : Localizes (fraction_ops o L) M (IsPolynomialFraction o) (IsIntegralAt o (Finite m))
+    unfolding off_multiplier
+    localizes = record {
+      larger = poly_loc o L M m s;
+      clears = λ a i.
+          let t = (integral_at o L (Finite m) s a.0 a.1).1 i in
+          let u = t.0 in
+          let v = t.1 in
+          let x = as_poly v ⊗ a in
+          let y = Q.◌⊗◌ (of v) (h a) in
+          let value = (is_rational_functions F).mul_value (of v) (h a) v P.one u v
+          (fraction_of_value P (IsLowest F.cring P) (polynomial_reduction F) v) t.2 in (
+            off_multiplier v t.3,
+            poly_of_value o L M m s x u (H.hom.map-mul (as_poly v) a ∙ ap (λ z. Q.◌⊗◌ z (h a)) (as_poly_is v)
+                ∙ eq_of_value P (IsLowest F.cring P) (polynomial_reduction F) Q (is_rational_functions F) y u
+                (value_same P (IsLowest F.cring P) (polynomial_reduction F) y (P.◌⊗◌ v u) (P.◌⊗◌ P.one v) u P.one
+                (λ e. v_ne v t.3 (sym (P.one-mul v) ∙ e)) value
+                (P.mul-one (P.◌⊗◌ v u) ∙ P.mul_comm v u ∙ ap (P.◌⊗◌ u) (sym (P.one-mul v))))),
+          );
+    }
+
+    -- the residues
+    module _ (N : FieldLaws (remainder_ops o L m (monic o L m s.irreducible)))
+        (R : ResidueRingsBy o L M m (remainder_ops o L m (monic o L m s.irreducible)) N) where
+      pub residues_agree : (a : FE) → IsPoly a → R.at_place.res a ≡ R.polynomials.res a
+      residues_agree a e =
+          let r = remainder_ops o L m (monic o L m s.irreducible) in
+          let u = a.0.0 in
+          let hu = num_is o L M m s a in
+          let small = rest_small o L M m s u in
+          let is = rest_is o L M m s u hu in
+          let e' = ap (λ v. (u, v)) e in
+          Elem-path r (R.at_place.res a) (R.polynomials.res a)
+          (R.at_place_values.polynomial_value a u (rest o L M m s u) hu e' small is
+          ∙ sym (R.polynomial_values.polynomial_value a u (rest o L M m s u) hu e' small is))

@@ -1,0 +1,36 @@
+// Theorems on the growth of an order at a place.
+ghost use Rattle.theory_rings.specs.Ops.{FieldLaws};
+ghost use Rattle.theory_tables.specs.Structure.{Structure};
+ghost use Rattle.theory_fractions.specs.Fraction.{Pair};
+ghost use Rattle.theory_fractions.specs.FractionOps.{fraction_ops};
+ghost use Rattle.theory_growth.specs.Settled.{SettledWhereNothingGrows};
+ghost use Rattle.theory_growth.specs.Growths.{LeftOrdersAreSteps, StepsKeepOtherPlaces, BoundsExist, GrowthsFall};
+
+use theory_fractions::fraction_laws::ProgramField;
+
+/// An order over the polynomials, in an algebra whose centre is the multiples of one, in a characteristic that does not
+/// divide the dimension: where no maximal ideal over a monic irreducible polynomial m has a larger left order, it is
+/// its own dual for the trace at m if the radical of its residue algebra is 0, and else ramified with the preimage of
+/// this radical.
+pub fn settled_where_nothing_grows<F: ProgramField>()
+    ensures { (M : FieldLaws (fraction_ops F.ops F.laws)) → SettledWhereNothingGrows F.ops F.laws M }
+{}
+
+/// The left order of an ideal of an order Λ over m·Λ, over the polynomials, is an order that holds Λ and that m carries
+/// into Λ.
+pub fn left_orders_are_steps<F: ProgramField>()
+    ensures { (M : FieldLaws (fraction_ops F.ops F.laws)) → LeftOrdersAreSteps F.ops F.laws M }
+{}
+
+/// After any number of such steps the order is the same at each other monic irreducible polynomial.
+pub fn steps_keep_other_places<F: ProgramField>()
+    ensures { (A : Structure (Pair F.Value)) → StepsKeepOtherPlaces F.ops F.laws A }
+{}
+
+/// Where the trace form is nondegenerate, there is a bound on the number of orders that grow one after the other from a
+/// given one at a monic irreducible polynomial. Where the order grows, the bound is at least 1, and one less is a bound
+/// for the larger order.
+pub fn growth_is_bounded<F: ProgramField>()
+    ensures exists { (A : Structure (Pair F.Value)) → BoundsExist F.ops F.laws A }
+    ensures falls { (A : Structure (Pair F.Value)) → GrowthsFall F.ops F.laws A }
+{}
