@@ -6,3 +6,4 @@ pub mod FractionPlaces
 pub mod Settled
 pub mod Elsewhere
 pub mod Bounds
+pub mod Quotients

@@ -1,7 +1,8 @@
 -- From lists to the algebra on tuples of an associative table with an identity: maximal ideals, families of tuples as
 -- rows, and the radical.
-use Rattle.std.specs.Prelude.{◌≡◌, ◌↔◌, ◌<◌, ℕ, zero, suc, Bool, List, [], length, get_or}
+use Rattle.std.specs.Prelude.{◌≡◌, ◌↔◌, ◌⊎◌, ◌<◌, ℕ, zero, suc, Bool, false, IsTrue, List, [], length, get_or}
 use Rattle.std.proofs.Common.{refl, sym, ◌∙◌, ap, subst, inl, inr, ⊎_elim, arith}
+use Rattle.std.proofs.lemmas.Bool.{both_ways}
 use Rattle.theory_rings.specs.Ring.{FieldOn}
 use Rattle.theory_rings.specs.Ops.{Ops, FieldLaws}
 use Rattle.theory_rings.specs.Elements.{Elem, elements}
@@ -11,9 +12,10 @@ use Rattle.theory_spaces.specs.Module.{ModuleOn, AlgebraOn, module_of}
 use Rattle.theory_spaces.specs.Linear.{comb, InSpan}
 use Rattle.theory_spaces.specs.Sets as sets
 use Rattle.theory_spaces.specs.Sets.{Within, Same, Test, Whole, IsIdeal, ring_ops}
-use Rattle.theory_spaces.specs.Tuples.{IsTuple, Tuple, tuple_zero, tuple_add, product, IsTableAlgebra}
+use Rattle.theory_spaces.specs.Tuples.{IsTuple, Tuple, is_tuple, tuple_zero, tuple_add, product, IsTableAlgebra}
 use Rattle.theory_spaces.proofs.Algebras.SetLemmas.{ideal_same, maximal_same}
 use Rattle.theory_spaces.proofs.Linear.Modules.{comb_congr_right}
+use Rattle.theory_spaces.proofs.Linear.SpanTests.{decided}
 use Rattle.theory_spaces.proofs.Tuples.TupleProducts.{tuple_algebra}
 use Rattle.theory_spaces.proofs.Tuples.Tuples.{Tuple-path}
 use Rattle.theory_tables.specs.Matrix.{IsMatrix}
@@ -102,6 +104,48 @@ module _ {E : Type 0} (o : Ops E) (L : FieldLaws o) (T : Structure E) (over : Is
           (λ (w : Within (Test t') J). inl (λ a ta. let h = I.inside a ta in (h, w (tuple a h) ta)))
           (λ (w : Within Whole (Test t')). inr (λ a ta. w (tuple a ta) tt))
           (h.simple.nothing_between t' (ideal_down (Test t) I) (λ x j. above x.0 (to_on J x x.0 refl j)));
+    };
+  }
+
+  -- a test of tuples as one of lists
+  abbrev lifted : (V → Bool) → (a : List E) → (IsTrue (is_tuple o m a) ⊎ (IsTrue (is_tuple o m a) → ⊥)) → Bool
+  lifted t a d = ⊎_elim (λ (h : IsTrue (is_tuple o m a)). t (a, h)) (λ (n : IsTrue (is_tuple o m a) → ⊥). false) d
+
+  abbrev test : (V → Bool) → List E → Bool
+  test t a = lifted t a (decided (is_tuple o m a))
+
+  lifted-at : (t : V → Bool) (x : V) (d : IsTrue (is_tuple o m x.0) ⊎ (IsTrue (is_tuple o m x.0) → ⊥))
+      → lifted t x.0 d ≡ t x
+  lifted-at t x (inl h) = ap t (Tuple-path o L m (x.0, h) x refl)
+  lifted-at t x (inr n) = absurd (n x.1)
+
+  lifted-tuple : (t : V → Bool) (a : List E) (d : IsTrue (is_tuple o m a) ⊎ (IsTrue (is_tuple o m a) → ⊥))
+      → IsTrue (lifted t a d) → IsTrue (is_tuple o m a)
+  lifted-tuple t a (inl h) p = h
+  lifted-tuple t a (inr n) p = absurd (both_ways false refl p)
+
+  test_same : (t : V → Bool) → Same (On (Test t)) (Test (test t))
+  test_same t = (
+    λ a p. let x = tuple a p.0 in subst IsTrue (sym (lifted-at t x (decided (is_tuple o m a)))) p.1,
+    λ a p. let x : V = (a, lifted-tuple t a (decided (is_tuple o m a)) p) in
+        to_on (Test t) x a refl (subst IsTrue (lifted-at t x (decided (is_tuple o m a))) p),
+  )
+
+  pub maximal_down : (C : List E → Type 0) → sets.IsMaximalIdeal (tuple_ops o T) (IsTuple o m) C
+      → IsMaximalIdeal A (λ (x : V). C x.0)
+  maximal_down C h = record {
+    ideal = ideal_down C h.ideal;
+    simple = record {
+      proper = λ w. h.simple.proper (λ a ta. w (tuple a ta) tt);
+      nothing_between = λ t I above.
+          let s = test_same t in
+          ⊎_elim
+          (λ (w : Within (Test (test t)) C). inl (λ x tx. w x.0 (s.0 x.0 (to_on (Test t) x x.0 refl tx))))
+          (λ (w : Within (IsTuple o m) (Test (test t))).
+          inr (λ x _. from_on (Test t) x (s.1 x.0 (w x.0 (of_tuple x)))))
+          (h.simple.nothing_between (test t)
+          (ideal_same (tuple_ops o T) (IsTuple o m) (On (Test t)) (Test (test t)) s (ideal_up (Test t) I))
+          (λ a c. let ta = h.ideal.inside a c in s.0 a (ta, above (tuple a ta) c)));
     };
   }
 

@@ -1,3 +1,4 @@
 pub mod Steps
 pub mod Settled
 pub mod Growths
+pub mod MaximalIdeals

@@ -6,7 +6,8 @@
 // table), theory_orders and theory_residue, and has no code: each public function does nothing, and its contract is a
 // theorem.
 //
-// Read specs/Steps and specs/Settled first, then specs/Growths and growth_laws.
+// Read specs/Steps and specs/Settled first, then specs/Growths, specs/MaximalIdeals and growth_laws.
 #![tactic(auto)]
 
 pub mod growth_laws;
+pub mod ideal_laws;
