@@ -1,7 +1,9 @@
 -- Elements of the lift ring as lists of numbers.
-use Rattle.std.specs.Prelude.{◌≡◌, ℕ, suc, ◌+◌, ◌-◌, ◌*◌, ◌/◌, ◌%◌, ◌<◌, ◌≤◌, List, [], length, get_or, All}
+use Rattle.std.specs.Prelude.{◌≡◌, ◌≢◌, ℕ, suc, ◌+◌, ◌-◌, ◌*◌, ◌/◌, ◌%◌, ◌^◌, ◌<◌, ◌≤◌, List, [], ◌∷◌}
+use Rattle.std.specs.Prelude.{length, get_or, All}
 use Rattle.std.proofs.Common.{sym, ◌∙◌, ap, ap₂, subst, arith}
-use Rattle.std.proofs.Math.Nat.{mod-lt}
+use Rattle.std.proofs.Math.ListN.{get_or-append}
+use Rattle.std.proofs.Math.Nat.{mod-lt, mul-div_cancel}
 use Rattle.std.proofs.lemmas.List.{ext_get_or}
 use Rattle.std.proofs.lemmas.Bool.{ltb-true}
 use Rattle.theory_rings.specs.Ops.{IsElem}
@@ -9,28 +11,29 @@ use Rattle.theory_rings.specs.Digits.{digit}
 use Rattle.theory_rings.specs.Sum.{table}
 use Rattle.theory_rings.specs.IntegersMod.{mod_ops}
 use Rattle.theory_rings.proofs.Numbers.Digits.{digit_lt}
-use Rattle.theory_rings.proofs.Sums.Lists.{length-table, get_or-table, All-table}
+use Rattle.theory_rings.specs.Polynomial.{IsTrimmed}
+use Rattle.theory_rings.proofs.Sums.Lists.{length-table, get_or-table, table_congr, All-table}
 use Rattle.theory_spaces.proofs.Tuples.Tuples.{is_tuple-IsTuple}
 use Rattle.theory_lifts.proofs.ElementLists as lists
 use Rattle.theory_lifts.proofs.ElementLists.{two_le_power, lift_numbers}
 use Rattle.theory_lifts.proofs.ListProducts as products
 use Rattle.spl_field.specs.SmallField.{small_ops, small_laws, modulus_of}
+use Rattle.spl_field.specs.declared.small.SmallField.{SmallField}
+use Rattle.spl_poly.specs.Operations.{IsOver, IsMonicOf}
 use Rattle.spl_residue.specs.Residue.{field_of, polynomial_of, residue_ops}
 use Rattle.spl_residue.specs.declared.field.ResidueField.{ResidueField}
-use Rattle.spl_radical.specs.LiftRing.{small_by_digits, prime_of, degree_of, digits_of, width_of, size_of, LiftNumbers}
-use Rattle.spl_radical.specs.LiftRing.{lifted, ring_of, IsLiftElem, IsLiftSum, IsLiftOf}
+use Rattle.spl_radical.proofs.MonicModulus.{not_empty, monic_coefficient}
+use Rattle.spl_radical.specs.LiftRing.{degree_positive, digits_positive, coefficient_of, small_by_digits, prime_of}
+use Rattle.spl_radical.specs.LiftRing.{degree_of, digits_of, width_of, size_of, LiftNumbers}
+use Rattle.spl_radical.specs.LiftRing.{lifted, ring_of, by_numbers, top_of, IsLiftElem, IsLiftSum, IsLiftOf, AreStepsOf}
+use Rattle.spl_radical.specs.Multiples.{AreTurns}
+use Rattle.spl_radical.proofs.RowSteps.{whole_part, opposites_below}
+use Rattle.spl_radical.proofs.Products.{turns_are}
+use Rattle.theory_chains.specs.NumberRows.{AreNumbers}
 
 module _ (k : ResidueField) where
   degree_is : suc (degree_of k) ≡ length (polynomial_of k)
   degree_is = let f = field_of k in lists.suc_degree (small_ops f) (small_laws f) (polynomial_of k) k.irreducible
-      (prime_of k) f.least (modulus_of f) f.some_number (small_by_digits f)
-
-  degree_positive : degree_of k ≡ suc (degree_of k - 1)
-  degree_positive = let f = field_of k in lists.degree-eq (small_ops f) (small_laws f) (polynomial_of k) k.irreducible
-      (prime_of k) f.least (modulus_of f) f.some_number (small_by_digits f)
-
-  digits_positive : digits_of k ≡ suc (digits_of k - 1)
-  digits_positive = let f = field_of k in lists.digits-eq (small_ops f) (small_laws f) (polynomial_of k) k.irreducible
       (prime_of k) f.least (modulus_of f) f.some_number (small_by_digits f)
 
   pub width_by_length : (length (polynomial_of k) - 1) * digits_of k ≡ width_of k
@@ -38,6 +41,37 @@ module _ (k : ResidueField) where
       let g = degree_is in
       let h : length (polynomial_of k) - 1 ≡ degree_of k = omega arith in
       ap (λ x. x * digits_of k) h
+
+  -- ---- the polynomial, where a program read it
+
+  pub modulus_over : (f : SmallField) (m : List ℕ) → f ≡ field_of k → m ≡ polynomial_of k → IsOver (small_ops f) m
+  modulus_over f m ef em = subst (λ f. IsOver (small_ops f) m) (sym ef)
+      (subst (IsOver (small_ops (field_of k))) (sym em) k.irreducible.polynomial.over)
+
+  pub modulus_not_empty : (m : List ℕ) → m ≡ polynomial_of k → m ≢ []
+  modulus_not_empty m em e = not_empty (small_ops (field_of k)) (small_laws (field_of k)) (polynomial_of k)
+      k.irreducible (sym em ∙ e)
+
+  pub some_digits : (f : SmallField) (m : List ℕ) → f ≡ field_of k → m ≡ modulus_of f → 1 ≤ length m
+  some_digits f m ef em = subst (λ m. 1 ≤ length m) (sym (em ∙ ap modulus_of ef)) (let f = field_of k in f.some_number)
+
+  pub first_turn_is : (f : SmallField) (m monic s r : List ℕ) (p d q w : ℕ) → f ≡ field_of k → m ≡ polynomial_of k
+      → IsMonicOf (small_ops f) m monic → IsOver (small_ops f) monic → IsTrimmed 0 monic → p ≡ prime_of k
+      → d ≡ digits_of k → s ≡ monic
+      → r ≡ table w (λ t. (q - digit p (get_or s (t / d) 0) (t % d) % q) % q)
+      → r ≡ table w (λ t. (q - digit (prime_of k) (coefficient_of k (t / digits_of k)) (t % digits_of k) % q) % q)
+  first_turn_is f m monic s r p d q w ef em h over trimmed ep ed es e =
+      let o = small_ops (field_of k) in
+      let g : IsMonicOf o (polynomial_of k) monic = subst (λ m. IsMonicOf o m monic) em
+      (subst (λ f. IsMonicOf (small_ops f) m monic) ef h) in
+      let v : IsOver o monic = subst (λ f. IsOver (small_ops f) monic) ef over in
+      e ∙ ap (λ s. table w (λ t. (q - digit p (get_or s (t / d) 0) (t % d) % q) % q)) es
+      ∙ ap₂ (λ p d. table w (λ t. (q - digit p (get_or monic (t / d) 0) (t % d) % q) % q)) ep ed
+      ∙ table_congr w (λ t. (q - digit (prime_of k) (get_or monic (t / digits_of k) 0) (t % digits_of k) % q) % q)
+      (λ t. (q - digit (prime_of k) (coefficient_of k (t / digits_of k)) (t % digits_of k) % q) % q)
+      (λ t _. ap (λ x. (q - digit (prime_of k) x (t % digits_of k) % q) % q)
+      (sym (monic_coefficient o (small_laws (field_of k)) (polynomial_of k) k.irreducible monic
+      (record { over = v; trimmed = trimmed }) g (t / digits_of k))))
 
   module _ (l : ℕ) where
     pub two_le_size : 2 ≤ size_of k l
@@ -69,7 +103,7 @@ module _ (k : ResidueField) where
         (modulus_of f) f.some_number (small_by_digits f) (suc l) (two_le_power (prime_of k) l f.least) in
         table_is ((ring_of k l).◌⊕◌ x y) (λ t. (get_or a t 0 + get_or b t 0) % size_of k l) (λ t h.
         sym (products.ent-add (size_of k l) (degree_of k) (digits_of k) (two_le_power (prime_of k) l f.least)
-        (degree_of k - 1) (digits_of k - 1) degree_positive digits_positive (ring_of k l) N.0 x y t h
+        (degree_of k - 1) (digits_of k - 1) (degree_positive k) (digits_positive k) (ring_of k l) N.0 x y t h
         ∙ ap₂ (λ u v. (get_or u t 0 + get_or v t 0) % size_of k l) ea eb))
 
     pub sum_below : (a b : List ℕ)
@@ -132,3 +166,65 @@ module _ (k : ResidueField) where
     pub below_read : (q : ℕ) (a a' : List ℕ) → q ≡ size_of k l → a' ≡ a → IsLiftElem k l a → All (λ x. x < q) a'
     below_read q a a' eq ea h = λ i d s. subst (λ x. get_or x i d < q) (sym ea)
         (subst (λ q. get_or a i d < q) (sym eq) (h.below i d (subst (λ x. i < length x) ea s)))
+
+    -- ---- the numbers of t^d, and of the products of x^e by the powers of t
+
+    pub positive_size : (q : ℕ) → q ≡ size_of k l → 1 ≤ q
+    positive_size q e = let t = two_le_size in omega arith
+
+    pub whole_width : (d w : ℕ) (first : List ℕ) → d ≡ digits_of k → w ≡ width_of k → length first ≡ w → (t : ℕ)
+        → t < length first → t - t % d + (d - 1) < length first
+    whole_width d w first ed ew e t h = whole_part (degree_of k) d (length first) t
+        (e ∙ ew ∙ ap (λ d. degree_of k * d) (sym ed)) (let f = field_of k in let s = f.some_number in omega arith) h
+
+    pub steps_are : (q w : ℕ) (n back first : List ℕ) (turns : List (List ℕ)) → q ≡ size_of k l → w ≡ width_of k
+        → size_of k l ≤ 2 ^ 40 → n ≡ modulus_of (field_of k)
+        → back ≡ table (length n) (λ v. (q - get_or n v 0 % q) % q)
+        → first ≡ table w
+        (λ t. (q - digit (prime_of k) (coefficient_of k (t / digits_of k)) (t % digits_of k) % q) % q)
+        → AreTurns q back first turns (length back) → AreStepsOf k l back turns
+    steps_are q w n back first turns eq ew small en eb ef T = let f = field_of k in
+        let s = size_of k l in
+        let H = by_numbers k l in
+        let two = two_le_power (prime_of k) l f.least in
+        let quotient : width_of k / digits_of k ≡ degree_of k = mul-div_cancel (degree_of k)
+        (let p = digits_positive k in omega arith) in
+        let db : length back ≡ digits_of k = ap length eb
+        ∙ length-table (length n) (λ v. (q - get_or n v 0 % q) % q) ∙ ap length en in
+        let lf : length first ≡ width_of k = ap length ef ∙ length-table w
+        (λ t. (q - digit (prime_of k) (coefficient_of k (t / digits_of k)) (t % digits_of k) % q) % q) ∙ ew in
+        let first_is : first ≡ table (width_of k)
+        (λ t. (s - digit (prime_of k) (coefficient_of k (t / digits_of k)) (t % digits_of k) % s) % s) =
+        ef ∙ ap₂ (λ q w. table w
+        (λ t. (q - digit (prime_of k) (coefficient_of k (t / digits_of k)) (t % digits_of k) % q) % q)) eq ew in
+        let back_is : back ≡ table (digits_of k) (λ v. (s - get_or (modulus_of f) v 0 % s) % s) =
+        eb ∙ ap₂ (λ q n. table (length n) (λ v. (q - get_or n v 0 % q) % q)) eq en in
+        let turn : AreTurns s back first turns (length back) =
+        subst (λ q. AreTurns q back first turns (length back)) eq T in
+        let hb : (v : ℕ) → v < digits_of k → get_or back v 0 ≡ H.0.back v = λ v lv.
+        ap (λ r. get_or r v 0) back_is
+        ∙ get_or-table (digits_of k) (λ v. (s - get_or (modulus_of f) v 0 % s) % s) v 0 lv
+        ∙ ap (λ x. (s - x % s) % s) (sym (get_or-append (modulus_of f) (1 ∷ []) 0 v lv))
+        ∙ sym (H.1 v) in
+        let ht : (v : ℕ) → v < digits_of k → get_or turns v [] ≡ (top_of k l v).0 =
+        turns_are s (degree_of k) (digits_of k) two (degree_of k - 1) (digits_of k - 1) (degree_positive k)
+        (digits_positive k) (ring_of k l) H.0 back first turns db hb lf (λ t lt. ap (λ r. get_or r t 0) first_is
+        ∙ get_or-table (width_of k)
+        (λ t. (s - digit (prime_of k) (coefficient_of k (t / digits_of k)) (t % digits_of k) % s) % s) t 0 lt
+        ∙ sym (H.2 (t / digits_of k) (t % digits_of k))) turn in
+        record {
+          steps = record {
+            positive = omega arith;
+            small = small;
+            digits = omega (arith, f.some_number);
+            height = subst (λ d. 1 ≤ width_of k / d) (sym db) (omega (arith, quotient, degree_positive k));
+            width = subst (λ d. width_of k ≡ width_of k / d * d) (sym db) (ap (λ u. u * digits_of k) (sym quotient));
+            back_numbers = opposites_below s (length back) (λ v. get_or (modulus_of f) v 0) back (omega arith)
+                (back_is ∙ ap (λ n. table n (λ v. (s - get_or (modulus_of f) v 0 % s) % s)) (sym db));
+            count = turn.count;
+            turn_numbers = λ v lv. subst (λ n. AreNumbers s n (get_or turns v [])) lf (turn.numbers v lv);
+          };
+          digits = db;
+          back_numbers = hb;
+          turn_numbers = ht;
+        }

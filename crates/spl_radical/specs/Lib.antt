@@ -1,2 +1,3 @@
 pub mod LiftRing
 pub mod LiftNumbers
+pub mod Multiples

@@ -21,7 +21,7 @@ pub(crate) fn power_of(p: u64, l: u32) -> u64
 }
 
 /// Digit v of a number to the base p.
-fn digit_of(p: u64, number: u64, v: usize) -> u64
+pub(crate) fn digit_of(p: u64, number: u64, v: usize) -> u64
     requires { 2 ≤ p }
     ensures { result ≡ digit p number v }
 {
@@ -33,7 +33,7 @@ fn digit_of(p: u64, number: u64, v: usize) -> u64
 }
 
 /// The coefficient of the power u, and 0 past the end.
-fn coefficient(a: &[u8], u: usize) -> u64
+pub(crate) fn coefficient(a: &[u8], u: usize) -> u64
     ensures { result ≡ get_or a.now u 0 }
 {
     if u < a.len() { u64::from(a[u]) } else { 0 }

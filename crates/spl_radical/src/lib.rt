@@ -1,4 +1,4 @@
-// The lift ring of a residue field on lists of numbers: the ring, the lifts of elements, and sums.
+// The lift ring of a residue field on lists of numbers: the ring, the lifts of elements, sums and products.
 //
 // It stands on spl_residue, and on theory_lifts, where such a ring is made for each residue field and each power of the
 // characteristic. Read `specs/LiftRing.antt` first, then `LiftRing`.
@@ -6,3 +6,6 @@
 
 mod digits;
 pub mod lift_ring;
+mod multiples;
+mod rows;
+mod turns;

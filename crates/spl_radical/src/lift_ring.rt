@@ -1,11 +1,18 @@
 // The lift ring of a residue field.
-ghost use Rattle.std.specs.Prelude.{◌≡◌, ◌<◌, ◌≤◌, ◌^◌, All, IfOk};
+ghost use Rattle.std.specs.Prelude.{◌≡◌, ◌-◌, ◌*◌, ◌/◌, ◌%◌, ◌<◌, ◌≤◌, ◌^◌, length, All, IfOk};
 ghost use Rattle.theory_rings.specs.Ops.{IsElem};
+ghost use Rattle.theory_rings.specs.Digits.{digit};
+ghost use Rattle.theory_rings.specs.Sum.{table};
+ghost use Rattle.theory_chains.specs.NumberRows.{AreRows};
 ghost use Rattle.spl_residue.specs.Residue.{residue_ops};
-ghost use Rattle.spl_radical.specs.LiftRing.{prime_of, size_of, digits_of, width_of};
-ghost use Rattle.spl_radical.specs.LiftRing.{IsLiftElem, IsLiftSum, IsLiftOf};
+ghost use Rattle.spl_radical.specs.LiftRing.{prime_of, size_of, digits_of, width_of, coefficient_of, AreStepsOf};
+ghost use Rattle.spl_radical.specs.LiftRing.{AreColumns};
+ghost use Rattle.spl_radical.specs.LiftRing.{IsLiftElem, IsLiftSum, IsLiftProduct, IsLiftOf};
 
 use crate::digits::{digits_of, power_of, sums_of};
+use crate::multiples::multiples;
+use crate::rows::{columns_of, combination};
+use crate::turns::{back_of, first_turn, turns_of};
 use spl_field::field::NoMemory;
 use spl_field::list::List;
 use spl_residue::elem::ResidueElem;
@@ -28,6 +35,9 @@ pub struct LiftRing<'k> {
     ghost small: { modulus ≤ 2 ^ 40 },
     ghost digits_is: { digits ≡ digits_of field.now },
     ghost width_is: { width ≡ width_of field.now },
+    back: List<u64>,
+    turns: List<List<u64>>,
+    ghost steps: { AreStepsOf field.now l back turns },
 }
 
 /// An element of a lift ring, by its numbers below p^(l + 1): number u·d + v is the coefficient at x^u·t^v. Of which
@@ -60,11 +70,28 @@ impl LiftElem {
     }
 }
 
+/// The numbers of x^e: the opposites modulo q of the digits of the coefficients of the polynomial, made monic.
+fn first_turn_of(
+    alloc: Global,
+    k: &ResidueField,
+    q: u64,
+    width: usize,
+) -> Result<List<u64>, NoMemory>
+    requires { 1 ≤ q }
+    ensures { IfOk result (λ r. r ≡ table width (λ t.
+        (q - digit (prime_of k.now) (coefficient_of k.now (t / digits_of k.now)) (t % digits_of k.now) % q) % q)) }
+{
+    let f = k.field();
+    let monic = k.modulus().monic(alloc, f)?;
+    let digits = f.modulus().len();
+    Ok(first_turn(alloc, q, u64::from(f.p()), digits, width, monic.as_slice())?)
+}
+
 impl<'k> LiftRing<'k> {
     ghost use Rattle.spl_radical.specs.LiftNumbers.{residues_of, level_of};
 
     /// The lift ring of k with the integers modulo p^(l + 1). The one fault is want of memory.
-    pub fn new(_alloc: Global, k: &'k ResidueField, l: u32) -> Result<LiftRing<'k>, NoMemory>
+    pub fn new(alloc: Global, k: &'k ResidueField, l: u32) -> Result<LiftRing<'k>, NoMemory>
         requires { size_of k.now l ≤ 2 ^ 40 }
         ensures field { IfOk result (λ r. residues_of r ≡ k.now) }
         ensures level { IfOk result (λ r. level_of r ≡ l) }
@@ -76,13 +103,37 @@ impl<'k> LiftRing<'k> {
         let Some(width) = degree.checked_mul(digits) else {
             return Err(NoMemory::from(AllocError));
         };
+        let back = back_of(alloc, modulus, f.modulus())?;
+        let first = first_turn_of(alloc, k, modulus, width)?;
+        let turns = turns_of(alloc, modulus, back.as_slice(), first)?;
         Ok(LiftRing {
             field: k,
             l,
             modulus,
             digits,
             width,
+            back,
+            turns,
         })
+    }
+
+    /// The columns by which rows of elements are multiplied by the matrix with these rows of elements, which has n
+    /// numbers in a row. The one fault is want of memory.
+    pub(crate) fn columns(
+        &self,
+        alloc: Global,
+        rows: &[List<u64>],
+        n: usize,
+    ) -> Result<List<List<u64>>, NoMemory>
+        requires rows { AreRows (size_of (residues_of self.now) (level_of self.now))
+            (length rows.now * width_of (residues_of self.now)) rows.now }
+        requires count { n ≡ length rows.now * width_of (residues_of self.now) }
+        ensures { IfOk result (AreColumns (residues_of self.now) (level_of self.now) rows.now) }
+    {
+        let back = self.back.as_slice();
+        let turns = self.turns.as_slice();
+        let all = multiples(alloc, self.modulus, self.width, back, turns, rows, n)?;
+        Ok(columns_of(alloc, all.as_slice(), n)?)
     }
 
     /// The lift of an element whose numbers are from 0 to p − 1, which are the digits of its coefficients. The one
@@ -107,6 +158,20 @@ impl<'k> LiftRing<'k> {
         ensures value { IfOk result (IsLiftSum (residues_of self.now) (level_of self.now) a.now b.now) }
     {
         let numbers = sums_of(alloc, self.modulus, a.numbers(), b.numbers())?;
+        Ok(LiftElem { numbers })
+    }
+
+    /// The product. The one fault is want of memory.
+    pub fn mul(&self, alloc: Global, a: &LiftElem, b: &LiftElem) -> Result<LiftElem, NoMemory>
+        requires left { IsLiftElem (residues_of self.now) (level_of self.now) a.now }
+        requires right { IsLiftElem (residues_of self.now) (level_of self.now) b.now }
+        ensures elem { IfOk result (IsLiftElem (residues_of self.now) (level_of self.now)) }
+        ensures value { IfOk result (IsLiftProduct (residues_of self.now) (level_of self.now) a.now b.now) }
+    {
+        let mut rows = List::new(alloc);
+        rows.push(List::from_slice(alloc, b.numbers())?)?;
+        let columns = self.columns(alloc, rows.as_slice(), self.width)?;
+        let numbers = combination(alloc, self.modulus, a.numbers(), columns.as_slice())?;
         Ok(LiftElem { numbers })
     }
 }
