@@ -1,2 +1,5 @@
 pub mod Chains
 pub mod NumberRows
+pub mod LiftedRoots
+pub mod PivotTuples
+pub mod DividedNumbers

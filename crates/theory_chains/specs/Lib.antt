@@ -2,3 +2,4 @@ pub mod Radical
 pub mod NumberRows
 pub mod Members
 pub mod ElementLifts
+pub mod PivotItems
