@@ -1,15 +1,16 @@
 -- Products with a basis element item by item; left multiplications and the trace form as sums of constants.
-use Rattle.std.specs.Prelude.{◌≡◌, ℕ, ◌+◌, ◌*◌, ◌<◌, List, drop, All}
+use Rattle.std.specs.Prelude.{◌≡◌, ℕ, ◌+◌, ◌*◌, ◌<◌, List, [], drop, All}
 use Rattle.std.proofs.Common.{refl, sym, ◌∙◌, ap, ap₂, subst, arith}
 use Rattle.std.proofs.Math.Nat as nat
 use Rattle.theory_rings.specs.Ops.{Ops, IsElem, FieldLaws}
 use Rattle.theory_rings.specs.Sum.{at, sum_of, table}
-use Rattle.theory_rings.proofs.Sums.Lists.{table_congr, All-table}
+use Rattle.theory_rings.proofs.Sums.Lists.{table_congr, All-table, get_or-table}
 use Rattle.theory_rings.proofs.Rings.Elements.{at-elem, sum_of-elem, sum_of_congr}
 use Rattle.theory_spaces.specs.Tuples.{product, basis, constant}
 use Rattle.theory_spaces.proofs.Tuples.Tuples.{at-table}
 use Rattle.theory_spaces.proofs.Tuples.TupleProducts.{product_basis}
 use Rattle.theory_tables.proofs.Rows.Sums.{sum_of_comm, mul-sum_of}
+use Rattle.theory_tables.specs.Matrix.{entry}
 use Rattle.theory_tables.specs.Structure.{Structure}
 use Rattle.theory_tables.specs.Traces.{left_matrix, trace, trace_matrix}
 use Rattle.spl_algebra.specs.Products.{sum_of_rows}
@@ -28,7 +29,10 @@ last_place r j l m = omega (arith, nat.add-mul (l * m) j m, nat.mul_assoc l m m)
 pub first_place : (r j l m : ℕ) → r * (m * m) + j * m + l * 1 ≡ (r * m + j) * m + l
 first_place r j l m = omega (arith, nat.add-mul (r * m) j m, nat.mul_assoc r m m)
 
--- so all places of the two matrices are within the constants; n, d and m are the same number
+pub middle_place : (r j l m : ℕ) → r * m + j * (m * m) + l * 1 ≡ (j * m + r) * m + l
+middle_place r j l m = omega (arith, nat.add-mul (j * m) r m, nat.mul_assoc j m m)
+
+-- so all places of the matrices are within the constants; n, d and m are the same number
 pub last_within : (n d m k : ℕ) → n ≡ m → d ≡ m → k ≡ m * m * m → (r j l : ℕ) → r < n → j < n → l < n
     → r * 1 + j * d + l * (d * d) < k
 last_within n d m k en ed long r j l r_in j_in l_in =
@@ -42,6 +46,13 @@ first_within n d m k en ed long r j l r_in j_in l_in =
     let e : r * (d * d) + j * d + l * 1 ≡ (r * m + j) * m + l = ap (λ x. r * (x * x) + j * x + l * 1) ed
     ∙ first_place r j l m in
     subst (λ p. p < k) (sym e) (constant_within r j l m k (omega arith) (omega arith) (omega arith) long)
+
+pub middle_within : (n d m k : ℕ) → n ≡ m → d ≡ m → k ≡ m * m * m → (r j l : ℕ) → r < n → j < n → l < n
+    → r * d + j * (d * d) + l * 1 < k
+middle_within n d m k en ed long r j l r_in j_in l_in =
+    let e : r * d + j * (d * d) + l * 1 ≡ (j * m + r) * m + l = ap (λ x. r * x + j * (x * x) + l * 1) ed
+    ∙ middle_place r j l m in
+    subst (λ p. p < k) (sym e) (constant_within j r l m k (omega arith) (omega arith) (omega arith) long)
 
 module _ {E : Type 0} (o : Ops E) (L : FieldLaws o) (m : ℕ) (cs : List E) (constants : All (IsElem o) cs) where
   abbrev A : Structure E
@@ -134,3 +145,25 @@ module _ {E : Type 0} (o : Ops E) (L : FieldLaws o) (m : ℕ) (cs : List E) (con
   contraction-form_of n d s k en ed es ek =
       ap₂ (λ x y. contraction o x s k (y * y) y 1) en ed ∙ ap (λ y. contraction o m s y (m * m) m 1) ek
       ∙ contraction-form s es
+
+  pub contraction-values : (w : List E) (i j : ℕ) → i < m → j < m
+      → entry o (contraction o m w cs m (m * m) 1) j i
+      ≡ sum_of o m (λ k. o.mul (at o w k) (at o (product o m cs (basis o m i) (basis o m j)) k))
+  contraction-values w i j i_in j_in =
+      let row : ℕ → List E = λ r. table m (λ i. contracted o m w cs (r * m + i * (m * m)) 1) in
+      ap (λ xs. at o xs i) (get_or-table m row j [] j_in)
+      ∙ at-table o m (λ i. contracted o m w cs (j * m + i * (m * m)) 1) i i_in
+      ∙ sum_of_congr o m (λ k. o.mul (at o w k) (at o cs (j * m + i * (m * m) + k * 1)))
+      (λ k. o.mul (at o w k) (at o (product o m cs (basis o m i) (basis o m j)) k))
+      (λ k k_in. ap (o.mul (at o w k)) (ap (at o cs) (middle_place j i k m)
+      ∙ sym (ap (λ xs. at o xs k) (product_basis o L m cs constants i j i_in j_in)
+      ∙ at-table o m (constant o m cs i j) k k_in)))
+
+  -- the same of what a program has read
+  pub contraction-values_of : (n d : ℕ) (s w k : List E) → n ≡ m → d ≡ m → s ≡ w → k ≡ cs → (i j : ℕ) → i < m → j < m
+      → entry o (contraction o n s k d (d * d) 1) j i
+      ≡ sum_of o m (λ k. o.mul (at o w k) (at o (product o m cs (basis o m i) (basis o m j)) k))
+  contraction-values_of n d s w k en ed es ek i j i_in j_in =
+      ap (λ rows. entry o rows j i) (ap₂ (λ x y. contraction o x s k y (y * y) 1) en ed
+      ∙ ap₂ (λ x y. contraction o m x y m (m * m) 1) es ek)
+      ∙ contraction-values w i j i_in j_in

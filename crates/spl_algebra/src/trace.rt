@@ -1,11 +1,11 @@
 // Left multiplication and the trace form.
 ghost use Rattle.std.specs.Prelude.{◌≡◌, ◌+◌, ◌*◌, ◌^◌, ◌<◌, ℕ, IfOk, length, All};
 ghost use Rattle.theory_rings.specs.Ops.{IsElem};
-ghost use Rattle.theory_rings.specs.Sum.{table};
+ghost use Rattle.theory_rings.specs.Sum.{sum_of, table, at};
 ghost use Rattle.theory_spaces.specs.Tuples.{IsTuple};
-ghost use Rattle.theory_tables.specs.Matrix.{IsMatrix};
+ghost use Rattle.theory_tables.specs.Matrix.{IsMatrix, entry};
 ghost use Rattle.theory_tables.specs.Traces.{left_matrix, trace_matrix};
-ghost use Rattle.theory_tables.specs.Structure.{IsOver, IsElement};
+ghost use Rattle.theory_tables.specs.Structure.{IsOver, IsElement, basis_of, product_of};
 ghost use Rattle.spl_algebra.specs.Contractions.{contracted_row, contraction, basis_trace};
 
 use crate::algebra::Algebra;
@@ -134,5 +134,22 @@ impl<F: Field> Algebra<F> {
         let constants = self.constants();
         let traces = basis_traces_of(alloc, f, m, constants)?;
         contraction_of(alloc, f, traces.as_slice(), constants, m * m, m, 1)
+    }
+
+    /// The matrix of the form that takes a and b to the sum of the products of the items of w and of a·b, m by m: its
+    /// value at b_i and b_j stands in row j and column i.
+    pub fn form(&self, alloc: Global, f: &F, w: &Vector<F>) -> Result<Matrix<F>, NoMemory>
+        requires over { IsOver (F.ops f.now) self.now }
+        requires tuple { IsElement (F.ops f.now) self.now w.now }
+        ensures shape { IfOk result (IsMatrix (F.ops f.now) self.now.dim) }
+        ensures height { IfOk result (λ r. length r ≡ self.now.dim) }
+        ensures value { IfOk result (λ r. (i j : ℕ) → i < self.now.dim → j < self.now.dim →
+            entry (F.ops f.now) r j i ≡ sum_of (F.ops f.now) self.now.dim (λ k. (F.ops f.now).mul (at (F.ops f.now)
+            w.now k) (at (F.ops f.now) (product_of (F.ops f.now) self.now
+            (basis_of (F.ops f.now) self.now i) (basis_of (F.ops f.now) self.now j)) k))) }
+    {
+        let m = self.dim();
+        let constants = self.constants();
+        contraction_of(alloc, f, w.as_slice(), constants, m, m * m, 1)
     }
 }
