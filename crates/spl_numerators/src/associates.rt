@@ -13,8 +13,8 @@ use spl_poly::poly::Poly;
 use std::alloc::Global;
 use std::cmp::Ordering;
 
-/// sum + a·b; a factor 0 costs no product.
-fn add_product(
+/// sum + a·b; a factor 0 costs no product. The one fault is want of memory.
+pub fn add_product(
     alloc: Global,
     f: &SmallField,
     sum: Poly,

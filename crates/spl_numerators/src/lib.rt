@@ -7,7 +7,7 @@
 // specs/Residues.antt, then `numerators_of` and `first_failed_triple`.
 #![tactic(auto)]
 
-mod associates;
+pub mod associates;
 pub mod numerators;
 mod residues;
 pub mod triple;

@@ -3,3 +3,8 @@ pub mod BasisRows
 pub mod BasisSteps
 pub mod MappedRows
 pub mod SwappedTuples
+pub mod Values
+pub mod ExactQuotients
+pub mod Contents
+pub mod RowBases
+pub mod LatticeBases

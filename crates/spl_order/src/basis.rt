@@ -25,8 +25,8 @@ use std::marker::Model;
 /// combinations with polynomials. Contracts see it as the denominator and the rows, of which `tuples_of` makes the
 /// tuples; that these are a basis is a condition of the calls that take it (`IsBasis`).
 pub struct Basis {
-    denominator: Poly,
-    numerators: PolyMatrix,
+    pub(crate) denominator: Poly,
+    pub(crate) numerators: PolyMatrix,
 }
 
 // (one proof for all functions that drop a basis, in place of one in each)

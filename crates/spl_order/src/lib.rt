@@ -7,6 +7,9 @@
 
 pub mod basis;
 mod copies;
+mod denominators;
 mod fractions;
+mod lattice_bases;
+mod matrices;
 mod numerators;
 pub mod swap;
