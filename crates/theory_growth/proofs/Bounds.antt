@@ -3,7 +3,7 @@ use Rattle.std.specs.Prelude.{◌≡◌, ◌<◌, ◌≤◌, ◌+◌, ℕ, zero,
 use Rattle.std.proofs.Common.{refl, sym, ◌∙◌, ap, subst, arith, ⊎_elim}
 use Rattle.theory_rings.specs.Ring.{FieldOn}
 use Rattle.theory_rings.specs.Ops.{Ops, FieldLaws}
-use Rattle.theory_rings.specs.Elements.{Elem, elements}
+use Rattle.theory_rings.specs.Elements.{Elem, Elem-path, elements}
 use Rattle.theory_spaces.specs.Module.{AlgebraOn, module_of}
 use Rattle.theory_spaces.specs.Linear.{Basis}
 use Rattle.theory_spaces.specs.Algebra.{Nondegenerate}
@@ -47,6 +47,11 @@ use Rattle.theory_growth.proofs.FractionPlaces.{localizes, residues_agree}
 use Rattle.theory_growth.proofs.Vectors as vectors
 
 -- ---- orders at a valuation ring
+
+-- vectors that span an order, as the members of a set
+abbrev pub OrderOn : {K V : Type 0} (F : FieldOn K) → ValuationOn F → (A : AlgebraOn F.ring V) → ℕ → (V → Type 0)
+    → Type 0
+OrderOn F Z A n T = (w : ℕ → _) × IsOrderAt F Z A n w × Same (Lattice F Z A n w) T
 
 module _ {K V : Type 0} (F : FieldOn K) (Z : ValuationOn F) (A : AlgebraOn F.ring V) (n : ℕ)
     (B : Basis (module_of A) n) (non : Nondegenerate A n B) where
@@ -95,13 +100,9 @@ module _ {K V : Type 0} (F : FieldOn K) (Z : ValuationOn F) (A : AlgebraOn F.rin
         ))
         (lattice_within F Z (module_of A) n (coords_of (module_of A) n B) n d n v)
 
-  -- vectors that span an order, as the members of a set
-  abbrev OrderOn : (V → Type 0) → Type 0
-  OrderOn T = (w : ℕ → V) × IsOrderAt F Z A n w × Same (Lat w) T
-
   -- after k growths there are chains of length 2·k
   long_chain : (k : ℕ) (v : ℕ → V) → IsOrderAt F Z A n v → (T : ℕ → V → Type 0) → Same (Lat v) (T 0)
-      → ((i : ℕ) → i < k → OrderOn (T (suc i))) → ((i : ℕ) → i < k → ProperlyWithin (T i) (T (suc i)))
+      → ((i : ℕ) → i < k → OrderOn F Z A n (T (suc i))) → ((i : ℕ) → i < k → ProperlyWithin (T i) (T (suc i)))
       → (l : ℕ) × (k + k ≤ l) × LatticeChain F Z A l (Lat v) (Star (Lat v))
   long_chain zero v O T same each rises = let c = some_chain v O in (c.0, omega arith, c.1)
   long_chain (suc k) v O T same each rises =
@@ -118,7 +119,8 @@ module _ {K V : Type 0} (F : FieldOn K) (Z : ValuationOn F) (A : AlgebraOn F.rin
   module _ (p q : K) (U : UniformizerOn F Z p q) (v : ℕ → V) (O : IsOrderAt F Z A n v) where
     -- growths from an order are bounded
     pub growths_bounded : (b : ℕ) × ((k : ℕ) (T : ℕ → V → Type 0) → Same (Lat v) (T 0)
-        → ((i : ℕ) → i < k → OrderOn (T (suc i))) → ((i : ℕ) → i < k → ProperlyWithin (T i) (T (suc i))) → k ≤ b)
+        → ((i : ℕ) → i < k → OrderOn F Z A n (T (suc i)))
+        → ((i : ℕ) → i < k → ProperlyWithin (T i) (T (suc i))) → k ≤ b)
     growths_bounded =
         let h = length_bounded F Z p q U A n B non v O.independent in (
           h.0,
@@ -198,7 +200,7 @@ module _ {E : Type 0} (o : Ops E) (L : FieldLaws o) (A : Structure (Pair E)) (ov
           (subst (λ (c : Elem k). IsP c.0) (bs.coord-scale R.p y i)
           (coord_member KF (λ c. IsP c.0) R.p q (elements r N) D M' A.dim bs z there i l)))))
 
-  module _ (non : IsNondegenerate k A) (tuples : List (List (Pair E)))
+  module _ (tuples : List (List (Pair E)))
       (O : SpanOrder k A (IsPolynomialFraction o) tuples) where
     abbrev one : List (Pair E)
     one = O.one
@@ -206,11 +208,18 @@ module _ {E : Type 0} (o : Ops E) (L : FieldLaws o) (A : Structure (Pair E)) (ov
     abbrev Al : AlgebraOn KF.ring (Tuple k A.dim)
     Al = algebra k M A over.of_elements assoc one O.is_one
 
-    V : FractionPlaceValuation o L M (Finite m)
+    pub V : FractionPlaceValuation o L M (Finite m)
     V = fraction_places o L M (Finite m) s
 
-    nondegenerate : Nondegenerate Al A.dim (table_basis k M A over.of_elements assoc one O.is_one)
-    nondegenerate = record {
+    -- m is a uniformizer there
+    pub uniformizer : UniformizerOn KF V.valuation R.p q
+    unfolding V
+    uniformizer = subst (λ x. UniformizerOn KF V.valuation x (KF.inv x)) (Elem-path k V.p R.p (V.p_is ∙ sym R.p_is))
+        V.uniformizer
+
+    nondegenerate : IsNondegenerate k A
+        → Nondegenerate Al A.dim (table_basis k M A over.of_elements assoc one O.is_one)
+    nondegenerate non = record {
       only_zero = λ x h.
           let is = algebra_is k M A over.of_elements assoc one O.is_one in
           Tuple-path k M A.dim x Al.zero (non x.0 (record {
@@ -233,11 +242,11 @@ module _ {E : Type 0} (o : Ops E) (L : FieldLaws o) (A : Structure (Pair E)) (ov
         ∙ product-one k M A.dim cs over.of_elements G.one G.is_one one O.is_one.tuple in
         subst (λ u. IsOrder (tuple_ops k A) u (PolynomialLattice o L A a)) e G.order)
 
-    abbrev At : List (List (Pair E)) → Tuple k A.dim → Type 0
+    abbrev pub At : List (List (Pair E)) → Tuple k A.dim → Type 0
     At a x = TupleLattice k P A.dim a x.0
 
-    order_on : (a : List (List (Pair E))) → SpanOrder k A (IsPolynomialFraction o) a
-        → OrderOn KF V.valuation Al A.dim (table_basis k M A over.of_elements assoc one O.is_one) nondegenerate (At a)
+    pub order_on : (a : List (List (Pair E))) → SpanOrder k A (IsPolynomialFraction o) a
+        → OrderOn KF V.valuation Al A.dim (At a)
     order_on a G = (
       row k M A.dim a G.basis.shape,
       vectors.order_at k M P V.valuation V.tells A over assoc one O.is_one a G.basis (order_here a G),
@@ -248,7 +257,7 @@ module _ {E : Type 0} (o : Ops E) (L : FieldLaws o) (A : Structure (Pair E)) (ov
     )
 
     -- a growth over the polynomials is one at the place
-    rises : (a b : List (List (Pair E))) → SpanOrder k A (IsPolynomialFraction o) a → IsGrowth o L A m a b
+    pub rises : (a b : List (List (Pair E))) → SpanOrder k A (IsPolynomialFraction o) a → IsGrowth o L A m a b
         → ProperlyWithin (At a) (At b)
     rises a b G g = (
       λ x h.
@@ -261,11 +270,18 @@ module _ {E : Type 0} (o : Ops E) (L : FieldLaws o) (A : Structure (Pair E)) (ov
       λ w. not_at_place one O.is_one a b G.basis g (λ x h. w (as_tuple k M A.dim x h.0) h),
     )
 
-    pub bound : (b : ℕ) × GrowthBound o L A m tuples b
-    bound =
+    -- the orders of a sequence
+    pub all_orders : (c : ℕ) (t : ℕ → List (List (Pair E))) → t 0 ≡ tuples
+        → ((i : ℕ) → i < c → IsGrowth o L A m (t i) (t (suc i)))
+        → (i : ℕ) → i < suc c → SpanOrder k A (IsPolynomialFraction o) (t i)
+    all_orders c t e each zero l = subst (SpanOrder k A (IsPolynomialFraction o)) (sym e) O
+    all_orders c t e each (suc i) l = (each i (omega arith)).step.order
+
+    pub bound : IsNondegenerate k A → (b : ℕ) × GrowthBound o L A m tuples b
+    bound non =
         let B0 = table_basis k M A over.of_elements assoc one O.is_one in
         let start = order_on tuples O in
-        let h = growths_bounded KF V.valuation Al A.dim B0 nondegenerate V.p (KF.inv V.p) V.uniformizer start.0
+        let h = growths_bounded KF V.valuation Al A.dim B0 (nondegenerate non) V.p (KF.inv V.p) V.uniformizer start.0
         start.1 in (
           h.0,
           λ c t e each.
@@ -275,13 +291,7 @@ module _ {E : Type 0} (o : Ops E) (L : FieldLaws o) (A : Structure (Pair E)) (ov
               (λ i l. order_on (t (suc i)) (each i l).step.order)
               (λ i l. rises (t i) (t (suc i)) (orders i (omega arith)) (each i l)),
         )
-      where
-        all_orders : (c : ℕ) (t : ℕ → List (List (Pair E))) → t 0 ≡ tuples
-            → ((i : ℕ) → i < c → IsGrowth o L A m (t i) (t (suc i)))
-            → (i : ℕ) → i < suc c → SpanOrder k A (IsPolynomialFraction o) (t i)
-        all_orders c t e each zero l = subst (SpanOrder k A (IsPolynomialFraction o)) (sym e) O
-        all_orders c t e each (suc i) l = (each i (omega arith)).step.order
 
 module _ {E : Type 0} (o : Ops E) (L : FieldLaws o) (A : Structure (Pair E)) where
   pub bounds_exist : BoundsExist o L A
-  bounds_exist over assoc non m s tuples O = bound o L A over assoc m s non tuples O
+  bounds_exist over assoc non m s tuples O = bound o L A over assoc m s tuples O non

@@ -1,12 +1,12 @@
 -- The polynomials among the fractions, and what is integral at a finite place: the second is carried into the first by
 -- denominators, and the residues are the same. A number that is 0 among the coefficients is 0 among the fractions.
-use Rattle.std.specs.Prelude.{◌≡◌, ◌≢◌, ◌<◌, ◌≤◌, ℕ, List}
-use Rattle.std.proofs.Common.{refl, sym, ◌∙◌, ap, subst, arith, ⊎_elim}
+use Rattle.std.specs.Prelude.{◌≡◌, ◌≢◌, ◌<◌, ◌≤◌, ℕ, zero, suc, List, []}
+use Rattle.std.proofs.Common.{refl, sym, ◌∙◌, ap, ap₂, subst, arith, ⊎_elim}
 use Rattle.std.proofs.lemmas.Bool.{cases_lt}
 use Rattle.theory_rings.specs.Ring.{FieldOn, CommRingOn}
 use Rattle.theory_rings.specs.Ops.{Ops, FieldLaws}
 use Rattle.theory_rings.specs.Elements.{Elem, Elem-path, elements}
-use Rattle.theory_rings.specs.Power.{times, times_of}
+use Rattle.theory_rings.specs.Power.{power, times, times_of}
 use Rattle.theory_rings.specs.Homomorphism.{IsRingHom}
 use Rattle.theory_rings.specs.Polynomial.{Poly, IsMonic, degree, lead}
 use Rattle.theory_rings.specs.Division.{Divides, IsIrreducible}
@@ -19,7 +19,12 @@ use Rattle.theory_rings.proofs.Powers.Times.{map-times}
 use Rattle.theory_rings.proofs.Polynomials.PolynomialRing.{constant}
 use Rattle.theory_rings.proofs.Polynomials.Constants.{constant-zero, constant-one, constant_hom}
 use Rattle.theory_rings.proofs.Polynomials.Bezout.{field_polynomials, field_degree-mul, degree_zero_inverse}
-use Rattle.theory_rings.proofs.Polynomials.Irreducible.{irreducible-ne-zero}
+use Rattle.theory_rings.proofs.Polynomials.Irreducible.{irreducible-ne-zero, divides_or}
+use Rattle.theory_rings.proofs.Polynomials.Irreducible.{degree_le_of_divides}
+use Rattle.theory_rings.proofs.Rings.Solver.{◌⊠◌, ring3, ring4}
+use Rattle.theory_spaces.specs.Lattice.{IsSubring}
+use Rattle.theory_remainders.proofs.RemainderField.{is_remainder-nil}
+use Rattle.theory_fractions.proofs.ListPolynomials.{degree-polynomial_of}
 use Rattle.theory_rings.proofs.Rings.RingLaws.{left_ne_zero_of_mul, right_ne_zero_of_mul}
 use Rattle.theory_rings.proofs.Polynomials.ElementLists.{values}
 use Rattle.theory_rings.proofs.Fractions.Fractions.{fraction_of_value, value_same}
@@ -27,10 +32,11 @@ use Rattle.theory_rings.proofs.Fractions.Lowest.{monic_eq_of_divides, polynomial
 use Rattle.theory_rings.proofs.Fractions.Lowest.{is_rational_functions}
 use Rattle.theory_lattices.specs.RationalFunctions.{Rational, of_polynomial}
 use Rattle.theory_lattices.proofs.Degree.FractionDegrees.{of_hom, eq_of_value, of-ne-zero}
+use Rattle.theory_fractions.specs.PolynomialLists.{IsPolynomialList}
 use Rattle.theory_fractions.specs.FractionOps.{polynomial_of, rational_function, fraction_ops}
 use Rattle.theory_fractions.specs.FractionLaws.{FractionsAreRational}
 use Rattle.theory_fractions.proofs.RationalFractions.{fractions_are_rational}
-use Rattle.theory_fractions.proofs.FractionField.{rational_function_injective, polynomial_of-values}
+use Rattle.theory_fractions.proofs.FractionField.{rational_function_injective, polynomial_of-values, polynomial_of-nil}
 use Rattle.theory_fractions.proofs.ListPolynomials.{IsPolynomialList-values, values_back}
 use Rattle.theory_fractions.specs.CommonDenominator.{as_fraction}
 use Rattle.theory_remainders.specs.RemainderOps.{remainder_ops}
@@ -181,6 +187,80 @@ module _ {E : Type 0} (o : Ops E) (L : FieldLaws o) (M : FieldLaws (fraction_ops
         w_in = inverse_loc;
         inverse = K.inv-mul (as_poly v) as_ne;
       }
+
+    -- a power of m over a polynomial of no greater degree is integral
+    module _ (sub : IsSubring K.ring IsLoc) where
+      abbrev pm : FE
+      pm = as_poly poly
+
+      pm_in : IsLoc pm
+      unfolding as_poly
+      pm_in = poly_loc o L M m s pm refl
+
+      as_nz : (v : Poly F.cring) → v ≢ P.zero → as_poly v ≢ K.zero
+      as_nz v nz e = of-ne-zero P (IsLowest F.cring P) (polynomial_reduction F) Q (is_rational_functions F) v nz
+          (sym (as_poly_is v) ∙ ap h e ∙ map-zero K.ring Q.ring h H.hom)
+
+      power_in : (n : ℕ) → IsLoc (power K.ring pm n)
+      power_in zero = sub.one_in
+      power_in (suc n) = sub.mul_in pm (power K.ring pm n) pm_in (power_in n)
+
+      -- the product with m
+      as_product : (c v : Poly F.cring) → v ≡ P.◌⊗◌ c poly → as_poly v ≡ as_poly c ⊗ pm
+      as_product c v e = h_injective (as_poly v) (as_poly c ⊗ pm) (as_poly_is v ∙ ap of e ∙ of-hom.map-mul c poly
+          ∙ ap₂ Q.◌⊗◌ (sym (as_poly_is c)) (sym (as_poly_is poly)) ∙ sym (H.hom.map-mul (as_poly c) pm))
+
+      cancel : (x c y : FE) → c ≢ K.zero → x ≢ K.zero → x ≡ c ⊗ pm → (pm ⊗ y) ⊗ K.inv x ≡ y ⊗ K.inv c
+      cancel x c y nc nx e = mul_left_cancel K x ((pm ⊗ y) ⊗ K.inv x) (y ⊗ K.inv c) nx
+          (ring3 K.cring (λ x z i. (x ⊠ (z ⊠ i), z ⊠ (x ⊠ i))) refl x (pm ⊗ y) (K.inv x)
+          ∙ ap (K.◌⊗◌ (pm ⊗ y)) (mul-inv K x nx) ∙ K.mul-one (pm ⊗ y)
+          ∙ sym (ap (λ z. z ⊗ (y ⊗ K.inv c)) e
+          ∙ ring4 K.cring (λ c m y i. ((c ⊠ m) ⊠ (y ⊠ i), (m ⊠ y) ⊠ (c ⊠ i))) refl c pm y (K.inv c)
+          ∙ ap (K.◌⊗◌ (pm ⊗ y)) (mul-inv K c nc) ∙ K.mul-one (pm ⊗ y)))
+
+      power_over : (n : ℕ) (v : Poly F.cring) → v ≢ P.zero → degree v.0 ≤ n
+          → IsLoc (power K.ring pm n ⊗ K.inv (as_poly v))
+      power_over zero v nz l = ⊎_elim
+          (λ (d : Divides P poly v).
+          let low = degree_le_of_divides F poly v d nz in
+          let pos = (is_place_of o L (Finite m) s).1.positive in absurd (omega arith))
+          (λ (off : Divides P poly v → ⊥). sub.mul_in K.one (K.inv (as_poly v)) sub.one_in (inverse_loc v off))
+          (divides_or F poly v (irreducible-ne-zero F poly (is_place_of o L (Finite m) s).1))
+      power_over (suc n) v nz l = ⊎_elim
+          (λ (d : Divides P poly v).
+          let c = d.0 in
+          let e = d.1 in
+          let nc : c ≢ P.zero = left_ne_zero_of_mul P.ring c poly (λ z. nz (e ∙ z)) in
+          let nm = irreducible-ne-zero F poly (is_place_of o L (Finite m) s).1 in
+          let pos = (is_place_of o L (Finite m) s).1.positive in
+          let sum = field_degree-mul F c poly nc nm in
+          let same : degree v.0 ≡ degree (P.◌⊗◌ c poly).0 = ap (λ (x : Poly F.cring). degree x.0) e in
+          subst IsLoc (sym (cancel (as_poly v) (as_poly c) (power K.ring pm n) (as_nz c nc) (as_nz v nz)
+          (as_product c v e))) (power_over n c nc (omega arith)))
+          (λ (off : Divides P poly v → ⊥).
+          sub.mul_in (power K.ring pm (suc n)) (K.inv (as_poly v)) (power_in (suc n)) (inverse_loc v off))
+          (divides_or F poly v (irreducible-ne-zero F poly (is_place_of o L (Finite m) s).1))
+
+      -- the same of a list
+      pub power_over_list : (c : List E) → IsPolynomialList o c → c ≢ [] → (p d : FE) → p.0 ≡ as_fraction o m
+          → d.0 ≡ as_fraction o c
+          → (d ≢ K.zero) × IsLoc (power K.ring p (degree c) ⊗ K.inv d)
+      unfolding as_poly
+      power_over_list c hc nz p d ep ed =
+          let v = polynomial_of o L c in
+          let nv : v ≢ P.zero = λ e. nz (sym (values_back o L c hc)
+          ∙ ap (λ (x : Poly F.cring). values o L x.0) (e ∙ sym (polynomial_of-nil o L))
+          ∙ values_back o L [] (is_remainder-nil o L m s.irreducible).polynomial) in
+          let dv : as_poly v ≡ d = Elem-path (fraction_ops o L) (as_poly v) d
+          (ap (as_fraction o) (values_back o L c hc) ∙ sym ed) in
+          let pv : pm ≡ p = Elem-path (fraction_ops o L) pm p
+          (ap (as_fraction o) (values_back o L m s.polynomial) ∙ sym ep) in
+          let deg = degree-polynomial_of o L c hc in (
+            (λ e. as_nz v nv (dv ∙ e)),
+            subst (λ x. IsLoc (power K.ring x (degree c) ⊗ K.inv d)) pv
+                (subst (λ x. IsLoc (power K.ring pm (degree c) ⊗ K.inv x)) dv
+                (power_over (degree c) v nv (omega arith))),
+          )
 
     -- another monic irreducible polynomial as such
     module _ (l : List E) (sl : IsMonicIrreducible o l) (other : l ≢ m) where

@@ -7,3 +7,5 @@ pub mod Settled
 pub mod Elsewhere
 pub mod Bounds
 pub mod Quotients
+pub mod LatticeSteps
+pub mod DegreeBounds

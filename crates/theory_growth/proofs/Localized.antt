@@ -128,7 +128,7 @@ module _ {E R : Type 0} (o : Ops E) (L : FieldLaws o) (P P' : E → Type 0) (p q
         )
 
   -- of finitely many members of P'
-  clear_all : (m : ℕ) (c : ℕ → Elem o) → ((i : ℕ) → i < m → Q' (c i))
+  pub clear_all : (m : ℕ) (c : ℕ → Elem o) → ((i : ℕ) → i < m → Q' (c i))
       → (s : S) × ((i : ℕ) → i < m → Q (K.◌⊗◌ s.u (c i)))
   unfolding times
   clear_all m c h = common (λ s x. Q (K.◌⊗◌ s.u x))

@@ -15,12 +15,14 @@ use Rattle.theory_spaces.specs.Linear.{comb, InSpan, Basis, IsSubmodule, IsLinea
 use Rattle.theory_spaces.specs.Sets.{Within, Same, Test, Whole, ring_ops}
 use Rattle.theory_spaces.specs.Tuples.{IsTuple, Tuple, tuple_zero, tuple_add, product, IsTableAlgebra}
 use Rattle.theory_spaces.proofs.Linear.Families.{join, each_join}
-use Rattle.theory_spaces.proofs.Linear.Modules.{InSpan-add, InSpan_trans as span_trans, InSpan-join_left, InSpan-join_right}
-use Rattle.theory_spaces.proofs.Linear.Modules.{InSpan-scale, InSpan-member as span-member, span_in, map-comb, comb_congr}
+use Rattle.theory_spaces.proofs.Linear.Modules.{InSpan-add, InSpan_trans as span_trans, InSpan-join_left}
+use Rattle.theory_spaces.proofs.Linear.Modules.{InSpan-join_right, InSpan-scale, InSpan-member as span-member}
+use Rattle.theory_spaces.proofs.Linear.Modules.{span_in, map-comb, comb_congr}
 use Rattle.theory_spaces.proofs.Linear.Modules.{comb_congr_right, map-zero, map-neg}
 use Rattle.theory_spaces.proofs.Linear.Spaces.{coords_of}
 use Rattle.theory_spaces.proofs.Linear.SpanTests.{span_test, span_test-in, in-span_test}
-use Rattle.theory_spaces.proofs.Tuples.Tuples.{Tuple-path, tuples, tuple_space, tuples-zero, tuples-add, unit-basis, at-table}
+use Rattle.theory_spaces.proofs.Tuples.Tuples.{Tuple-path, tuples, tuple_space, tuples-zero, tuples-add, unit-basis}
+use Rattle.theory_spaces.proofs.Tuples.Tuples.{at-table}
 use Rattle.theory_spaces.proofs.Tuples.TupleProducts.{tuple_algebra, IsTuple-product}
 use Rattle.theory_spaces.proofs.Tuples.Tables.{unit, space_expand}
 use Rattle.theory_orders.specs.Orders.{IsOrder}
@@ -35,7 +37,8 @@ use Rattle.theory_tables.specs.Structure.{Structure, IsOver, IsAssociative}
 use Rattle.theory_tables.specs.Algebras.{IsIdentity, SpansIdeal}
 use Rattle.theory_tables.specs.Quotient.{IsQuotient, QuotientKeeps}
 use Rattle.theory_tables.proofs.Algebras.Bridge.{algebra, algebra_is, row, row-is, IsTuple-of, as_tuple}
-use Rattle.theory_tables.proofs.Algebras.Bridge.{table_basis, ideal_row, list_span, to_span, from_span, row-at, map_span}
+use Rattle.theory_tables.proofs.Algebras.Bridge.{table_basis, ideal_row, list_span, to_span, from_span, row-at}
+use Rattle.theory_tables.proofs.Algebras.Bridge.{map_span}
 use Rattle.theory_tables.proofs.Rows.Sums.{entry-elem}
 use Rattle.theory_tables.proofs.Rows.Spans.{InSpan-member, InSpan_trans, InSpan-zero}
 use Rattle.theory_left_orders.proofs.TupleLattices.{is_comb}
@@ -81,7 +84,8 @@ module _ {E V : Type 0} (k : FieldOn E) (A : AlgebraOn k.ring V) (n : ℕ) (B : 
     -- one is no sum of a member of each
     not_one : (a b : V) → J a → G b → A.one ≡ A.◌⊕◌ a b → ⊥
     unfolding pw
-    not_one a b ha hb one = X.simple.proper (λ x _. whole A Whole G O G X.ideal (down nil.exponent 0 (omega arith)) x tt)
+    not_one a b ha hb one =
+        X.simple.proper (λ x _. whole A Whole G O G X.ideal (down nil.exponent 0 (omega arith)) x tt)
       where
         down : (d e : ℕ) → e + d ≡ nil.exponent → G (pw a e)
         down zero e q =
@@ -247,7 +251,8 @@ module _ {E : Type 0} (o : Ops E) (L : FieldLaws o) (T : Structure E) (over : Is
         let I : Tuple o n → Type 0 = InSpan (module_of C) k (λ i. f (g i)) in
         let span : Same Red I = reduced_span K A m B0 N C reduction map-scale k g in
         let mx = maximal_same (ring_ops C.ring) Whole Red I span
-        (maximal_of_simple A Whole N O C reduction (λ _. true) ((λ x _. tt), (λ x _. refl)) G XV.ideal holds XV.simple) in
+        (maximal_of_simple A Whole N O C reduction (λ _. true) ((λ x _. tt), (λ x _. refl)) G XV.ideal holds
+        XV.simple) in
         let F = family o L Y q.over y_assoc y_one y_id k (λ i. f (g i)) in
         let c = hold F (family_shape o L Y q.over y_assoc y_one y_id k (λ i. f (g i)))
         (family_maximal o L Y q.over y_assoc y_one y_id k (λ i. f (g i)) mx) in

@@ -4,19 +4,24 @@
 --
 -- A loop that grows an order at m keeps: the first order and that of the moment are the same elsewhere, and GrowthBound
 -- of the order of the moment by a number that is left. Each growth takes one off (BoundFalls), so the number left is
--- the loop's measure, and once it is 0 nothing can grow.
-use Rattle.std.specs.Prelude.{◌≡◌, ◌≢◌, ◌<◌, ◌≤◌, ◌-◌, ℕ, suc, List}
+-- the loop's measure, and once it is 0 nothing can grow: `for _ in 0..=b` never comes to its end, where b is the
+-- dimension times the degree of a polynomial that carries the dual into the first order (BoundByDegree).
+use Rattle.std.specs.Prelude.{◌≡◌, ◌≢◌, ◌<◌, ◌≤◌, ◌-◌, ◌*◌, ℕ, suc, List, []}
 use Rattle.theory_rings.specs.Ops.{Ops, FieldLaws}
 use Rattle.theory_spaces.specs.Sets.{Within, Same, Multiple}
-use Rattle.theory_spaces.specs.Tuples.{tuple_scale}
+use Rattle.theory_spaces.specs.Tuples.{IsTuple, tuple_scale}
+use Rattle.theory_spaces.specs.Lattice.{DualOf}
 use Rattle.theory_tables.specs.Structure.{Structure, IsOver, IsAssociative, tuple_ops}
 use Rattle.theory_tables.specs.Traces.{IsNondegenerate}
+use Rattle.theory_rings.specs.Polynomial.{degree}
+use Rattle.theory_fractions.specs.PolynomialLists.{IsPolynomialList}
 use Rattle.theory_fractions.specs.Fraction.{Pair}
 use Rattle.theory_fractions.specs.FractionOps.{fraction_ops}
 use Rattle.theory_fractions.specs.CommonDenominator.{as_fraction}
 use Rattle.theory_places.specs.Places.{Finite}
 use Rattle.theory_places.specs.FractionPlaces.{IsIntegralAt, IsMonicIrreducible, fractions}
-use Rattle.theory_bases.specs.TupleLattices.{TupleLattice, SameTupleLattice, AreIndependentTuples, SpanOrder}
+use Rattle.theory_bases.specs.TupleLattices.{TupleLattice, SameTupleLattice, AreIndependentTuples}
+use Rattle.theory_bases.specs.TupleLattices.{SpanOrder, trace_of_product}
 use Rattle.theory_bases.specs.Bases.{IsPolynomialFraction}
 use Rattle.theory_left_orders.specs.FractionResidues.{ResidueRingsBy}
 use Rattle.theory_left_orders.specs.TupleResidues.{LeftOrderOf}
@@ -65,6 +70,19 @@ module _ {E : Type 0} (o : Ops E) (L : FieldLaws o) (A : Structure (Pair E)) whe
   abbrev pub GrowthsFall : Type 0
   GrowthsFall = (m : List E) (a b : List (List (Pair E))) (bound : ℕ) → GrowthBound m a bound → IsGrowth m a b
       → BoundFalls m a b bound
+
+  -- c carries into the lattice what it pairs with into the polynomials by the trace: the dual of the lattice
+  abbrev pub CarriesDual : List E → List (List (Pair E)) → Type 0
+  CarriesDual c tuples = (x : List (Pair E)) → IsTuple (fraction_ops o L) A.dim x
+      → DualOf (trace_of_product (fraction_ops o L) A) (IsPolynomialFraction o) (PolynomialLattice tuples) x
+      → PolynomialLattice tuples (tuple_scale (fraction_ops o L) A.dim (as_fraction o c) x)
+
+  -- the dimension times the degree of such a polynomial is a bound, for each m
+  abbrev pub BoundByDegree : Type 0
+  BoundByDegree = IsOver (fraction_ops o L) A → IsAssociative (fraction_ops o L) A
+      → (m : List E) → IsMonicIrreducible o m → (tuples : List (List (Pair E)))
+      → SpanOrder (fraction_ops o L) A (IsPolynomialFraction o) tuples
+      → (c : List E) → IsPolynomialList o c → c ≢ [] → CarriesDual c tuples → GrowthBound m tuples (A.dim * degree c)
 
   -- where the trace form is nondegenerate, each order has such a bound
   abbrev pub BoundsExist : Type 0
