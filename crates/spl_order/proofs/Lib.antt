@@ -8,3 +8,4 @@ pub mod ExactQuotients
 pub mod Contents
 pub mod RowBases
 pub mod LatticeBases
+pub mod StartRows

@@ -13,3 +13,5 @@ mod lattice_bases;
 mod matrices;
 mod numerators;
 pub mod swap;
+pub mod start;
+mod units;

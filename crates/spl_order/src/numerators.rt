@@ -55,7 +55,7 @@ pub(crate) fn joined_fractions(
 }
 
 /// The products of c, which each of the fractions times is a polynomial, and the fractions.
-fn numerator_row(
+pub(crate) fn numerator_row(
     alloc: Global,
     f: &SmallField,
     c: &Poly,
