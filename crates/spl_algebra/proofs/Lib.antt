@@ -16,3 +16,4 @@ pub mod Annihilators
 pub mod QuotientRows
 pub mod PowerSpans
 pub mod SquareIdeals
+pub mod TwoSided

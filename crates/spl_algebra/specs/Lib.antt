@@ -7,3 +7,4 @@ pub mod Contractions
 pub mod Multiples
 pub mod Triple
 pub mod Quotients
+pub mod TwoSided

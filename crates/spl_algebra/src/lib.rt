@@ -17,3 +17,4 @@ pub mod products;
 pub mod quotient;
 pub mod trace;
 pub mod triple;
+pub mod two_sided;
