@@ -19,3 +19,4 @@ pub mod KeptSteps
 pub mod ListSteps
 pub mod RefinedLists
 pub mod MaximalResidue
+pub mod Ranks
