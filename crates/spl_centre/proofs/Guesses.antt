@@ -32,8 +32,9 @@ use Rattle.theory_fractions.proofs.Reducing.{eq_of_fraction, lowest_over_one}
 use Rattle.theory_rows.specs.Rows.{IsPolynomialRow}
 use Rattle.spl_algebra.proofs.Contractions.{at-product_basis, at-basis_product, constant_within}
 use Rattle.spl_numerators.specs.Numerators.{HasMultiples}
+use Rattle.spl_numerators.specs.Sums.{fraction_at, sum_of_products}
 use Rattle.spl_numerators.proofs.Triples.{left_place, right_place}
-use Rattle.spl_centre.specs.Guess.{unit, fraction_of, IsQuotient, AreQuotients, weighted_sum, SolvesAt}
+use Rattle.spl_centre.specs.Guess.{unit, IsQuotient, AreQuotients, SolvesAt}
 use Rattle.spl_centre.proofs.Rows.{polynomial_of_row}
 
 module _ {E : Type 0} (o : Ops E) (L : FieldLaws o) where
@@ -185,7 +186,7 @@ module _ {E : Type 0} (o : Ops E) (L : FieldLaws o) where
 
     -- the product of a weight and an entry
     term : (l p : ℕ) → l < m → p < m * m * m
-        → K.mul (fraction_of o L weights l) (fraction_of o L entries p) ≡ K.mul S (K.mul (e l) (g p))
+        → K.mul (fraction_at o L weights l) (fraction_at o L entries p) ≡ K.mul S (K.mul (e l) (g p))
     unfolding S e g
     term l p l_in p_in =
         let q = quotients.quotient l l_in in
@@ -202,7 +203,7 @@ module _ {E : Type 0} (o : Ops E) (L : FieldLaws o) where
     -- a weighted sum gives the sum by the quotients
     by_quotients : (place : ℕ → ℕ) (start stride : ℕ) (b : Bool) → ((l : ℕ) → l < m → place l ≡ start + l * stride)
         → ((l : ℕ) → l < m → place l < m * m * m)
-        → weighted_sum o L weights entries m start stride ≡ as_fraction o (unit scale b)
+        → sum_of_products o L weights entries m 0 start stride ≡ as_fraction o (unit scale b)
         → sum_of K m (λ l. K.mul (e l) (g (place l))) ≡ cond b K.one K.zero
     by_quotients place start stride b same within sum =
         let f : ℕ → Pair E = λ l. K.mul (e l) (g (place l)) in
@@ -211,11 +212,14 @@ module _ {E : Type 0} (o : Ops E) (L : FieldLaws o) where
         (cond-elem b) S-ne
         (mul-sum_of K laws m S f S-elem f-elem
         ∙ sum_of_congr K m (λ l. K.mul S (f l))
-        (λ l. K.mul (fraction_of o L weights l) (fraction_of o L entries (start + l * stride)))
+        (λ l. K.mul (fraction_at o L weights (0 + l)) (fraction_at o L entries (start + l * stride)))
         (λ l l_in. sym (term l (place l) l_in (within l l_in))
-        ∙ ap (λ p. K.mul (fraction_of o L weights l) (fraction_of o L entries p)) (same l l_in))
+        ∙ ap₂ (λ q p. K.mul (fraction_at o L weights q) (fraction_at o L entries p)) (from_zero l) (same l l_in))
         ∙ sum ∙ unit_value b)
       where
+        from_zero : (l : ℕ) → l ≡ 0 + l
+        from_zero l = omega arith
+
         cond-elem : (b : Bool) → IsElem K (cond b K.one K.zero)
         cond-elem true = laws.one-elem
         cond-elem false = laws.zero-elem

@@ -1,3 +1,4 @@
 pub mod TraceIdeal
 pub mod Guess
 pub mod Line
+pub mod Shown

@@ -1,25 +1,33 @@
 // Centre and trace form, told modulo a few irreducible polynomials.
-ghost use Rattle.std.specs.Prelude.{◌≡◌, ℕ, List, IfOk, IfSome, IsTrue};
+ghost use Rattle.std.specs.Prelude.{◌≡◌, IfOk, IfSome, IsTrue};
 ghost use Rattle.theory_tables.specs.Structure.{IsOver, IsAssociative};
-ghost use Rattle.theory_tables.specs.Algebras.{IsIdentity, HasSmallCentre};
-ghost use Rattle.theory_tables.specs.Traces.{trace_matrix, IsNondegenerate};
+ghost use Rattle.theory_tables.specs.Traces.{trace_matrix};
 ghost use Rattle.theory_constants.specs.Residues.{KernelIsZero};
-ghost use Rattle.theory_fractions.specs.Fraction.{Pair};
 ghost use Rattle.spl_field.specs.SmallField.{small_ops, small_laws};
 ghost use Rattle.spl_fraction.specs.Fractions.{field_of};
 ghost use Rattle.spl_fraction.specs.FractionsOver.{fractions_over};
 ghost use Rattle.spl_residue.specs.Residue.{field_of as residue_field_of};
 ghost use Rattle.spl_numerators.specs.Numerators.{AreNumerators};
 ghost use Rattle.spl_centre.specs.Line.{CentreIsOnLine};
+ghost use Rattle.spl_centre.specs.Shown.{Holds};
 
 use crate::centre::KAlgebra;
-use crate::places::{algebra_at, place_at};
 use spl_algebra::algebra::Algebra;
 use spl_field::field::{Field, NoMemory};
 use spl_fraction::field::Fractions;
 use spl_numerators::numerators::{Numerators, numerators_of};
+use spl_numerators::residues::{algebra_at, place_at};
 use spl_residue::field::ResidueField;
 use std::alloc::Global;
+
+/// What the algebra of residues may show of an algebra over the rational functions.
+#[derive(Clone, Copy)]
+pub(crate) enum Property {
+    /// The centre is the multiples of an identity.
+    SmallCentre,
+    /// The trace form is nondegenerate.
+    Nondegenerate,
+}
 
 /// The number of polynomials that are tried as moduli, of which not all are irreducible.
 const POLYNOMIALS: u16 = 40;
@@ -48,136 +56,67 @@ fn form_is_regular<F: Field>(alloc: Global, f: &F, a: &Algebra<F>) -> Result<boo
     Ok(kernel.dim() == 0)
 }
 
-/// Whether the centre is on a line in this residue field, and then it is the multiples of an identity.
-fn is_central_in(
+/// Whether the algebra of residues in this field shows the property.
+fn is_shown_in(
     alloc: Global,
     f: &Fractions,
     a: &KAlgebra,
     n: &Numerators,
     k: &ResidueField,
+    property: Property,
 ) -> Result<bool, NoMemory>
     requires over { IsOver (fractions_over (field_of f.now)) a.now }
     requires associative { IsAssociative (fractions_over (field_of f.now)) a.now }
     requires numerators { AreNumerators (small_ops (field_of f.now)) (small_laws (field_of f.now)) n.now.denominator
         a.now n.now.entries }
     requires field { small_ops (residue_field_of k.now) ≡ small_ops (field_of f.now) }
-    ensures { IfOk result (λ b. IsTrue b → (one : List (Pair ℕ))
-        → IsIdentity (fractions_over (field_of f.now)) a.now one
-        → HasSmallCentre (fractions_over (field_of f.now)) a.now) }
+    ensures { IfOk result (λ b. IsTrue b → Holds (fractions_over (field_of f.now)) a.now property) }
 {
     let _count = a.constants().len();
     let algebra = algebra_at(alloc, k, a.dim(), n.entries.as_slice())?;
-    Ok(centre_is_on_line(alloc, k, &algebra)?)
-}
-
-/// Whether the trace form is regular in this residue field, and then it is nondegenerate.
-fn is_regular_in(
-    alloc: Global,
-    f: &Fractions,
-    a: &KAlgebra,
-    n: &Numerators,
-    k: &ResidueField,
-) -> Result<bool, NoMemory>
-    requires over { IsOver (fractions_over (field_of f.now)) a.now }
-    requires associative { IsAssociative (fractions_over (field_of f.now)) a.now }
-    requires numerators { AreNumerators (small_ops (field_of f.now)) (small_laws (field_of f.now)) n.now.denominator
-        a.now n.now.entries }
-    requires field { small_ops (residue_field_of k.now) ≡ small_ops (field_of f.now) }
-    ensures { IfOk result (λ b. IsTrue b → IsNondegenerate (fractions_over (field_of f.now)) a.now) }
-{
-    let _count = a.constants().len();
-    let algebra = algebra_at(alloc, k, a.dim(), n.entries.as_slice())?;
-    Ok(form_is_regular(alloc, k, &algebra)?)
-}
-
-/// The same modulo the polynomial of this number; None where that is no modulus.
-fn is_central_at(
-    alloc: Global,
-    f: &Fractions,
-    a: &KAlgebra,
-    n: &Numerators,
-    number: u16,
-) -> Result<Option<bool>, NoMemory>
-    requires over { IsOver (fractions_over (field_of f.now)) a.now }
-    requires associative { IsAssociative (fractions_over (field_of f.now)) a.now }
-    requires numerators { AreNumerators (small_ops (field_of f.now)) (small_laws (field_of f.now)) n.now.denominator
-        a.now n.now.entries }
-    ensures { IfOk result (λ o. IfSome o (λ b. IsTrue b → (one : List (Pair ℕ))
-        → IsIdentity (fractions_over (field_of f.now)) a.now one
-        → HasSmallCentre (fractions_over (field_of f.now)) a.now)) }
-{
-    match place_at(alloc, f.field(), &n.denominator, number)? {
-        Some(k) => Ok(Some(is_central_in(alloc, f, a, n, &k)?)),
-        None => Ok(None),
+    match property {
+        Property::SmallCentre => Ok(centre_is_on_line(alloc, k, &algebra)?),
+        Property::Nondegenerate => Ok(form_is_regular(alloc, k, &algebra)?),
     }
 }
 
 /// The same modulo the polynomial of this number; None where that is no modulus.
-fn is_regular_at(
+fn is_shown_at(
     alloc: Global,
     f: &Fractions,
     a: &KAlgebra,
     n: &Numerators,
     number: u16,
+    property: Property,
 ) -> Result<Option<bool>, NoMemory>
     requires over { IsOver (fractions_over (field_of f.now)) a.now }
     requires associative { IsAssociative (fractions_over (field_of f.now)) a.now }
     requires numerators { AreNumerators (small_ops (field_of f.now)) (small_laws (field_of f.now)) n.now.denominator
         a.now n.now.entries }
     ensures { IfOk result (λ o. IfSome o (λ b. IsTrue b
-        → IsNondegenerate (fractions_over (field_of f.now)) a.now)) }
+        → Holds (fractions_over (field_of f.now)) a.now property)) }
 {
     match place_at(alloc, f.field(), &n.denominator, number)? {
-        Some(k) => Ok(Some(is_regular_in(alloc, f, a, n, &k)?)),
+        Some(k) => Ok(Some(is_shown_in(alloc, f, a, n, &k, property)?)),
         None => Ok(None),
     }
 }
 
-/// Whether a residue algebra shows that the centre is the multiples of an identity. The one fault is want of memory.
-pub(crate) fn shows_small_centre(
+/// Whether an algebra of residues shows the property. The one fault is want of memory.
+pub(crate) fn is_shown(
     alloc: Global,
     f: &Fractions,
     a: &KAlgebra,
+    property: Property,
 ) -> Result<bool, NoMemory>
     requires over { IsOver (fractions_over (field_of f.now)) a.now }
     requires associative { IsAssociative (fractions_over (field_of f.now)) a.now }
-    ensures { IfOk result (λ b. IsTrue b → (one : List (Pair ℕ))
-        → IsIdentity (fractions_over (field_of f.now)) a.now one
-        → HasSmallCentre (fractions_over (field_of f.now)) a.now) }
+    ensures { IfOk result (λ b. IsTrue b → Holds (fractions_over (field_of f.now)) a.now property) }
 {
     let n = numerators_of(alloc, f, a)?;
     let mut left = REDUCTIONS;
     for number in 0..POLYNOMIALS {
-        match is_central_at(alloc, f, a, &n, number)? {
-            Some(shown) => {
-                if shown {
-                    return Ok(true);
-                }
-                left = left.saturating_sub(1);
-            }
-            None => {}
-        }
-        if left == 0 {
-            return Ok(false);
-        }
-    }
-    Ok(false)
-}
-
-/// Whether a residue algebra shows that the trace form is nondegenerate. The one fault is want of memory.
-pub(crate) fn shows_nondegenerate(
-    alloc: Global,
-    f: &Fractions,
-    a: &KAlgebra,
-) -> Result<bool, NoMemory>
-    requires over { IsOver (fractions_over (field_of f.now)) a.now }
-    requires associative { IsAssociative (fractions_over (field_of f.now)) a.now }
-    ensures { IfOk result (λ b. IsTrue b → IsNondegenerate (fractions_over (field_of f.now)) a.now) }
-{
-    let n = numerators_of(alloc, f, a)?;
-    let mut left = REDUCTIONS;
-    for number in 0..POLYNOMIALS {
-        match is_regular_at(alloc, f, a, &n, number)? {
+        match is_shown_at(alloc, f, a, &n, number, property)? {
             Some(shown) => {
                 if shown {
                     return Ok(true);

@@ -10,7 +10,7 @@ ghost use Rattle.theory_tables.specs.Traces.{IsNondegenerate};
 ghost use Rattle.theory_tables.specs.Claims.{CentralClaim};
 ghost use Rattle.spl_centre.specs.TraceIdeal.{IsTraceIdeal};
 
-use crate::by_residues::{shows_nondegenerate, shows_small_centre};
+use crate::by_residues::{Property, is_shown};
 use crate::guess::guessed_identity;
 use crate::identity::{fault_of, identity_of};
 use crate::radical::radical_of;
@@ -55,7 +55,7 @@ pub fn centre_fault(alloc: Global, f: &Fractions, a: &KAlgebra) -> Result<Option
         (HasSmallCentre (fractions_over (field_of f.now)) a.now)
         (CentralClaim (fractions_over (field_of f.now)) a.now)) }
 {
-    if shows_small_centre(alloc, f, a)? {
+    if is_shown(alloc, f, a, Property::SmallCentre)? {
         return Ok(None);
     }
     let one = identity_of(alloc, f, a)?;
@@ -76,7 +76,7 @@ pub fn centre_fault_from(
         (HasSmallCentre (fractions_over (field_of f.now)) a.now)
         (CentralClaim (fractions_over (field_of f.now)) a.now)) }
 {
-    if shows_small_centre(alloc, f, a)? {
+    if is_shown(alloc, f, a, Property::SmallCentre)? {
         return Ok(None);
     }
     fault_of(alloc, f, a, one)
@@ -95,7 +95,7 @@ pub fn trace_ideal(alloc: Global, f: &Fractions, a: &KAlgebra) -> Result<Option<
         (IsNondegenerate (fractions_over (field_of f.now)) a.now)
         (IsTraceIdeal (fractions_over (field_of f.now)) a.now)) }
 {
-    if shows_nondegenerate(alloc, f, a)? {
+    if is_shown(alloc, f, a, Property::Nondegenerate)? {
         return Ok(None);
     }
     let radical = radical_of(alloc, f, a)?;

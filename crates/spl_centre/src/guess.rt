@@ -2,7 +2,6 @@
 ghost use Rattle.std.specs.Prelude.{◌≡◌, ◌≢◌, ◌*◌, ◌+◌, ◌^◌, ◌<◌, ℕ, [], length, get_or, IfOk, IfSome, IsTrue};
 ghost use Rattle.spl_field.specs.SmallField.{small_ops, small_laws};
 ghost use Rattle.theory_fractions.specs.PolynomialLists.{IsPolynomialList};
-ghost use Rattle.theory_fractions.specs.CommonDenominator.{as_fraction};
 ghost use Rattle.theory_rows.specs.Rows.{IsPolynomialRow, IsPolynomialMatrix};
 ghost use Rattle.theory_spaces.specs.Tuples.{IsTuple};
 ghost use Rattle.theory_tables.specs.Structure.{IsOver};
@@ -10,7 +9,7 @@ ghost use Rattle.theory_tables.specs.Algebras.{IsIdentity};
 ghost use Rattle.spl_fraction.specs.Fractions.{field_of};
 ghost use Rattle.spl_fraction.specs.FractionsOver.{fractions_over};
 ghost use Rattle.spl_numerators.specs.Numerators.{AreNumerators};
-ghost use Rattle.spl_centre.specs.Guess.{weighted_sum, unit, SolvesAt, IsQuotient, AreQuotients};
+ghost use Rattle.spl_centre.specs.Guess.{unit, SolvesAt, IsQuotient, AreQuotients};
 
 use crate::centre::KAlgebra;
 use crate::equations::solutions;
@@ -21,73 +20,16 @@ use spl_fraction::field::Fractions;
 use spl_fraction::fraction::Fraction;
 use spl_fraction::tuples::Tuple;
 use spl_numerators::numerators::{Numerators, numerators_of};
-use spl_poly::order::{order_law, order_of};
+use spl_numerators::products::{are_same, sum_of_products};
 use spl_poly::poly::Poly;
 use std::alloc::Global;
-use std::cmp::Ordering;
-
-/// sum + a·b; a factor 0 costs no product.
-fn add_product(
-    alloc: Global,
-    f: &SmallField,
-    sum: Poly,
-    a: &Poly,
-    b: &Poly,
-) -> Result<Poly, NoMemory>
-    requires sum { IsPolynomialList (small_ops f.now) sum }
-    requires left { IsPolynomialList (small_ops f.now) a.now }
-    requires right { IsPolynomialList (small_ops f.now) b.now }
-    ensures polynomial { IfOk result (IsPolynomialList (small_ops f.now)) }
-    ensures value { IfOk result (λ r. as_fraction (small_ops f.now) r
-        ≡ (fractions_over f.now).add (as_fraction (small_ops f.now) sum)
-        ((fractions_over f.now).mul (as_fraction (small_ops f.now) a.now) (as_fraction (small_ops f.now) b.now))) }
-{
-    if a.is_zero() {
-        return Ok(sum);
-    }
-    if b.is_zero() {
-        return Ok(sum);
-    }
-    let term = a.mul(alloc, f, b)?;
-    Ok(sum.add(alloc, f, &term)?)
-}
-
-/// The sum over l of the products of the weight l and the entry at start + l·stride.
-fn sum_by_weights(
-    alloc: Global,
-    f: &SmallField,
-    m: usize,
-    weights: &[Poly],
-    entries: &[Poly],
-    start: usize,
-    stride: usize,
-) -> Result<Poly, NoMemory>
-    requires weights { IsPolynomialRow (small_ops f.now) (m + 1) weights.now }
-    requires polynomials { (p : ℕ) → p < length entries.now
-        → IsPolynomialList (small_ops f.now) (get_or entries.now p []) }
-    requires within { (l : ℕ) → l < m → start + l * stride < length entries.now }
-    ensures polynomial { IfOk result (IsPolynomialList (small_ops f.now)) }
-    ensures value { IfOk result (λ r. as_fraction (small_ops f.now) r
-        ≡ weighted_sum (small_ops f.now) (small_laws f.now) weights.now entries.now m start stride) }
-{
-    let mut sum = Poly::from_slice(alloc, &[])?;
-    for l in 0..m {
-        sum = add_product(alloc, f, sum, &weights[l], &entries[start + l * stride])?;
-    }
-    Ok(sum)
-}
 
 /// Whether it is this polynomial, where `here`, and else 0.
 fn is_unit_item(value: &Poly, scale: &Poly, here: bool) -> bool
     ensures { IsTrue result → value.now ≡ unit scale.now here }
 {
     if here {
-        order_law();
-        return match order_of(value, scale) {
-            Ordering::Equal => true,
-            Ordering::Less => false,
-            Ordering::Greater => false,
-        };
+        return are_same(value, scale);
     }
     value.is_zero()
 }
@@ -113,11 +55,11 @@ fn solves_at(
     ensures { IfOk result (λ b. IsTrue b
         → SolvesAt (small_ops f.now) (small_laws f.now) weights.now entries.now m scale.now j k) }
 {
-    let left = sum_by_weights(alloc, f, m, weights, entries, j * m + k, m * m)?;
+    let left = sum_of_products(alloc, f, m, weights, 0, entries, j * m + k, m * m)?;
     if !is_unit_item(&left, scale, k == j) {
         return Ok(false);
     }
-    let right = sum_by_weights(alloc, f, m, weights, entries, j * m * m + k, m)?;
+    let right = sum_of_products(alloc, f, m, weights, 0, entries, j * m * m + k, m)?;
     Ok(is_unit_item(&right, scale, k == j))
 }
 

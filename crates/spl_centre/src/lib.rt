@@ -11,5 +11,4 @@ pub mod centre;
 mod equations;
 mod guess;
 mod identity;
-mod places;
 mod radical;

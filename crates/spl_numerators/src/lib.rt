@@ -9,5 +9,6 @@
 
 pub mod associates;
 pub mod numerators;
-mod residues;
+pub mod products;
+pub mod residues;
 pub mod triple;

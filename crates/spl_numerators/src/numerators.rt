@@ -4,7 +4,7 @@ ghost use Rattle.theory_rings.specs.Ops.{IsElem};
 ghost use Rattle.theory_rings.specs.Polynomial.{IsTrimmed};
 ghost use Rattle.spl_field.specs.SmallField.{small_ops, small_laws};
 ghost use Rattle.spl_poly.specs.Operations.{IsOver, Divides};
-ghost use Rattle.theory_fractions.specs.CommonDenominator.{as_fraction, IsCommonDenominator};
+ghost use Rattle.theory_fractions.specs.CommonDenominator.{as_fraction, Clears};
 ghost use Rattle.spl_fraction.specs.Fractions.{field_of};
 ghost use Rattle.spl_fraction.specs.FractionsOver.{fractions_over};
 ghost use Rattle.theory_tables.specs.Structure.{IsOver as IsStructureOver};
@@ -42,8 +42,8 @@ pub fn multiple_of(alloc: Global, f: &SmallField, c: &Poly, w: &Fraction) -> Res
     Ok(division.quotient.mul(alloc, f, w.numerator())?)
 }
 
-/// The products of the common denominator and each fraction.
-fn multiples_of(
+/// The products of a polynomial and each fraction, which are polynomials. The one fault is want of memory.
+pub fn multiples_of(
     alloc: Global,
     f: &SmallField,
     c: &Poly,
@@ -52,7 +52,7 @@ fn multiples_of(
     requires c_over { IsOver (small_ops f.now) c.now }
     requires c_trimmed { IsTrimmed 0 c.now }
     requires elems { All (IsElem (fractions_over f.now)) list.now }
-    requires common { IsCommonDenominator (small_ops f.now) list.now c.now }
+    requires clears { All (Clears (small_ops f.now) c.now) list.now }
     ensures { IfOk result (HasMultiples (small_ops f.now) (small_laws f.now) c.now list.now (length list.now)) }
 {
     let mut items = List::new(alloc);

@@ -34,6 +34,25 @@ fn residues_of(
     Ok(residues)
 }
 
+/// The algebra of dimension m whose constants are the residues of these polynomials. The one fault is want of
+/// memory.
+pub fn algebra_at(
+    alloc: Global,
+    k: &ResidueField,
+    m: usize,
+    entries: &[Poly],
+) -> Result<Algebra<ResidueField>, NoMemory>
+    requires positive { 1 ≤ m }
+    requires count { length entries.now ≡ m * m * m }
+    requires polynomials { (p : ℕ) → p < length entries.now
+        → IsPolynomialList (small_ops (field_of k.now)) (get_or entries.now p []) }
+    ensures dim { IfOk result (λ a. a.dim ≡ m) }
+    ensures constants { IfOk result (λ a. AreRemainders k.now entries.now (m * m * m) a.constants) }
+{
+    let residues = residues_of(alloc, k, entries)?;
+    Ok(Algebra::new(alloc, k, m, residues)?)
+}
+
 /// Basis elements that generate the algebra of dimension m whose constants are the residues of these polynomials.
 pub(crate) fn generators_at(
     alloc: Global,
@@ -48,8 +67,7 @@ pub(crate) fn generators_at(
         → IsPolynomialList (small_ops (field_of k.now)) (get_or entries.now p []) }
     ensures { IfOk result (GenerateResidues k.now entries.now m) }
 {
-    let residues = residues_of(alloc, k, entries)?;
-    let algebra = Algebra::new(alloc, k, m, residues)?;
+    let algebra = algebra_at(alloc, k, m, entries)?;
     Ok(generators(alloc, k, &algebra)?)
 }
 
@@ -79,8 +97,9 @@ fn stays(alloc: Global, c: &Poly, k: &ResidueField) -> Result<bool, NoMemory>
     Ok(!k.lift(alloc, &residue)?.is_zero())
 }
 
-/// The residue field of a polynomial, where that is irreducible and doesn't divide c.
-fn place_at(
+/// The residue field of the polynomial of this number, where that is irreducible and doesn't divide c. The one fault is
+/// want of memory.
+pub fn place_at(
     alloc: Global,
     f: &SmallField,
     c: &Poly,

@@ -12,6 +12,6 @@ mod fractions;
 mod lattice_bases;
 mod matrices;
 mod numerators;
-pub mod swap;
 pub mod start;
+pub mod swap;
 mod units;

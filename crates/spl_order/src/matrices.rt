@@ -13,7 +13,7 @@ use spl_field::field::NoMemory;
 use spl_field::small::SmallField;
 use spl_lattice::matrix::PolyMatrix;
 use spl_lattice::rows::PolyRow;
-use spl_numerators::associates::add_product;
+use spl_numerators::products::add_product;
 use spl_poly::poly::Poly;
 use std::alloc::Global;
 

@@ -7,7 +7,6 @@ ghost use Rattle.spl_poly.specs.Operations.{IsOver};
 ghost use Rattle.theory_fractions.specs.CommonDenominator.{Clears};
 ghost use Rattle.spl_fraction.specs.Fractions.{field_of};
 ghost use Rattle.spl_fraction.specs.FractionsOver.{fractions_over};
-ghost use Rattle.spl_numerators.specs.Numerators.{HasMultiples};
 ghost use Rattle.theory_bases.specs.Joined.{joined};
 ghost use Rattle.spl_order.specs.Rows.{AreNumeratorRows};
 
@@ -17,8 +16,7 @@ use spl_fraction::field::Fractions;
 use spl_fraction::fraction::Fraction;
 use spl_fraction::tuples::Tuple;
 use spl_lattice::matrix::PolyMatrix;
-use spl_lattice::rows::PolyRow;
-use spl_numerators::numerators::multiple_of;
+use spl_numerators::numerators::multiples_of;
 use spl_poly::poly::Poly;
 use std::alloc::Global;
 
@@ -54,27 +52,7 @@ pub(crate) fn joined_fractions(
     Ok(list)
 }
 
-/// The products of c, which each of the fractions times is a polynomial, and the fractions.
-pub(crate) fn numerator_row(
-    alloc: Global,
-    f: &SmallField,
-    c: &Poly,
-    tuple: &[Fraction],
-) -> Result<PolyRow, NoMemory>
-    requires c_over { IsOver (small_ops f.now) c.now }
-    requires c_trimmed { IsTrimmed 0 c.now }
-    requires elems { All (IsElem (fractions_over f.now)) tuple.now }
-    requires clears { All (Clears (small_ops f.now) c.now) tuple.now }
-    ensures { IfOk result (HasMultiples (small_ops f.now) (small_laws f.now) c.now tuple.now (length tuple.now)) }
-{
-    let mut row = PolyRow::new(alloc);
-    for i in 0..tuple.len() {
-        row.push(multiple_of(alloc, f, c, &tuple[i])?)?;
-    }
-    Ok(row)
-}
-
-/// The same of all tuples.
+/// The products of c, which each of the fractions times is a polynomial, and the fractions of each tuple.
 pub(crate) fn numerator_rows(
     alloc: Global,
     f: &SmallField,
@@ -90,7 +68,7 @@ pub(crate) fn numerator_rows(
 {
     let mut rows = PolyMatrix::new(alloc);
     for i in 0..tuples.len() {
-        rows.push(numerator_row(alloc, f, c, tuples[i].as_slice())?)?;
+        rows.push(multiples_of(alloc, f, c, tuples[i].as_slice())?)?;
     }
     Ok(rows)
 }

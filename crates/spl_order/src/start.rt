@@ -16,7 +16,6 @@ ghost use Rattle.theory_bases.specs.StartOrders.{SpansStart};
 
 use crate::basis::Basis;
 use crate::lattice_bases::basis_of_lattice;
-use crate::numerators::numerator_row;
 use crate::units::units_and;
 use spl_algebra::algebra::Algebra;
 use spl_field::field::NoMemory;
@@ -24,6 +23,7 @@ use spl_field::small::SmallField;
 use spl_fraction::field::Fractions;
 use spl_fraction::fraction::Fraction;
 use spl_fraction::tuples::Tuple;
+use spl_numerators::numerators::multiples_of;
 use spl_poly::poly::Poly;
 use std::alloc::Global;
 
@@ -48,7 +48,7 @@ fn start_basis(
         (basis_tuple (fractions_over f.now) n i)) ++ one.now ∷ [])
         (tuples_of (small_ops f.now) (small_laws f.now) b)) }
 {
-    let line = numerator_row(alloc, f, d, one)?;
+    let line = multiples_of(alloc, f, d, one)?;
     let scale = c.mul(alloc, f, d)?;
     let rows = units_and(alloc, f, &scale, n, line)?;
     let found = basis_of_lattice(alloc, f, d, &rows)?;

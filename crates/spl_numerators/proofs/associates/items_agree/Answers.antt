@@ -5,24 +5,24 @@ use Rattle.spl_algebra.proofs.Contractions.{constant_within}
 use Rattle.spl_numerators.proofs.Triples.{left_place, right_place}
 use Rattle.spl_numerators.proofs.associates.items_agree.Goals as goal
 
-pub contracted-requires-clause-first_within : goal.contracted-requires-clause-first_within
-contracted-requires-clause-first_within c l h =
+pub sum_of_products-requires-clause-first_within : goal.sum_of_products-requires-clause-first_within
+sum_of_products-requires-clause-first_within c l h =
     constant_within c.args.i c.args.j l c.args.m (length c.args.entries.now) c.requires.first c.requires.second h
     c.requires.count
 
-pub contracted-requires-clause-second_within : goal.contracted-requires-clause-second_within
-contracted-requires-clause-second_within c l h =
+pub sum_of_products-requires-clause-second_within : goal.sum_of_products-requires-clause-second_within
+sum_of_products-requires-clause-second_within c l h =
     subst (λ p. p < length c.args.entries.now) (left_place l c.args.k c.args.t c.args.m)
     (constant_within l c.args.k c.args.t c.args.m (length c.args.entries.now) h c.requires.third c.requires.item
     c.requires.count)
 
-pub contracted-requires-2-clause-first_within : goal.contracted-requires-2-clause-first_within
-contracted-requires-2-clause-first_within c l h =
+pub sum_of_products-requires-2-clause-first_within : goal.sum_of_products-requires-2-clause-first_within
+sum_of_products-requires-2-clause-first_within c l h =
     constant_within c.args.j c.args.k l c.args.m (length c.args.entries.now) c.requires.second c.requires.third h
     c.requires.count
 
-pub contracted-requires-2-clause-second_within : goal.contracted-requires-2-clause-second_within
-contracted-requires-2-clause-second_within c l h =
+pub sum_of_products-requires-2-clause-second_within : goal.sum_of_products-requires-2-clause-second_within
+sum_of_products-requires-2-clause-second_within c l h =
     subst (λ p. p < length c.args.entries.now) (right_place c.args.i l c.args.t c.args.m)
     (constant_within c.args.i l c.args.t c.args.m (length c.args.entries.now) c.requires.first h c.requires.item
     c.requires.count)

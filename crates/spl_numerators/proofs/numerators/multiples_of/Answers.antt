@@ -49,7 +49,7 @@ multiple_of-requires-clause-divides c =
     let item = c.index-list-i.is ∙ get_or_default list i c.index-list-i.result ([], []) below in
     subst (λ x. Divides o x.1 c.args.c.now) (sym item)
     (divides_of_clears o L c.args.c.now w c.requires.c_over (lowest_of_elem o L w (c.requires.elems i ([], []) below))
-    (c.requires.common.clears i below))
+    (c.requires.clears i ([], []) below))
 
 pub returns : goal.returns
 returns c =

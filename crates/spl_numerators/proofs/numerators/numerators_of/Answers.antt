@@ -1,8 +1,9 @@
-use Rattle.std.proofs.Common.{◌*◌, All, length, sym, subst}
+use Rattle.std.proofs.Common.{◌*◌, All, [], length, sym, subst}
+use Rattle.std.proofs.lemmas.List.Elements.{All-from_get_or}
 use Rattle.theory_rings.specs.Ops.{IsElem}
 use Rattle.spl_field.specs.SmallField.{small_ops, small_laws}
 use Rattle.theory_fractions.specs.PolynomialLists.{IsOver}
-use Rattle.theory_fractions.specs.CommonDenominator.{IsCommonDenominator}
+use Rattle.theory_fractions.specs.CommonDenominator.{Clears, IsCommonDenominator}
 use Rattle.spl_fraction.specs.Fractions.{field_of}
 use Rattle.spl_fraction.specs.FractionsOver.{fractions_over}
 use Rattle.spl_numerators.specs.Numerators.{HasMultiples}
@@ -24,10 +25,13 @@ multiples_of-requires-clause-elems c =
     (subst (All (IsElem (fractions_over (field_of c.args.f.now)))) (sym c.constants-list.ensures.value)
     c.requires.of_elements)
 
-pub multiples_of-requires-clause-common : goal.multiples_of-requires-clause-common
-multiples_of-requires-clause-common c =
-    subst (λ k. IsCommonDenominator (small_ops k) c.constants-list.result.now c.in_ok-denominator.denominator)
-    (sym c.field.ensures) c.in_ok-denominator.ensures.value
+pub multiples_of-requires-clause-clears : goal.multiples_of-requires-clause-clears
+multiples_of-requires-clause-clears c =
+    let d = c.in_ok-denominator.denominator in
+    let list = c.constants-list.result.now in
+    subst (λ k. All (Clears (small_ops k) d) list) (sym c.field.ensures)
+    (All-from_get_or (Clears (small_ops (field_of c.args.f.now)) d) list ([], [])
+    c.in_ok-denominator.ensures.value.clears)
 
 pub returns : goal.returns
 returns c =

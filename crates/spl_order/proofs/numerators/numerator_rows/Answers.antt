@@ -20,23 +20,23 @@ loop-i-preserved c =
     let L = small_laws c.args.f.now in
     let i = c.loop-i.i in
     let list = c.args.tuples.now in
-    let p = c.in_ok-numerator_row in
+    let p = c.in_ok-multiples_of in
     let item = c.as_slice.ensures ∙ c.index-tuples-i.is
     ∙ get_or_default list i c.index-tuples-i.result [] c.loop-i-test.true in
     more_rows o L c.args.c.now list i c.loop-i.rows c.push.new.self p.field-0 c.loop-i.invariant
     c.in_ok-push.ensures.ok
     (subst (λ t. HasMultiples o L c.args.c.now t (length t) p.field-0) item p.ensures)
 
-pub numerator_row-requires-clause-elems : goal.numerator_row-requires-clause-elems
-numerator_row-requires-clause-elems c =
+pub multiples_of-requires-clause-elems : goal.multiples_of-requires-clause-elems
+multiples_of-requires-clause-elems c =
     let i = c.loop-i.i in
     let list = c.args.tuples.now in
     let item = c.as_slice.ensures ∙ c.index-tuples-i.is
     ∙ get_or_default list i c.index-tuples-i.result [] c.loop-i-test.true in
     subst (All (IsElem (fractions_over c.args.f.now))) (sym item) (c.requires.elems i [] c.loop-i-test.true)
 
-pub numerator_row-requires-clause-clears : goal.numerator_row-requires-clause-clears
-numerator_row-requires-clause-clears c =
+pub multiples_of-requires-clause-clears : goal.multiples_of-requires-clause-clears
+multiples_of-requires-clause-clears c =
     let i = c.loop-i.i in
     let list = c.args.tuples.now in
     let item = c.as_slice.ensures ∙ c.index-tuples-i.is

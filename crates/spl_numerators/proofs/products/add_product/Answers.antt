@@ -1,6 +1,6 @@
 use Rattle.spl_field.specs.SmallField.{small_ops, small_laws}
 use Rattle.spl_numerators.proofs.Sums.{add_zero_product, add_product_zero, add_product}
-use Rattle.spl_numerators.proofs.associates.add_product.Goals as goal
+use Rattle.spl_numerators.proofs.products.add_product.Goals as goal
 
 pub returns-then-is_zero-clause-value : goal.returns-then-is_zero-clause-value
 returns-then-is_zero-clause-value c =

@@ -2,7 +2,7 @@ use Rattle.std.proofs.Common.{◌*◌, ℕ, List, sym, subst}
 use Rattle.theory_spaces.specs.Tuples.{IsTuple}
 use Rattle.spl_residue.specs.Residue.{residue_ops}
 use Rattle.spl_numerators.specs.Residues.{AreRemainders}
-use Rattle.spl_centre.proofs.places.algebra_at.Goals as goal
+use Rattle.spl_numerators.proofs.residues.algebra_at.Goals as goal
 
 pub new-requires-clause-over : goal.new-requires-clause-over
 new-requires-clause-over c =
