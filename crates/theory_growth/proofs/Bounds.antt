@@ -172,33 +172,38 @@ module _ {E : Type 0} (o : Ops E) (L : FieldLaws o) (A : Structure (Pair E)) (ov
     abbrev Alg : AlgebraOn KF.ring (Tuple k A.dim)
     Alg = algebra k M A over.of_elements assoc one is_one
 
-    -- a growth at m is proper there
-    module _ (a b : List (List (Pair E))) (ind : AreIndependentTuples k A.dim a) (g : IsGrowth o L A m a b) where
-      not_at_place : Within (TupleLattice k P A.dim b) (TupleLattice k P A.dim a) → ⊥
+    -- a tuple that is integral at m, and that m carries into the lattice, is in it
+    module _ (a : List (List (Pair E))) (ind : AreIndependentTuples k A.dim a) where
+      pub polynomial_member : (y : Tuple k A.dim) → TupleLattice k P A.dim a y.0
+          → PolynomialLattice o L A a (tuple_scale k A.dim (as_fraction o m) y.0) → PolynomialLattice o L A a y.0
       unfolding B
-      not_at_place w = g.proper (λ x h.
-          let y = as_tuple k M A.dim x h.0 in
-          let M' = module_of Alg in
+      polynomial_member y at scaled =
+          let Mod = module_of Alg in
           let r = residues o L M m s in
-          let shape = g.step.order.basis.shape in
           let D = R.polynomials in
           let D' = R.at_place in
           let bs = B k M IsP R.p q r N D A over assoc one is_one a ind in
-          let up = enlarge k M IsP P R.p q r N D D' (localizes o L M m s) (residues_agree o L M m s N R) A over assoc
-          one is_one b shape y h in
-          let here = to_basis k M P R.p q r N D' A over assoc one is_one a ind y (w x up) in
+          let here = to_basis k M P R.p q r N D' A over assoc one is_one a ind y at in
           let z = Alg.◌•◌ R.p y in
           let low : PolynomialLattice o L A a z.0 = subst (PolynomialLattice o L A a)
-          (ap (λ c. tuple_scale k A.dim c x) (sym R.p_is)
-          ∙ sym (let is = algebra_is k M A over.of_elements assoc one is_one in is.scale-is R.p y))
-          (g.step.over (tuple_scale k A.dim (as_fraction o m) x) (x, h, refl)) in
+          (ap (λ c. tuple_scale k A.dim c y.0) (sym R.p_is)
+          ∙ sym (let is = algebra_is k M A over.of_elements assoc one is_one in is.scale-is R.p y)) scaled in
           let there = to_basis k M IsP R.p q r N D A over assoc one is_one a ind z low in
           from_basis k M IsP R.p q r N D A over assoc one is_one a ind y
-          (member_by_coord KF (λ c. IsP c.0) R.p q (elements r N) D M' A.dim bs y (λ i l.
+          (member_by_coord KF (λ c. IsP c.0) R.p q (elements r N) D Mod A.dim bs y (λ i l.
           polynomial_of_multiple (bs.coord y i)
-          (coord_member KF (λ c. P c.0) R.p q (elements r N) D' M' A.dim bs y here i l)
+          (coord_member KF (λ c. P c.0) R.p q (elements r N) D' Mod A.dim bs y here i l)
           (subst (λ (c : Elem k). IsP c.0) (bs.coord-scale R.p y i)
-          (coord_member KF (λ c. IsP c.0) R.p q (elements r N) D M' A.dim bs z there i l)))))
+          (coord_member KF (λ c. IsP c.0) R.p q (elements r N) D Mod A.dim bs z there i l))))
+
+    -- a growth at m is proper there
+    not_at_place : (a b : List (List (Pair E))) → AreIndependentTuples k A.dim a → IsGrowth o L A m a b
+        → Within (TupleLattice k P A.dim b) (TupleLattice k P A.dim a) → ⊥
+    not_at_place a b ind g w = g.proper (λ x h.
+        let y = as_tuple k M A.dim x h.0 in
+        polynomial_member a ind y (w x (enlarge k M IsP P R.p q (residues o L M m s) N R.polynomials R.at_place
+        (localizes o L M m s) (residues_agree o L M m s N R) A over assoc one is_one b g.step.order.basis.shape y h))
+        (g.step.over (tuple_scale k A.dim (as_fraction o m) x) (x, h, refl)))
 
   module _ (tuples : List (List (Pair E)))
       (O : SpanOrder k A (IsPolynomialFraction o) tuples) where

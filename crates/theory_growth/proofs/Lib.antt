@@ -9,3 +9,5 @@ pub mod Bounds
 pub mod Quotients
 pub mod LatticeSteps
 pub mod DegreeBounds
+pub mod SameAlgebras
+pub mod RamifiedRows

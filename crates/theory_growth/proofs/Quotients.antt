@@ -33,7 +33,7 @@ use Rattle.theory_blocks.specs.MaximalIdeals.{IsMaximalIdeal}
 use Rattle.theory_spaces.proofs.Algebras.SetLemmas.{maximal_same}
 use Rattle.theory_tables.specs.Matrix.{entry, IsMatrix, image}
 use Rattle.theory_tables.specs.Subspace as rows_of
-use Rattle.theory_tables.specs.Structure.{Structure, IsOver, IsAssociative}
+use Rattle.theory_tables.specs.Structure.{Structure, IsOver, IsAssociative, tuple_ops}
 use Rattle.theory_tables.specs.Algebras.{IsIdentity, SpansIdeal}
 use Rattle.theory_tables.specs.Quotient.{IsQuotient, QuotientKeeps}
 use Rattle.theory_tables.proofs.Algebras.Bridge.{algebra, algebra_is, row, row-is, IsTuple-of, as_tuple}
@@ -48,12 +48,25 @@ use Rattle.theory_tables.proofs.Algebras.Quotients.{quotient_keeps}
 use Rattle.theory_residue.specs.Residue.{ReductionOn, Reduced}
 use Rattle.theory_residue.proofs.Correspondence.{of_reduced}
 use Rattle.theory_residue.proofs.Radicals.{maximal_of_simple}
+use Rattle.std.specs.Prelude.{◌↔◌, ◌⊎◌, ◌≤◌}
+use Rattle.std.proofs.lemmas.Bool.{cases_lt}
+use Rattle.theory_rings.proofs.Rings.RingLaws.{zero-mul}
+use Rattle.std.proofs.Common.{inl, inr}
+use Rattle.theory_spaces.specs.Sets as sets
+use Rattle.theory_spaces.specs.AlgebraMap.{IsSimple}
+use Rattle.theory_spaces.proofs.Matrices.Matrices.{delta-same}
+use Rattle.theory_spaces.proofs.Tuples.Tuples.{IsTuple-ext}
+use Rattle.theory_tables.specs.Algebras.{AreZero, SpansAll}
+use Rattle.theory_tables.proofs.Algebras.Bridge.{to_ideal}
+use Rattle.theory_orders.specs.Orders.{SimpleQuotient}
+use Rattle.theory_residue.proofs.ResidueAlgebra.{coord-vec}
+use Rattle.theory_residue.proofs.SimpleLaws.{simple_by_kernel}
 use Rattle.theory_residue.proofs.RadicalQuotients.{reduced_span}
 use Rattle.theory_growth.specs.Steps.{HoldMaximalIdeals}
 use Rattle.theory_growth.specs.MaximalIdeals.{ArePulledBack, AreLifted, MaximalIdealsOverRadical}
-use Rattle.theory_growth.specs.MaximalIdeals.{PulledBackIdeals, LiftedRowsArePulledBack}
+use Rattle.theory_growth.specs.MaximalIdeals.{PulledBackIdeals, LiftedRowsArePulledBack, MaximalByQuotient}
 use Rattle.theory_growth.proofs.Tables.{maximal_down, nilpotent_of_rows, family, family_shape, family_maximal}
-use Rattle.theory_growth.proofs.Tables.{to_family, from_family}
+use Rattle.theory_growth.proofs.Tables.{to_family, from_family, family_ideal, family_long, family-at, rows_maximal_of}
 
 -- a nilpotent ideal that is a span lies in each maximal ideal that is one
 module _ {E V : Type 0} (k : FieldOn E) (A : AlgebraOn k.ring V) (n : ℕ) (B : Basis (module_of A) n) (s m : ℕ)
@@ -271,6 +284,81 @@ module _ {E : Type 0} (o : Ops E) (L : FieldLaws o) (T : Structure E) (over : Is
               ),
         )
 
+  -- ---- simple quotients
+
+  abbrev Ow : IsOrder A Whole
+  Ow = record {
+    one_in = tt;
+    zero_in = tt;
+    add_in = λ x y _ _. tt;
+    neg_in = λ x _. tt;
+    mul_in = λ x y _ _. tt;
+  }
+
+  abbrev D0 : Basis (module_of C) n
+  D0 = table_basis o L Y q.over.of_elements y_assoc y_one y_id
+
+  abbrev NoIdeals : Type 0
+  NoIdeals = (rows : List (List E)) → SpansIdeal o Y rows → AreZero o Y rows ⊎ SpansAll o Y rows
+
+  by_kernel : SimpleQuotient A Whole N ↔ (IsSimple C × (C.one ≡ C.zero → ⊥))
+  by_kernel = simple_by_kernel K A Whole N Ow C reduction n D0 (λ _. true) ((λ x _. tt), (λ x _. refl))
+      (to_ideal o L T over.of_elements assoc one is_one ideal S)
+
+  rows_simple : IsSimple C → NoIdeals
+  rows_simple h rows R =
+      let g = ideal_row o L Y q.over.of_elements y_assoc y_one y_id rows R in
+      ⊎_elim
+      (λ (z : (i : ℕ) → i < length rows → g i ≡ C.zero). inl (λ i l.
+      sym (row-is o L n rows R.shape i l) ∙ ap (λ (x : Tuple o n). x.0) (z i l) ∙ c_is.zero-is))
+      (λ (a : (x : Tuple o n) → InSpan (module_of C) (length rows) g x). inr (λ v tv.
+      list_span o L Y q.over.of_elements y_assoc y_one y_id rows R (as_tuple o L n v tv) (a (as_tuple o L n v tv))))
+      (h (length rows) g (to_ideal o L Y q.over.of_elements y_assoc y_one y_id rows R))
+
+  simple_rows : NoIdeals → IsSimple C
+  simple_rows h k g I =
+      let F = family o L Y q.over y_assoc y_one y_id k g in
+      let long = family_long o L Y q.over y_assoc y_one y_id k g in
+      ⊎_elim
+      (λ (z : AreZero o Y F). inl (λ i l. Tuple-path o L n (g i) C.zero
+      (sym (family-at o L Y q.over y_assoc y_one y_id k g i [] l) ∙ z i (omega (arith, l, long)) ∙ sym c_is.zero-is)))
+      (λ (a : SpansAll o Y F). inr (λ x. to_family o L Y q.over y_assoc y_one y_id k g x (a x.0 (IsTuple-of o L n x))))
+      (h F (family_ideal o L Y q.over y_assoc y_one y_id k g I))
+
+  some : (C.one ≡ C.zero → ⊥) → 1 ≤ n
+  some h = ⊎_elim (λ (l : 0 < n). omega arith)
+      (λ (l : n ≤ 0). absurd (h (Tuple-path o L n C.one C.zero (IsTuple-ext o n C.one.0 C.zero.0
+      (IsTuple-of o L n C.one) (IsTuple-of o L n C.zero) (λ j g. absurd (omega arith))))))
+      (cases_lt 0 n)
+
+  nonzero : 1 ≤ n → C.one ≡ C.zero → ⊥
+  nonzero l e =
+      let x = D0.vec 0 in
+      let z : x ≡ C.zero = sym (C.one-mul x) ∙ ap (λ y. C.◌⊗◌ y x) e ∙ zero-mul C.ring x in
+      K.one-nonzero (sym (delta-same K.ring 0) ∙ sym (coord-vec (module_of C) n D0 0 0 (omega arith) (omega arith))
+      ∙ ap (λ y. D0.coord y 0) z ∙ D0.coord-zero 0)
+
+  span_same : Same (λ (x : Tuple o m). rows_of.Combinations o m ideal x.0) N
+  unfolding tuple_algebra
+  span_same = (
+    λ x h. to_span o L m ideal S.shape x h.1,
+    λ x h. (IsTuple-of o L m x, list_span o L T over.of_elements assoc one is_one ideal S x h),
+  )
+
+  pub maximal_by_quotient : sets.IsMaximalIdeal (tuple_ops o T) (IsTuple o m) (rows_of.Combinations o m ideal)
+      ↔ (NoIdeals × (1 ≤ n))
+  maximal_by_quotient = (
+    λ X.
+        let XV = maximal_same (ring_ops A.ring) Whole (λ (x : Tuple o m). rows_of.Combinations o m ideal x.0) N
+        span_same (maximal_down o L T over assoc one is_one (rows_of.Combinations o m ideal) X) in
+        let h = by_kernel.0 XV.simple in
+        (rows_simple h.0, some h.1),
+    λ h. rows_maximal_of o L T over assoc one is_one ideal S (record {
+      ideal = to_ideal o L T over.of_elements assoc one is_one ideal S;
+      simple = by_kernel.1 (simple_rows h.0, nonzero h.1);
+    }),
+  )
+
 pub maximal_ideals_over_radical : {E : Type 0} (o : Ops E) → FieldLaws o → (A : Structure E)
     → MaximalIdealsOverRadical o A
 maximal_ideals_over_radical o L A over assoc one is_one radical S B project lifts q count below above pulled hold =
@@ -456,6 +544,10 @@ module _ {E : Type 0} (o : Ops E) (L : FieldLaws o) (T : Structure E) (over : Is
     lifted_rows v t = (down v t, up v t)
 
 module _ {E : Type 0} (o : Ops E) (L : FieldLaws o) (A : Structure E) where
+  pub ideals_by_quotients : MaximalByQuotient o A
+  ideals_by_quotients over assoc one is_one ideal S B project lifts q =
+      maximal_by_quotient o L A over assoc one is_one ideal S B project lifts q
+
   pub ideals_pulled_back : PulledBackIdeals o A
   ideals_pulled_back over ideal B project lifts q below above h shape pulled =
       pulled_back_ideals o L A over ideal B project lifts q below above h shape pulled

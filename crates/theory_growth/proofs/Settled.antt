@@ -156,6 +156,8 @@ module _ {E : Type 0} (o : Ops E) (L : FieldLaws o) (M : FieldLaws (fraction_ops
             (placed.own_dual k M P p q r N R.at_place V.valuation V.tells U A over assoc one O.order.is_one tuples
             O.order.basis order cs table count ideals none strict nonzero ct rows J.radical js J.independent pre zero
             (unit_of_characteristic K V.valuation c prime (fraction_characteristic o L M c char) n apart));
+        only = placed.only_unimodular k M P p q r N R.at_place V.valuation V.tells U A over assoc one O.order.is_one
+            tuples O.order.basis order cs table count ideals none strict nonzero ct rows J.radical js J.independent pre;
         ramified = λ nonzero_rows. record {
           at_place = at_place;
           ramified = record {

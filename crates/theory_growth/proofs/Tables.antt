@@ -155,22 +155,22 @@ module _ {E : Type 0} (o : Ops E) (L : FieldLaws o) (T : Structure E) (over : Is
     abbrev pub family : List (List E)
     family = table n (λ i. (g i).0)
 
-    family-at : (i : ℕ) (d : List E) → i < n → get_or family i d ≡ (g i).0
+    pub family-at : (i : ℕ) (d : List E) → i < n → get_or family i d ≡ (g i).0
     family-at i d l = get_or-table n (λ i. (g i).0) i d l
 
-    long : length family ≡ n
-    long = length-table n (λ i. (g i).0)
+    pub family_long : length family ≡ n
+    family_long = length-table n (λ i. (g i).0)
 
     pub family_shape : IsMatrix o m family
-    family_shape = λ i d l. let i_in : i < n = omega (arith, l, long) in
+    family_shape = λ i d l. let i_in : i < n = omega (arith, l, family_long) in
         subst (IsTuple o m) (sym (family-at i d i_in)) (of_tuple (g i))
 
     same_rows : (i : ℕ) → i < n → row o L m family family_shape i ≡ g i
     same_rows i l = Tuple-path o L m (row o L m family family_shape i) (g i)
-        (row-is o L m family family_shape i (omega (arith, l, long)) ∙ family-at i [] l)
+        (row-is o L m family family_shape i (omega (arith, l, family_long)) ∙ family-at i [] l)
 
     same_comb : (c : ℕ → Elem o) → comb M (length family) c (row o L m family family_shape) ≡ comb M n c g
-    same_comb c = ap (λ k. comb M k c (row o L m family family_shape)) long
+    same_comb c = ap (λ k. comb M k c (row o L m family family_shape)) family_long
         ∙ comb_congr_right M n c (row o L m family family_shape) g same_rows
 
     pub to_family : (x : V) → rows_of.InSpan o m family x.0 → InSpan M n g x
@@ -244,6 +244,34 @@ module _ {E : Type 0} (o : Ops E) (L : FieldLaws o) (T : Structure E) (over : Is
             sym (product-is x h.exponent)
             ∙ ap (λ (y : V). y.0) (h.vanishes x (λ i. to_family n g (x i) (ha i).1)) ∙ is.zero-is;
       })
+
+  -- the rows of a nilpotent ideal, and of a maximal one
+  module _ (rows : List (List E)) (ideal : SpansIdeal o T rows) where
+    abbrev R : V → Type 0
+    R = InSpan M (length rows) (ideal_row o L T over.of_elements assoc one is_one rows ideal)
+
+    rows_on : Same (On R) (Combinations o m rows)
+    unfolding tuple_algebra
+    rows_on = (
+      λ a p. (p.0, list_span o L T over.of_elements assoc one is_one rows ideal (tuple a p.0) p.1),
+      λ a p. (p.0, to_span o L m rows ideal.shape (tuple a p.0) p.1),
+    )
+
+    pub rows_of_nilpotent_rows : IsNilpotentIdeal A.ring R → PowerVanishes o T rows
+    unfolding rows_on
+    rows_of_nilpotent_rows h = (by_powers rows ideal).0 (record {
+      ideal = ideal.ideal;
+      exponent = h.exponent;
+      vanishes = λ a ha.
+          let x : ℕ → V = λ i. tuple (a i) (ha i).0 in
+          sym (product-is x h.exponent)
+          ∙ ap (λ (y : V). y.0) (h.vanishes x (λ i. (rows_on.1 (a i) (ha i)).1)) ∙ is.zero-is;
+    })
+
+    pub rows_maximal_of : IsMaximalIdeal A R
+        → sets.IsMaximalIdeal (tuple_ops o T) (IsTuple o m) (Combinations o m rows)
+    rows_maximal_of h = maximal_same (tuple_ops o T) (IsTuple o m) (On R) (Combinations o m rows) rows_on
+        (maximal_up R h)
 
   -- rows that span the radical span the largest nilpotent ideal
   pub largest_of_rows : (rows : List (List E)) (S : SpansRadical o T rows)

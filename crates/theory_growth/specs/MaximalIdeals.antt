@@ -1,13 +1,14 @@
 -- The maximal ideals of an algebra by its structure constants are those of its quotient by the radical, as rows.
 -- (Pierce, Associative Algebras, chapters 3 and 4.)
-use Rattle.std.specs.Prelude.{◌≡◌, ◌↔◌, ◌<◌, ◌++◌, ℕ, List, length}
+use Rattle.std.specs.Prelude.{◌≡◌, ◌↔◌, ◌⊎◌, ◌<◌, ◌≤◌, ◌++◌, ℕ, List, length}
 use Rattle.theory_rings.specs.Ops.{Ops}
 use Rattle.theory_rings.specs.Sum.{sum_of}
+use Rattle.theory_spaces.specs.Sets.{IsMaximalIdeal}
 use Rattle.theory_spaces.specs.Tuples.{IsTuple}
 use Rattle.theory_tables.specs.Matrix.{entry, IsMatrix, image}
-use Rattle.theory_tables.specs.Subspace.{InSpan}
-use Rattle.theory_tables.specs.Structure.{Structure, IsOver, IsAssociative}
-use Rattle.theory_tables.specs.Algebras.{IsIdentity, SpansIdeal}
+use Rattle.theory_tables.specs.Subspace.{InSpan, Combinations}
+use Rattle.theory_tables.specs.Structure.{Structure, IsOver, IsAssociative, tuple_ops}
+use Rattle.theory_tables.specs.Algebras.{IsIdentity, SpansIdeal, AreZero, SpansAll}
 use Rattle.theory_tables.specs.Quotient.{IsQuotient}
 use Rattle.theory_chains.specs.Radical.{SpansRadical}
 use Rattle.theory_growth.specs.Steps.{HoldMaximalIdeals}
@@ -48,3 +49,11 @@ module _ {E : Type 0} (o : Ops E) (A : Structure E) where
       → (count : ℕ) (below above : ℕ → List (List E))
       → ((i : ℕ) → i < count → ArePulledBack o A B project (below i) (above i))
       → HoldMaximalIdeals o B count below → HoldMaximalIdeals o A count above
+
+  -- an ideal is maximal just where the quotient by it has no ideals but 0 and itself, and is not 0
+  abbrev pub MaximalByQuotient : Type 0
+  MaximalByQuotient = IsOver o A → IsAssociative o A → (one : List E) → IsIdentity o A one
+      → (ideal : List (List E)) → SpansIdeal o A ideal
+      → (B : Structure E) (project lifts : List (List E)) → IsQuotient o A ideal B project lifts
+      → IsMaximalIdeal (tuple_ops o A) (IsTuple o A.dim) (Combinations o A.dim ideal)
+      ↔ (((rows : List (List E)) → SpansIdeal o B rows → AreZero o B rows ⊎ SpansAll o B rows) × (1 ≤ B.dim))

@@ -66,11 +66,13 @@ module _ {E : Type 0} (o : Ops E) (L : FieldLaws o) (M : FieldLaws (fraction_ops
     NothingGrowsBy constants count rows = NoneGrows (fraction_ops o L) M (IsPolynomialFraction o) R.p q residues N
         R.polynomials A tuples (residue_algebra constants) count rows
 
-    -- the order is its own dual for the trace at m where the radical is 0, and else ramified with the radical js
+    -- the order is its own dual for the trace at m just where the radical is 0, and else ramified with the radical js
     pub record IsSettled (constants : List (List E)) (rows : List (List (List E)))
         (js : List (List (Pair E))) : Type 0 where
       pub unimodular : AreZero residues (residue_algebra constants) rows
           → IsTraceDualOfItself (fraction_ops o L) A (IsIntegralAt o (Finite m)) tuples
+      pub only : IsTraceDualOfItself (fraction_ops o L) A (IsIntegralAt o (Finite m)) tuples
+          → AreZero residues (residue_algebra constants) rows
       pub ramified : (AreZero residues (residue_algebra constants) rows → ⊥)
           → RamifiedAtPlace o L M A (Finite m) tuples js
 

@@ -6,13 +6,14 @@ ghost use Rattle.theory_fractions.specs.FractionOps.{fraction_ops};
 ghost use Rattle.theory_growth.specs.Settled.{SettledWhereNothingGrows};
 ghost use Rattle.theory_growth.specs.Growths.{LeftOrdersAreSteps, StepsKeepOtherPlaces, BoundsExist, BoundByDegree};
 ghost use Rattle.theory_growth.specs.Growths.{GrowthsFall};
+ghost use Rattle.theory_growth.specs.RamifiedRows.{RamifiedByRows};
 
 use theory_fractions::fraction_laws::ProgramField;
 
 /// An order over the polynomials, in an algebra whose centre is the multiples of one, in a characteristic that does not
 /// divide the dimension: where no maximal ideal over a monic irreducible polynomial m has a larger left order, it is
-/// its own dual for the trace at m if the radical of its residue algebra is 0, and else ramified with the preimage of
-/// this radical.
+/// its own dual for the trace at m just if the radical of its residue algebra is 0, and else ramified with the preimage
+/// of this radical.
 pub fn settled_where_nothing_grows<F: ProgramField>()
     ensures { (M : FieldLaws (fraction_ops F.ops F.laws)) → SettledWhereNothingGrows F.ops F.laws M }
 {}
@@ -36,4 +37,11 @@ pub fn growth_is_bounded<F: ProgramField>()
     ensures exists { (A : Structure (Pair F.Value)) → BoundsExist F.ops F.laws A }
     ensures degree { (A : Structure (Pair F.Value)) → BoundByDegree F.ops F.laws A }
     ensures falls { (A : Structure (Pair F.Value)) → GrowthsFall F.ops F.laws A }
+{}
+
+/// An order over the polynomials and the preimage of an ideal of its residue algebra make a ramified place just where
+/// the ideal is nilpotent, maximal and not 0, and the left order of the preimage, over the polynomials, lies in the
+/// order.
+pub fn ramified_by_rows<F: ProgramField>()
+    ensures { (M : FieldLaws (fraction_ops F.ops F.laws)) → RamifiedByRows F.ops F.laws M }
 {}

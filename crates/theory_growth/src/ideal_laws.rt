@@ -2,7 +2,7 @@
 ghost use Rattle.theory_rings.specs.Ops.{Ops, FieldLaws};
 ghost use Rattle.theory_tables.specs.Structure.{Structure};
 ghost use Rattle.theory_growth.specs.MaximalIdeals.{LiftedRowsArePulledBack, PulledBackIdeals};
-ghost use Rattle.theory_growth.specs.MaximalIdeals.{MaximalIdealsOverRadical};
+ghost use Rattle.theory_growth.specs.MaximalIdeals.{MaximalIdealsOverRadical, MaximalByQuotient};
 
 /// Each maximal ideal of an associative algebra with identity comes from one of the quotient by the radical. What an
 /// ideal of a quotient comes from is an ideal: the lifts of rows that span it, followed by rows of the kernel, span it.
@@ -10,4 +10,10 @@ pub fn maximal_ideals_over_the_radical<E>()
     ensures complete { (o : Ops E) → FieldLaws o → (A : Structure E) → MaximalIdealsOverRadical o A }
     ensures ideals { (o : Ops E) → FieldLaws o → (A : Structure E) → PulledBackIdeals o A }
     ensures rows { (o : Ops E) → FieldLaws o → (A : Structure E) → LiftedRowsArePulledBack o A }
+{}
+
+/// An ideal of an associative algebra with identity is maximal just where the quotient by it has no ideals but 0 and
+/// itself, and is not 0.
+pub fn maximal_ideals_have_simple_quotients<E>()
+    ensures { (o : Ops E) → FieldLaws o → (A : Structure E) → MaximalByQuotient o A }
 {}
