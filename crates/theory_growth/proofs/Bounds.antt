@@ -9,14 +9,11 @@ use Rattle.theory_spaces.specs.Linear.{Basis}
 use Rattle.theory_spaces.specs.Algebra.{Nondegenerate}
 use Rattle.theory_spaces.specs.Valuation.{ValuationOn}
 use Rattle.theory_spaces.specs.Sets.{Within, Same, IsOrder}
-use Rattle.theory_spaces.specs.Tuples.{Tuple}
+use Rattle.theory_spaces.specs.Tuples.{Tuple, tuple_scale}
 use Rattle.theory_spaces.proofs.Linear.Spaces.{coords_of}
 use Rattle.theory_spaces.proofs.Linear.LatticeTests.{lattice_within}
 use Rattle.theory_spaces.proofs.Tuples.Tuples.{Tuple-path, tuples as tuples_on}
-use Rattle.theory_tables.specs.Structure.{Structure, IsOver, IsAssociative, tuple_ops}
-use Rattle.theory_tables.specs.Algebras.{IsIdentity}
-use Rattle.theory_tables.specs.Traces.{IsNondegenerate, trace as list_trace}
-use Rattle.theory_tables.proofs.Algebras.Bridge.{algebra, algebra_is, row, as_tuple, IsTuple-of, table_basis, trace-is}
+use Rattle.theory_spaces.proofs.Tuples.TupleProducts.{one-product, product-one}
 use Rattle.theory_orders.specs.Uniformizer.{UniformizerOn}
 use Rattle.theory_orders.specs.Orders.{ProperlyWithin}
 use Rattle.theory_orders.specs.Lattices.{Lattice, IsOrderAt, LatticeChain}
@@ -24,8 +21,10 @@ use Rattle.theory_orders.specs.Dual.{Dual}
 use Rattle.theory_orders.proofs.Lattices.Dual.{in_dual}
 use Rattle.theory_orders.proofs.Lattices.DualLattices.{dual_vec, dual_lattice, growth_by_two, proper_same}
 use Rattle.theory_orders.proofs.LeftOrder.Lengths.{length_bounded}
-use Rattle.theory_spaces.specs.Tuples.{tuple_scale}
-use Rattle.theory_spaces.proofs.Tuples.TupleProducts.{one-product, product-one}
+use Rattle.theory_tables.specs.Structure.{Structure, IsOver, IsAssociative, tuple_ops}
+use Rattle.theory_tables.specs.Algebras.{IsIdentity}
+use Rattle.theory_tables.specs.Traces.{IsNondegenerate, trace as list_trace}
+use Rattle.theory_tables.proofs.Algebras.Bridge.{algebra, algebra_is, row, as_tuple, IsTuple-of, table_basis, trace-is}
 use Rattle.theory_fractions.specs.Fraction.{Pair}
 use Rattle.theory_fractions.specs.FractionOps.{fraction_ops}
 use Rattle.theory_fractions.specs.CommonDenominator.{as_fraction}

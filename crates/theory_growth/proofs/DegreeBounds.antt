@@ -23,10 +23,10 @@ use Rattle.theory_spaces.proofs.Linear.LatticeTests.{all_or_not, lattice_test, l
 use Rattle.theory_spaces.proofs.Linear.Modules.{zero-scale}
 use Rattle.theory_spaces.proofs.Linear.Spaces.{coords_of}
 use Rattle.theory_spaces.proofs.Tuples.TupleProducts.{tuple_algebra}
+use Rattle.theory_orders.proofs.Lattices.Dual.{in_dual}
 use Rattle.theory_tables.specs.Structure.{Structure, IsOver, IsAssociative}
 use Rattle.theory_tables.specs.Traces.{trace as list_trace}
 use Rattle.theory_tables.proofs.Algebras.Bridge.{algebra, algebra_is, row, as_tuple, IsTuple-of, table_basis, trace-is}
-use Rattle.theory_orders.proofs.Lattices.Dual.{in_dual}
 use Rattle.theory_fractions.specs.Fraction.{Pair}
 use Rattle.theory_fractions.specs.FractionOps.{fraction_ops}
 use Rattle.theory_fractions.specs.PolynomialLists.{IsPolynomialList}

@@ -19,12 +19,12 @@ use Rattle.theory_places.specs.FractionPlaces.{IsIntegralAt, IsMonicIrreducible,
 use Rattle.theory_bases.specs.TupleLattices.{TupleLattice, SameTupleLattice, SpanOrder}
 use Rattle.theory_bases.specs.Bases.{IsPolynomialFraction}
 use Rattle.theory_left_orders.specs.FractionResidues.{ResidueRingsBy}
-use Rattle.theory_left_orders.proofs.FractionResidues.{residue_rings}
 use Rattle.theory_left_orders.specs.TupleIdeals.{Preimage}
+use Rattle.theory_left_orders.proofs.FractionResidues.{residue_rings}
 use Rattle.theory_left_orders.proofs.TupleLeftOrders.{left_orders_are_orders}
 use Rattle.theory_growth.specs.Settled.{residues}
-use Rattle.theory_growth.specs.Growths.{PolynomialLattice, IsStep, IsGrowth, StepsKeepOtherPlaces}
-use Rattle.theory_growth.specs.Growths.{GrowthsFall, LeftOrdersAreSteps}
+use Rattle.theory_growth.specs.Growths.{PolynomialLattice, IsStep, IsGrowth, StepsKeepOtherPlaces, GrowthsFall}
+use Rattle.theory_growth.specs.Growths.{LeftOrdersAreSteps}
 use Rattle.theory_growth.proofs.Localized.{Multiplier, times, clear, uncleared}
 use Rattle.theory_growth.proofs.FractionPlaces.{localizes, residues_agree, place_multiplier, place_multiplier-is}
 

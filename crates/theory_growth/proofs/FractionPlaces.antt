@@ -11,7 +11,7 @@ use Rattle.theory_rings.specs.Homomorphism.{IsRingHom}
 use Rattle.theory_rings.specs.Polynomial.{Poly, IsMonic, degree, lead}
 use Rattle.theory_rings.specs.Division.{Divides, IsIrreducible}
 use Rattle.theory_rings.specs.Fraction.{IsLowest}
-use Rattle.theory_rings.proofs.Rings.RingLaws.{zero-mul}
+use Rattle.theory_rings.proofs.Rings.RingLaws.{zero-mul, left_ne_zero_of_mul, right_ne_zero_of_mul}
 use Rattle.theory_rings.proofs.Rings.Elements.{times_of-elements}
 use Rattle.theory_rings.proofs.Rings.Fields.{mul_left_cancel, mul-inv}
 use Rattle.theory_rings.proofs.Rings.Homomorphisms.{map-zero}
@@ -19,28 +19,24 @@ use Rattle.theory_rings.proofs.Powers.Times.{map-times}
 use Rattle.theory_rings.proofs.Polynomials.PolynomialRing.{constant}
 use Rattle.theory_rings.proofs.Polynomials.Constants.{constant-zero, constant-one, constant_hom}
 use Rattle.theory_rings.proofs.Polynomials.Bezout.{field_polynomials, field_degree-mul, degree_zero_inverse}
-use Rattle.theory_rings.proofs.Polynomials.Irreducible.{irreducible-ne-zero, divides_or}
-use Rattle.theory_rings.proofs.Polynomials.Irreducible.{degree_le_of_divides}
+use Rattle.theory_rings.proofs.Polynomials.Irreducible.{irreducible-ne-zero, divides_or, degree_le_of_divides}
 use Rattle.theory_rings.proofs.Rings.Solver.{◌⊠◌, ring3, ring4}
-use Rattle.theory_spaces.specs.Lattice.{IsSubring}
-use Rattle.theory_remainders.proofs.RemainderField.{is_remainder-nil}
-use Rattle.theory_fractions.proofs.ListPolynomials.{degree-polynomial_of}
-use Rattle.theory_rings.proofs.Rings.RingLaws.{left_ne_zero_of_mul, right_ne_zero_of_mul}
 use Rattle.theory_rings.proofs.Polynomials.ElementLists.{values}
 use Rattle.theory_rings.proofs.Fractions.Fractions.{fraction_of_value, value_same}
 use Rattle.theory_rings.proofs.Fractions.Lowest.{monic_eq_of_divides, polynomial_reduction, rational_functions}
 use Rattle.theory_rings.proofs.Fractions.Lowest.{is_rational_functions}
+use Rattle.theory_spaces.specs.Lattice.{IsSubring}
 use Rattle.theory_lattices.specs.RationalFunctions.{Rational, of_polynomial}
 use Rattle.theory_lattices.proofs.Degree.FractionDegrees.{of_hom, eq_of_value, of-ne-zero}
 use Rattle.theory_fractions.specs.PolynomialLists.{IsPolynomialList}
 use Rattle.theory_fractions.specs.FractionOps.{polynomial_of, rational_function, fraction_ops}
 use Rattle.theory_fractions.specs.FractionLaws.{FractionsAreRational}
+use Rattle.theory_fractions.specs.CommonDenominator.{as_fraction}
+use Rattle.theory_fractions.proofs.ListPolynomials.{degree-polynomial_of, IsPolynomialList-values, values_back}
 use Rattle.theory_fractions.proofs.RationalFractions.{fractions_are_rational}
 use Rattle.theory_fractions.proofs.FractionField.{rational_function_injective, polynomial_of-values, polynomial_of-nil}
-use Rattle.theory_fractions.proofs.ListPolynomials.{IsPolynomialList-values, values_back}
-use Rattle.theory_fractions.specs.CommonDenominator.{as_fraction}
 use Rattle.theory_remainders.specs.RemainderOps.{remainder_ops}
-use Rattle.theory_remainders.proofs.RemainderField.{monic}
+use Rattle.theory_remainders.proofs.RemainderField.{is_remainder-nil, monic}
 use Rattle.theory_places.specs.Places.{Finite}
 use Rattle.theory_places.specs.Places as rational
 use Rattle.theory_places.specs.FractionPlaces.{IsIntegralAt, IsMonicIrreducible, fractions}

@@ -19,9 +19,9 @@ use Rattle.theory_spaces.proofs.Linear.Families.{choose_each, below_suc}
 use Rattle.theory_spaces.proofs.Linear.Modules.{comb_zero, zero-scale}
 use Rattle.theory_spaces.proofs.Matrices.Matrices.{delta-same, delta-other}
 use Rattle.theory_spaces.proofs.Matrices.PairIndex.{pair-lt}
-use Rattle.theory_residue.proofs.ResidueAlgebra.{coord-vec}
 use Rattle.theory_orders.specs.Uniformizer.{IsIntegral, IsUnit, UniformizerOn}
 use Rattle.theory_orders.proofs.Splitting.Composition.{NotNot}
+use Rattle.theory_residue.proofs.ResidueAlgebra.{coord-vec}
 
 -- finitely many facts that cannot be refuted cannot be refuted together
 none_refuted : (k : ℕ) (Q : ℕ → Type 0) → ((i : ℕ) → i < k → NotNot (Q i)) → NotNot ((i : ℕ) → i < k → Q i)

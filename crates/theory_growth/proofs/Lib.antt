@@ -11,3 +11,4 @@ pub mod LatticeSteps
 pub mod DegreeBounds
 pub mod SameAlgebras
 pub mod RamifiedRows
+pub mod DualTuples

@@ -1,78 +1,68 @@
 -- An order of tuples at a place whose maximal ideals do not grow: it is its own dual for the trace where its residue
 -- algebra has the radical 0, and else ramified.
-use Rattle.std.specs.Prelude.{◌≡◌, ◌↔◌, ℕ, IsTrue, List, [], length, get_or}
+use Rattle.std.specs.Prelude.{◌≡◌, ◌↔◌, ℕ, IsTrue, List, [], length, get_or, ◌<◌, zero, suc, Bool, true, false, cond}
+use Rattle.std.specs.Prelude.{eqb}
 use Rattle.std.proofs.Common.{refl, sym, ◌∙◌, ap, ap₂, subst}
 use Rattle.theory_rings.specs.Ring.{FieldOn}
 use Rattle.theory_rings.specs.Ops.{Ops, FieldLaws}
 use Rattle.theory_rings.specs.Elements.{Elem, elements}
-use Rattle.theory_rings.specs.Power.{times}
+use Rattle.theory_rings.specs.Power.{times, power}
+use Rattle.theory_rings.proofs.Sums.Sums.{sum_congr}
 use Rattle.theory_spaces.specs.Module.{AlgebraOn, module_of}
-use Rattle.theory_spaces.specs.Linear.{comb, Basis}
-use Rattle.theory_spaces.specs.Algebra.{Central}
-use Rattle.theory_tables.proofs.Rows.Spans.{InSpan-member}
+use Rattle.theory_spaces.specs.Linear.{comb, Basis, InSpan}
+use Rattle.theory_spaces.specs.Algebra.{Central, IsNilpotent, trace}
 use Rattle.theory_spaces.specs.Valuation.{ValuationOn}
-use Rattle.theory_spaces.specs.Sets.{Within, Same, IsOrder}
-use Rattle.theory_spaces.specs.Tuples.{Tuple, IsTableAlgebra}
+use Rattle.theory_spaces.specs.Sets.{Within, Same, IsOrder, Whole, LeftOrder, ring_ops}
+use Rattle.theory_spaces.specs.Tuples.{Tuple, IsTableAlgebra, IsTuple}
+use Rattle.theory_spaces.specs.Form.{trace_form}
+use Rattle.theory_spaces.specs.Matrix.{delta}
+use Rattle.theory_spaces.specs.Sets as sets
 use Rattle.theory_spaces.proofs.Linear.Modules.{span_in, scale-zero}
 use Rattle.theory_spaces.proofs.Linear.Spaces.{Basis-coord}
 use Rattle.theory_spaces.proofs.Tuples.TupleProducts.{tuple_algebra}
 use Rattle.theory_spaces.proofs.Tuples.Tuples.{Tuple-path}
-use Rattle.theory_tables.specs.Subspace as rows_of
-use Rattle.theory_tables.specs.Structure.{Structure, IsOver, IsAssociative, tuple_ops}
-use Rattle.theory_tables.specs.Algebras.{IsIdentity, SpansIdeal, AreZero}
-use Rattle.theory_tables.proofs.Algebras.Bridge.{algebra, algebra_is, row, row-is, IsTuple-of, as_tuple}
-use Rattle.theory_tables.proofs.Algebras.Bridge.{table_basis, ideal_row, to_ideal, list_span}
-use Rattle.theory_orders.specs.Uniformizer.{IsIntegral, IsUnit, UniformizerOn}
-use Rattle.theory_orders.specs.Orders as orders
-use Rattle.theory_orders.specs.Orders.{Multiple, Radical, IsMaximalIdeal, OnlyMaximalIdeal}
-use Rattle.theory_orders.specs.Dual.{IsSelfDual}
-use Rattle.theory_orders.specs.Ramified.{IsRamified}
-use Rattle.theory_orders.proofs.SomeMaximal.{radical_is_the_only}
-use Rattle.theory_orders.proofs.Ideals.Ideals.{ideal_same, simple_same}
-use Rattle.theory_orders.proofs.LeftOrder.LeftOrders.{Power_map}
-use Rattle.theory_orders.proofs.LeftOrder.Settled.{self_dual}
-use Rattle.theory_orders.specs.Lattices.{Lattice, IsOrderAt, NothingGrows}
-use Rattle.theory_residue.specs.Residue.{ResidueOn, ResidueConstants, ResidueReduction}
-use Rattle.theory_residue.specs.ResidueLaws.{IdealsCorrespond, SpanLifts}
-use Rattle.theory_residue.proofs.ResidueAlgebra.{basis_ext}
-use Rattle.theory_residue.proofs.Laws.{order_reduces, ideals_correspond}
-use Rattle.theory_bases.specs.TupleLattices.{TupleLattice, AreIndependentTuples, IsTraceDualOfItself}
-use Rattle.theory_chains.specs.Radical.{SpansRadical}
-use Rattle.theory_left_orders.specs.ResidueRings.{ResidueRingOn}
-use Rattle.theory_left_orders.specs.TupleIdeals.{IsResidueTable, Preimage}
-use Rattle.theory_left_orders.proofs.TupleLeftOrders.{B, to_basis, from_basis}
-use Rattle.theory_left_orders.proofs.TupleIdeals.{associative, laws, residue_one, ra_products, reduces, up_to, up_from}
-use Rattle.theory_left_orders.proofs.TupleIdeals.{in_span}
-use Rattle.theory_growth.specs.Steps.{NoneGrows}
-use Rattle.std.specs.Prelude.{◌<◌, zero, suc, Bool, true, false, cond, eqb}
-use Rattle.theory_rings.specs.Power.{power}
-use Rattle.theory_rings.proofs.Sums.Sums.{sum_congr}
-use Rattle.theory_spaces.specs.Algebra.{IsNilpotent, trace}
-use Rattle.theory_spaces.specs.Form.{trace_form}
-use Rattle.theory_spaces.specs.Matrix.{delta}
 use Rattle.theory_spaces.proofs.Forms.Traces.{trace-nilpotent}
 use Rattle.theory_spaces.proofs.Forms.TraceForms.{trace_form_bilinear}
 use Rattle.theory_spaces.proofs.Linear.BasisChange.{trace_basis}
 use Rattle.theory_spaces.proofs.Linear.LatticeSpans.{lattice-member}
-use Rattle.theory_tables.specs.Traces.{trace as list_trace}
-use Rattle.theory_tables.proofs.Algebras.Bridge.{trace-is}
+use Rattle.theory_spaces.proofs.Algebras.SetLemmas.{maximal_same}
+use Rattle.theory_orders.specs.Uniformizer.{IsIntegral, IsUnit, UniformizerOn}
+use Rattle.theory_orders.specs.Orders as orders
+use Rattle.theory_orders.specs.Orders.{Multiple, Radical, IsMaximalIdeal, OnlyMaximalIdeal, SimpleQuotient}
+use Rattle.theory_orders.specs.Dual.{IsSelfDual}
+use Rattle.theory_orders.specs.Ramified.{IsRamified}
+use Rattle.theory_orders.specs.Lattices.{Lattice, IsOrderAt, NothingGrows}
+use Rattle.theory_orders.proofs.SomeMaximal.{radical_is_the_only}
+use Rattle.theory_orders.proofs.Ideals.Ideals.{ideal_same, simple_same}
+use Rattle.theory_orders.proofs.LeftOrder.LeftOrders.{Power_map}
+use Rattle.theory_orders.proofs.LeftOrder.Settled.{self_dual}
 use Rattle.theory_orders.proofs.Lattices.Dual.{trace_integral}
 use Rattle.theory_radical.specs.Ideal as ideals
-use Rattle.theory_residue.proofs.ResidueAlgebra.{coord-vec}
-use Rattle.theory_bases.specs.TupleLattices.{trace_of_product}
+use Rattle.theory_residue.specs.Residue.{ResidueOn, ResidueConstants, ResidueReduction}
+use Rattle.theory_residue.specs.ResidueLaws.{IdealsCorrespond, SpanLifts}
+use Rattle.theory_residue.proofs.ResidueAlgebra.{basis_ext, coord-vec}
+use Rattle.theory_residue.proofs.Laws.{order_reduces, ideals_correspond}
+use Rattle.theory_tables.specs.Subspace as rows_of
+use Rattle.theory_tables.specs.Structure.{Structure, IsOver, IsAssociative, tuple_ops}
+use Rattle.theory_tables.specs.Algebras.{IsIdentity, SpansIdeal, AreZero}
+use Rattle.theory_tables.specs.Traces.{trace as list_trace, PowerVanishes}
+use Rattle.theory_tables.proofs.Rows.Spans.{InSpan-member}
+use Rattle.theory_tables.proofs.Algebras.Bridge.{algebra, algebra_is, row, row-is, IsTuple-of, as_tuple, table_basis}
+use Rattle.theory_tables.proofs.Algebras.Bridge.{ideal_row, to_ideal, list_span, trace-is}
+use Rattle.theory_bases.specs.TupleLattices.{TupleLattice, AreIndependentTuples, IsTraceDualOfItself, trace_of_product}
+use Rattle.theory_chains.specs.Radical.{SpansRadical}
+use Rattle.theory_left_orders.specs.ResidueRings.{ResidueRingOn}
+use Rattle.theory_left_orders.specs.TupleIdeals.{IsResidueTable, Preimage}
+use Rattle.theory_left_orders.specs.TupleResidues.{LeftOrderOf}
+use Rattle.theory_left_orders.proofs.TupleLeftOrders.{B, to_basis, from_basis}
+use Rattle.theory_left_orders.proofs.TupleIdeals.{associative, laws, residue_one, ra_products, reduces, up_to, up_from}
+use Rattle.theory_left_orders.proofs.TupleIdeals.{in_span}
 use Rattle.theory_left_orders.proofs.ResidueRings.{res-zero, res-sum, coord_member, p-q_scale}
+use Rattle.theory_growth.specs.Steps.{NoneGrows}
 use Rattle.theory_growth.proofs.Vectors as vectors
 use Rattle.theory_growth.proofs.Tables.{family, family_ideal, family_maximal, to_family, from_family, largest_of_rows}
 use Rattle.theory_growth.proofs.Tables.{nilpotent_of_rows, maximal_down, rows_of_nilpotent_rows, rows_maximal_of}
 use Rattle.theory_growth.proofs.Quotients.{nilpotent_within}
-use Rattle.theory_spaces.specs.Sets as sets
-use Rattle.theory_spaces.specs.Linear.{InSpan}
-use Rattle.theory_spaces.specs.Tuples.{IsTuple}
-use Rattle.theory_left_orders.specs.TupleResidues.{LeftOrderOf}
-use Rattle.theory_spaces.specs.Sets.{Whole, LeftOrder, ring_ops}
-use Rattle.theory_spaces.proofs.Algebras.SetLemmas.{maximal_same}
-use Rattle.theory_tables.specs.Traces.{PowerVanishes}
-use Rattle.theory_orders.specs.Orders.{SimpleQuotient}
 
 -- the radical by sets with the same members
 pub radical_same : {K V : Type 0} (F : FieldOn K) (A : AlgebraOn F.ring V) (p : K) (L I J : V → Type 0)

@@ -1,72 +1,64 @@
 -- The maximal ideals of an algebra by its structure constants, and those of its quotient by the radical.
-use Rattle.std.specs.Prelude.{◌≡◌, ◌<◌, ◌+◌, ◌++◌, ℕ, zero, suc, Bool, true, List, [], length, get_or}
-use Rattle.std.proofs.Common.{refl, sym, ◌∙◌, ap, ap₂, subst, ⊎_elim, arith}
+use Rattle.std.specs.Prelude.{◌≡◌, ◌<◌, ◌+◌, ◌++◌, ℕ, zero, suc, Bool, true, List, [], length, get_or, ◌↔◌, ◌⊎◌, ◌≤◌}
+use Rattle.std.specs.List.{All}
+use Rattle.std.proofs.Common.{refl, sym, ◌∙◌, ap, ap₂, subst, ⊎_elim, arith, length-append, inl, inr}
+use Rattle.std.proofs.lemmas.List.{get_or_append_left, get_or-append-add, get_or_default}
+use Rattle.std.proofs.lemmas.List.Elements.{All-append}
+use Rattle.std.proofs.lemmas.Bool.{cases_lt}
 use Rattle.theory_rings.specs.Ring.{FieldOn}
 use Rattle.theory_rings.specs.Ops.{Ops, FieldLaws}
 use Rattle.theory_rings.specs.Elements.{Elem, Elem-path, elements}
-use Rattle.theory_rings.proofs.Rings.RingLaws.{add-zero, add-neg}
 use Rattle.theory_rings.specs.Sum.{at}
-use Rattle.std.specs.List.{All}
-use Rattle.std.proofs.Common.{length-append}
-use Rattle.std.proofs.lemmas.List.{get_or_append_left, get_or-append-add, get_or_default}
-use Rattle.std.proofs.lemmas.List.Elements.{All-append}
+use Rattle.theory_rings.proofs.Rings.RingLaws.{add-zero, add-neg, zero-mul}
 use Rattle.theory_spaces.specs.Module.{ModuleOn, AlgebraOn, module_of}
 use Rattle.theory_spaces.specs.Linear.{comb, InSpan, Basis, IsSubmodule, IsLinear}
 use Rattle.theory_spaces.specs.Sets.{Within, Same, Test, Whole, ring_ops}
 use Rattle.theory_spaces.specs.Tuples.{IsTuple, Tuple, tuple_zero, tuple_add, product, IsTableAlgebra}
+use Rattle.theory_spaces.specs.Sets as sets
+use Rattle.theory_spaces.specs.AlgebraMap.{IsSimple}
 use Rattle.theory_spaces.proofs.Linear.Families.{join, each_join}
 use Rattle.theory_spaces.proofs.Linear.Modules.{InSpan-add, InSpan_trans as span_trans, InSpan-join_left}
-use Rattle.theory_spaces.proofs.Linear.Modules.{InSpan-join_right, InSpan-scale, InSpan-member as span-member}
-use Rattle.theory_spaces.proofs.Linear.Modules.{span_in, map-comb, comb_congr}
-use Rattle.theory_spaces.proofs.Linear.Modules.{comb_congr_right, map-zero, map-neg}
+use Rattle.theory_spaces.proofs.Linear.Modules.{InSpan-join_right, InSpan-scale, InSpan-member as span-member, span_in}
+use Rattle.theory_spaces.proofs.Linear.Modules.{map-comb, comb_congr, comb_congr_right, map-zero, map-neg}
 use Rattle.theory_spaces.proofs.Linear.Spaces.{coords_of}
 use Rattle.theory_spaces.proofs.Linear.SpanTests.{span_test, span_test-in, in-span_test}
 use Rattle.theory_spaces.proofs.Tuples.Tuples.{Tuple-path, tuples, tuple_space, tuples-zero, tuples-add, unit-basis}
-use Rattle.theory_spaces.proofs.Tuples.Tuples.{at-table}
+use Rattle.theory_spaces.proofs.Tuples.Tuples.{at-table, IsTuple-ext}
 use Rattle.theory_spaces.proofs.Tuples.TupleProducts.{tuple_algebra, IsTuple-product}
 use Rattle.theory_spaces.proofs.Tuples.Tables.{unit, space_expand}
-use Rattle.theory_orders.specs.Orders.{IsOrder}
-use Rattle.theory_orders.proofs.Ideals.Ideals.{IdealSum, IdealSum_ideal, ideal_same, whole}
-use Rattle.theory_radical.specs.Ideal.{IsNilpotentIdeal}
-use Rattle.theory_radical.specs.Ideal as ideals
-use Rattle.theory_blocks.specs.MaximalIdeals.{IsMaximalIdeal}
 use Rattle.theory_spaces.proofs.Algebras.SetLemmas.{maximal_same}
-use Rattle.theory_tables.specs.Matrix.{entry, IsMatrix, image}
-use Rattle.theory_tables.specs.Subspace as rows_of
-use Rattle.theory_tables.specs.Structure.{Structure, IsOver, IsAssociative, tuple_ops}
-use Rattle.theory_tables.specs.Algebras.{IsIdentity, SpansIdeal}
-use Rattle.theory_tables.specs.Quotient.{IsQuotient, QuotientKeeps}
-use Rattle.theory_tables.proofs.Algebras.Bridge.{algebra, algebra_is, row, row-is, IsTuple-of, as_tuple}
-use Rattle.theory_tables.proofs.Algebras.Bridge.{table_basis, ideal_row, list_span, to_span, from_span, row-at}
-use Rattle.theory_tables.proofs.Algebras.Bridge.{map_span}
-use Rattle.theory_tables.proofs.Rows.Sums.{entry-elem}
-use Rattle.theory_tables.proofs.Rows.Spans.{InSpan-member, InSpan_trans, InSpan-zero}
-use Rattle.theory_left_orders.proofs.TupleLattices.{is_comb}
-use Rattle.theory_tables.proofs.Algebras.MatrixMaps.{map_by, map_by_linear, map_by-is, IsTuple-image, killed-zero}
-use Rattle.theory_tables.proofs.Algebras.MatrixMaps.{zero-killed}
-use Rattle.theory_tables.proofs.Algebras.Quotients.{quotient_keeps}
+use Rattle.theory_spaces.proofs.Matrices.Matrices.{delta-same}
+use Rattle.theory_orders.specs.Orders.{IsOrder, SimpleQuotient}
+use Rattle.theory_orders.proofs.Ideals.Ideals.{IdealSum, IdealSum_ideal, ideal_same, whole}
+use Rattle.theory_radical.specs.Ideal.{IsNilpotentIdeal, IsLargestNilpotentIdeal}
+use Rattle.theory_radical.specs.Ideal as ideals
+use Rattle.theory_blocks.specs.MaximalIdeals.{IsMaximalIdeal, HasNoNilpotentIdeal}
 use Rattle.theory_residue.specs.Residue.{ReductionOn, Reduced}
 use Rattle.theory_residue.proofs.Correspondence.{of_reduced}
 use Rattle.theory_residue.proofs.Radicals.{maximal_of_simple}
-use Rattle.std.specs.Prelude.{◌↔◌, ◌⊎◌, ◌≤◌}
-use Rattle.std.proofs.lemmas.Bool.{cases_lt}
-use Rattle.theory_rings.proofs.Rings.RingLaws.{zero-mul}
-use Rattle.std.proofs.Common.{inl, inr}
-use Rattle.theory_spaces.specs.Sets as sets
-use Rattle.theory_spaces.specs.AlgebraMap.{IsSimple}
-use Rattle.theory_spaces.proofs.Matrices.Matrices.{delta-same}
-use Rattle.theory_spaces.proofs.Tuples.Tuples.{IsTuple-ext}
-use Rattle.theory_tables.specs.Algebras.{AreZero, SpansAll}
-use Rattle.theory_tables.proofs.Algebras.Bridge.{to_ideal}
-use Rattle.theory_orders.specs.Orders.{SimpleQuotient}
 use Rattle.theory_residue.proofs.ResidueAlgebra.{coord-vec}
 use Rattle.theory_residue.proofs.SimpleLaws.{simple_by_kernel}
-use Rattle.theory_residue.proofs.RadicalQuotients.{reduced_span}
+use Rattle.theory_residue.proofs.RadicalQuotients.{reduced_span, none_nilpotent}
+use Rattle.theory_tables.specs.Matrix.{entry, IsMatrix, image}
+use Rattle.theory_tables.specs.Subspace as rows_of
+use Rattle.theory_tables.specs.Structure.{Structure, IsOver, IsAssociative, tuple_ops}
+use Rattle.theory_tables.specs.Algebras.{IsIdentity, SpansIdeal, AreZero, SpansAll}
+use Rattle.theory_tables.specs.Quotient.{IsQuotient, QuotientKeeps}
+use Rattle.theory_tables.proofs.Algebras.Bridge.{algebra, algebra_is, row, row-is, IsTuple-of, as_tuple, table_basis}
+use Rattle.theory_tables.proofs.Algebras.Bridge.{ideal_row, list_span, to_span, from_span, row-at, map_span, to_ideal}
+use Rattle.theory_tables.proofs.Rows.Sums.{entry-elem}
+use Rattle.theory_tables.proofs.Rows.Spans.{InSpan-member, InSpan_trans, InSpan-zero}
+use Rattle.theory_tables.proofs.Algebras.MatrixMaps.{map_by, map_by_linear, map_by-is, IsTuple-image, killed-zero}
+use Rattle.theory_tables.proofs.Algebras.MatrixMaps.{zero-killed}
+use Rattle.theory_tables.proofs.Algebras.Quotients.{quotient_keeps}
+use Rattle.theory_tables.proofs.Algebras.Powers.{nilpotent_by_powers}
+use Rattle.theory_left_orders.proofs.TupleLattices.{is_comb}
 use Rattle.theory_growth.specs.Steps.{HoldMaximalIdeals}
-use Rattle.theory_growth.specs.MaximalIdeals.{ArePulledBack, AreLifted, MaximalIdealsOverRadical}
-use Rattle.theory_growth.specs.MaximalIdeals.{PulledBackIdeals, LiftedRowsArePulledBack, MaximalByQuotient}
-use Rattle.theory_growth.proofs.Tables.{maximal_down, nilpotent_of_rows, family, family_shape, family_maximal}
-use Rattle.theory_growth.proofs.Tables.{to_family, from_family, family_ideal, family_long, family-at, rows_maximal_of}
+use Rattle.theory_growth.specs.MaximalIdeals.{ArePulledBack, AreLifted, MaximalIdealsOverRadical, PulledBackIdeals}
+use Rattle.theory_growth.specs.MaximalIdeals.{LiftedRowsArePulledBack, MaximalByQuotient, NothingNilpotentOverRadical}
+use Rattle.theory_growth.proofs.Tables.{largest_of_rows, maximal_down, nilpotent_of_rows, family, family_shape}
+use Rattle.theory_growth.proofs.Tables.{family_maximal, to_family, from_family, family_ideal, family_long, family-at}
+use Rattle.theory_growth.proofs.Tables.{rows_maximal_of}
 
 -- a nilpotent ideal that is a span lies in each maximal ideal that is one
 module _ {E V : Type 0} (k : FieldOn E) (A : AlgebraOn k.ring V) (n : ℕ) (B : Basis (module_of A) n) (s m : ℕ)
@@ -359,6 +351,22 @@ module _ {E : Type 0} (o : Ops E) (L : FieldLaws o) (T : Structure E) (over : Is
     }),
   )
 
+  -- ---- nilpotent ideals
+
+  module _ (largest : IsLargestNilpotentIdeal A N) where
+    none : HasNoNilpotentIdeal C
+    unfolding reduction
+    none = none_nilpotent K A m B0 N C reduction map-scale largest
+
+    pub nothing_nilpotent : (e : List E) → IsIdentity o Y e → (rows : List (List E)) → IsMatrix o n rows
+        → sets.IsNilpotentIdeal (tuple_ops o Y) e (IsTuple o n) (rows_of.Combinations o n rows) → AreZero o Y rows
+    nothing_nilpotent e e_id rows shape h i l =
+        let R : SpansIdeal o Y rows = record { shape = shape; ideal = h.ideal } in
+        let powers = nilpotent_by_powers o L Y q.over y_assoc e e_id rows R in
+        let nil = nilpotent_of_rows o L Y q.over y_assoc y_one y_id rows R (powers.nilpotent.0 h) in
+        let g = ideal_row o L Y q.over.of_elements y_assoc y_one y_id rows R in
+        sym (row-is o L n rows shape i l) ∙ ap (λ (x : Tuple o n). x.0) (none (length rows) g nil i l) ∙ c_is.zero-is
+
 pub maximal_ideals_over_radical : {E : Type 0} (o : Ops E) → FieldLaws o → (A : Structure E)
     → MaximalIdealsOverRadical o A
 maximal_ideals_over_radical o L A over assoc one is_one radical S B project lifts q count below above pulled hold =
@@ -544,6 +552,11 @@ module _ {E : Type 0} (o : Ops E) (L : FieldLaws o) (T : Structure E) (over : Is
     lifted_rows v t = (down v t, up v t)
 
 module _ {E : Type 0} (o : Ops E) (L : FieldLaws o) (A : Structure E) where
+  pub nothing_nilpotent_over_radical : NothingNilpotentOverRadical o A
+  nothing_nilpotent_over_radical over assoc one is_one radical S B project lifts q e e_id rows shape h =
+      nothing_nilpotent o L A over assoc one is_one radical S.ideal B project lifts q
+      (largest_of_rows o L A over assoc one is_one radical S) e e_id rows shape h
+
   pub ideals_by_quotients : MaximalByQuotient o A
   ideals_by_quotients over assoc one is_one ideal S B project lifts q =
       maximal_by_quotient o L A over assoc one is_one ideal S B project lifts q

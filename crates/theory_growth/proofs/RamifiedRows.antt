@@ -11,12 +11,12 @@ use Rattle.theory_spaces.specs.Linear.{InSpan}
 use Rattle.theory_spaces.proofs.Linear.Modules.{InSpan-zero}
 use Rattle.theory_spaces.proofs.Tuples.TupleProducts.{tuple_algebra}
 use Rattle.theory_spaces.proofs.Tuples.Tuples.{Tuple-path}
+use Rattle.theory_orders.specs.Uniformizer.{UniformizerOn}
+use Rattle.theory_orders.specs.Lattices.{Lattice}
 use Rattle.theory_tables.specs.Structure.{Structure, IsOver, IsAssociative, tuple_ops}
 use Rattle.theory_tables.specs.Algebras.{SpansIdeal}
 use Rattle.theory_tables.specs.Ramified.{AreTuples, RamifiedTable}
 use Rattle.theory_tables.proofs.Algebras.Bridge.{algebra, algebra_is, row, row-is, as_tuple, ideal_row}
-use Rattle.theory_orders.specs.Uniformizer.{UniformizerOn}
-use Rattle.theory_orders.specs.Lattices.{Lattice}
 use Rattle.theory_fractions.specs.Fraction.{Pair}
 use Rattle.theory_fractions.specs.FractionOps.{fraction_ops}
 use Rattle.theory_places.specs.Places.{Finite}
@@ -28,8 +28,8 @@ use Rattle.theory_bases.specs.Bases.{IsPolynomialFraction}
 use Rattle.theory_left_orders.specs.FractionResidues.{ResidueRingsBy}
 use Rattle.theory_left_orders.specs.TupleResidues.{LeftOrderOf}
 use Rattle.theory_left_orders.specs.TupleIdeals.{IsResidueTable, Preimage}
-use Rattle.theory_left_orders.proofs.TupleLeftOrders.{B, from_basis}
 use Rattle.theory_left_orders.specs.ResidueAlgebras.{Over}
+use Rattle.theory_left_orders.proofs.TupleLeftOrders.{B, from_basis}
 use Rattle.theory_left_orders.proofs.TupleIdeals.{associative, laws, residue_one, vectors_order, reduces, up_to}
 use Rattle.theory_left_orders.proofs.TupleIdeals.{up_from}
 use Rattle.theory_growth.specs.Settled.{residues, IsOrderModulo, IsPreimageLattice, residue_algebra}

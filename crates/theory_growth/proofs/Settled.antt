@@ -14,18 +14,17 @@ use Rattle.theory_spaces.specs.Module.{AlgebraOn, module_of}
 use Rattle.theory_spaces.specs.Sets.{Same, IsOrder}
 use Rattle.theory_spaces.specs.Tuples.{Tuple}
 use Rattle.theory_spaces.proofs.Matrices.Matrices.{delta-same}
+use Rattle.theory_orders.specs.Uniformizer.{IsIntegral, UniformizerOn}
+use Rattle.theory_orders.proofs.LeftOrder.Settled.{unit_of_characteristic}
+use Rattle.theory_residue.proofs.ResidueAlgebra.{coord-vec}
 use Rattle.theory_tables.specs.Structure.{Structure, IsOver, IsAssociative, tuple_ops}
 use Rattle.theory_tables.specs.Algebras.{HasSmallCentre}
 use Rattle.theory_tables.specs.Ramified.{AreTuples}
 use Rattle.theory_tables.proofs.Algebras.Bridge.{algebra, algebra_is, row, row-is, table_basis, to_central}
-use Rattle.theory_orders.specs.Uniformizer.{IsIntegral, UniformizerOn}
-use Rattle.theory_orders.proofs.LeftOrder.Settled.{unit_of_characteristic}
-use Rattle.theory_residue.proofs.ResidueAlgebra.{coord-vec}
 use Rattle.theory_fractions.specs.Fraction.{Pair}
 use Rattle.theory_fractions.specs.FractionOps.{fraction_ops}
 use Rattle.theory_places.specs.Places.{Finite}
-use Rattle.theory_places.specs.FractionPlaces.{IsIntegralAt, IsMonicIrreducible, fractions}
-use Rattle.theory_places.specs.FractionPlaces.{FractionPlaceValuation}
+use Rattle.theory_places.specs.FractionPlaces.{IsIntegralAt, IsMonicIrreducible, fractions, FractionPlaceValuation}
 use Rattle.theory_places.proofs.FractionPlaces.{fraction_places}
 use Rattle.theory_bases.specs.TupleLattices.{TupleLattice, AreIndependentTuples}
 use Rattle.theory_bases.specs.Bases.{IsPolynomialFraction}
@@ -33,8 +32,7 @@ use Rattle.theory_left_orders.specs.FractionResidues.{ResidueRingsBy}
 use Rattle.theory_left_orders.specs.TupleIdeals.{IsResidueTable, Preimage}
 use Rattle.theory_growth.specs.Steps.{NoneGrows}
 use Rattle.theory_growth.specs.Settled.{residues, IsOrderModulo, IsRadicalBy, NothingGrowsBy, IsSettled}
-use Rattle.theory_growth.specs.Settled.{residue_algebra}
-use Rattle.theory_growth.specs.Settled.{SettledWhereNothingGrows}
+use Rattle.theory_growth.specs.Settled.{residue_algebra, SettledWhereNothingGrows}
 use Rattle.theory_growth.proofs.Localized.{order_of, table_of, preimage_of, does_not_grow}
 use Rattle.theory_growth.proofs.FractionPlaces.{localizes, residues_agree, fraction_characteristic}
 use Rattle.theory_growth.proofs.Placed as placed

@@ -18,6 +18,8 @@ use Rattle.theory_spaces.proofs.Linear.Modules.{comb_congr_right}
 use Rattle.theory_spaces.proofs.Linear.SpanTests.{decided}
 use Rattle.theory_spaces.proofs.Tuples.TupleProducts.{tuple_algebra}
 use Rattle.theory_spaces.proofs.Tuples.Tuples.{Tuple-path}
+use Rattle.theory_radical.specs.Ideal.{IsNilpotentIdeal, IsLargestNilpotentIdeal}
+use Rattle.theory_blocks.specs.MaximalIdeals.{IsMaximalIdeal}
 use Rattle.theory_tables.specs.Matrix.{IsMatrix}
 use Rattle.theory_tables.specs.Subspace as rows_of
 use Rattle.theory_tables.specs.Subspace.{Combinations}
@@ -27,8 +29,6 @@ use Rattle.theory_tables.specs.Traces.{PowerVanishes}
 use Rattle.theory_tables.proofs.Algebras.Bridge.{algebra, algebra_is, one-is, as_tuple, IsTuple-of, row, row-is}
 use Rattle.theory_tables.proofs.Algebras.Bridge.{to_span, from_span, to_ideal, ideal_row, list_span}
 use Rattle.theory_tables.proofs.Algebras.Powers.{nilpotent_by_powers}
-use Rattle.theory_radical.specs.Ideal.{IsNilpotentIdeal, IsLargestNilpotentIdeal}
-use Rattle.theory_blocks.specs.MaximalIdeals.{IsMaximalIdeal}
 use Rattle.theory_chains.specs.Radical.{SpansRadical}
 
 module _ {E : Type 0} (o : Ops E) (L : FieldLaws o) (T : Structure E) (over : IsOver o T) (assoc : IsAssociative o T)

@@ -11,13 +11,13 @@ use Rattle.theory_spaces.specs.Valuation.{ValuationOn}
 use Rattle.theory_spaces.specs.Sets.{IsOrder}
 use Rattle.theory_spaces.specs.Tuples.{Tuple, IsTableAlgebra}
 use Rattle.theory_spaces.proofs.Tuples.TupleProducts.{tuple_algebra}
+use Rattle.theory_orders.specs.Dual.{IsSelfDual}
+use Rattle.theory_orders.specs.Lattices.{Lattice, IsOrderAt}
 use Rattle.theory_tables.specs.Matrix.{IsMatrix}
 use Rattle.theory_tables.specs.Structure.{Structure, IsOver, IsAssociative, tuple_ops}
 use Rattle.theory_tables.specs.Algebras.{IsIdentity}
 use Rattle.theory_tables.specs.Traces.{trace as list_trace}
 use Rattle.theory_tables.proofs.Algebras.Bridge.{algebra, algebra_is, one-is, row, as_tuple, table_basis, trace-is}
-use Rattle.theory_orders.specs.Dual.{IsSelfDual}
-use Rattle.theory_orders.specs.Lattices.{Lattice, IsOrderAt}
 use Rattle.theory_bases.specs.TupleLattices.{TupleLattice, AreIndependentTuples, IsTraceDualOfItself, trace_of_product}
 use Rattle.theory_left_orders.proofs.TupleLattices as lattices
 use Rattle.theory_left_orders.proofs.TupleLattices.{to_lattice, from_lattice}

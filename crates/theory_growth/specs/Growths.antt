@@ -6,22 +6,24 @@
 -- of the order of the moment by a number that is left. Each growth takes one off (BoundFalls), so the number left is
 -- the loop's measure, and once it is 0 nothing can grow: `for _ in 0..=b` never comes to its end, where b is the
 -- dimension times the degree of a polynomial that carries the dual into the first order (BoundByDegree).
-use Rattle.std.specs.Prelude.{◌≡◌, ◌≢◌, ◌<◌, ◌≤◌, ◌-◌, ◌*◌, ℕ, suc, List, []}
+use Rattle.std.specs.Prelude.{◌≡◌, ◌≢◌, ◌<◌, ◌≤◌, ◌-◌, ◌*◌, ℕ, suc, List, [], get_or, length}
 use Rattle.theory_rings.specs.Ops.{Ops, FieldLaws}
+use Rattle.theory_rings.specs.Polynomial.{degree}
 use Rattle.theory_spaces.specs.Sets.{Within, Same, Multiple}
 use Rattle.theory_spaces.specs.Tuples.{IsTuple, tuple_scale}
 use Rattle.theory_spaces.specs.Lattice.{DualOf}
+use Rattle.theory_tables.specs.Matrix.{IsMatrix}
+use Rattle.theory_tables.specs.Algebras.{IsIdentity}
 use Rattle.theory_tables.specs.Structure.{Structure, IsOver, IsAssociative, tuple_ops}
 use Rattle.theory_tables.specs.Traces.{IsNondegenerate}
-use Rattle.theory_rings.specs.Polynomial.{degree}
 use Rattle.theory_fractions.specs.PolynomialLists.{IsPolynomialList}
 use Rattle.theory_fractions.specs.Fraction.{Pair}
 use Rattle.theory_fractions.specs.FractionOps.{fraction_ops}
 use Rattle.theory_fractions.specs.CommonDenominator.{as_fraction}
 use Rattle.theory_places.specs.Places.{Finite}
 use Rattle.theory_places.specs.FractionPlaces.{IsIntegralAt, IsMonicIrreducible, fractions}
-use Rattle.theory_bases.specs.TupleLattices.{TupleLattice, SameTupleLattice, AreIndependentTuples}
-use Rattle.theory_bases.specs.TupleLattices.{SpanOrder, trace_of_product}
+use Rattle.theory_bases.specs.TupleLattices.{TupleLattice, SameTupleLattice, AreIndependentTuples, SpanOrder}
+use Rattle.theory_bases.specs.TupleLattices.{AreTraceDual, trace_of_product}
 use Rattle.theory_bases.specs.Bases.{IsPolynomialFraction}
 use Rattle.theory_left_orders.specs.FractionResidues.{ResidueRingsBy}
 use Rattle.theory_left_orders.specs.TupleResidues.{LeftOrderOf}
@@ -76,6 +78,17 @@ module _ {E : Type 0} (o : Ops E) (L : FieldLaws o) (A : Structure (Pair E)) whe
   CarriesDual c tuples = (x : List (Pair E)) → IsTuple (fraction_ops o L) A.dim x
       → DualOf (trace_of_product (fraction_ops o L) A) (IsPolynomialFraction o) (PolynomialLattice tuples) x
       → PolynomialLattice tuples (tuple_scale (fraction_ops o L) A.dim (as_fraction o c) x)
+
+  -- so does a polynomial that carries the dual basis into the lattice
+  abbrev pub DualBasisIsCarried : Type 0
+  DualBasisIsCarried = IsOver (fraction_ops o L) A → IsAssociative (fraction_ops o L) A
+      → (one : List (Pair E)) → IsIdentity (fraction_ops o L) A one
+      → (tuples duals : List (List (Pair E))) → AreIndependentTuples (fraction_ops o L) A.dim tuples
+      → IsMatrix (fraction_ops o L) A.dim duals → AreTraceDual (fraction_ops o L) A tuples duals
+      → length duals ≡ A.dim → (c : List E) → IsPolynomialList o c
+      → ((i : ℕ) → i < A.dim
+      → PolynomialLattice tuples (tuple_scale (fraction_ops o L) A.dim (as_fraction o c) (get_or duals i [])))
+      → CarriesDual c tuples
 
   -- the dimension times the degree of such a polynomial is a bound, for each m
   abbrev pub BoundByDegree : Type 0

@@ -3,7 +3,7 @@
 use Rattle.std.specs.Prelude.{◌≡◌, ◌↔◌, ◌⊎◌, ◌<◌, ◌≤◌, ◌++◌, ℕ, List, length}
 use Rattle.theory_rings.specs.Ops.{Ops}
 use Rattle.theory_rings.specs.Sum.{sum_of}
-use Rattle.theory_spaces.specs.Sets.{IsMaximalIdeal}
+use Rattle.theory_spaces.specs.Sets.{IsMaximalIdeal, IsNilpotentIdeal}
 use Rattle.theory_spaces.specs.Tuples.{IsTuple}
 use Rattle.theory_tables.specs.Matrix.{entry, IsMatrix, image}
 use Rattle.theory_tables.specs.Subspace.{InSpan, Combinations}
@@ -57,3 +57,11 @@ module _ {E : Type 0} (o : Ops E) (A : Structure E) where
       → (B : Structure E) (project lifts : List (List E)) → IsQuotient o A ideal B project lifts
       → IsMaximalIdeal (tuple_ops o A) (IsTuple o A.dim) (Combinations o A.dim ideal)
       ↔ (((rows : List (List E)) → SpansIdeal o B rows → AreZero o B rows ⊎ SpansAll o B rows) × (1 ≤ B.dim))
+
+  -- the quotient by the radical has no nilpotent ideal but 0
+  abbrev pub NothingNilpotentOverRadical : Type 0
+  NothingNilpotentOverRadical = IsOver o A → IsAssociative o A → (one : List E) → IsIdentity o A one
+      → (radical : List (List E)) → SpansRadical o A radical
+      → (B : Structure E) (project lifts : List (List E)) → IsQuotient o A radical B project lifts
+      → (e : List E) → IsIdentity o B e → (rows : List (List E)) → IsMatrix o B.dim rows
+      → IsNilpotentIdeal (tuple_ops o B) e (IsTuple o B.dim) (Combinations o B.dim rows) → AreZero o B rows

@@ -1,13 +1,15 @@
 // Theorems on the maximal ideals of an algebra by its structure constants.
 ghost use Rattle.theory_rings.specs.Ops.{Ops, FieldLaws};
 ghost use Rattle.theory_tables.specs.Structure.{Structure};
-ghost use Rattle.theory_growth.specs.MaximalIdeals.{LiftedRowsArePulledBack, PulledBackIdeals};
-ghost use Rattle.theory_growth.specs.MaximalIdeals.{MaximalIdealsOverRadical, MaximalByQuotient};
+ghost use Rattle.theory_growth.specs.MaximalIdeals.{LiftedRowsArePulledBack, PulledBackIdeals, MaximalByQuotient};
+ghost use Rattle.theory_growth.specs.MaximalIdeals.{MaximalIdealsOverRadical, NothingNilpotentOverRadical};
 
 /// Each maximal ideal of an associative algebra with identity comes from one of the quotient by the radical. What an
 /// ideal of a quotient comes from is an ideal: the lifts of rows that span it, followed by rows of the kernel, span it.
+/// The quotient by the radical has no nilpotent ideal but 0.
 pub fn maximal_ideals_over_the_radical<E>()
     ensures complete { (o : Ops E) → FieldLaws o → (A : Structure E) → MaximalIdealsOverRadical o A }
+    ensures none { (o : Ops E) → FieldLaws o → (A : Structure E) → NothingNilpotentOverRadical o A }
     ensures ideals { (o : Ops E) → FieldLaws o → (A : Structure E) → PulledBackIdeals o A }
     ensures rows { (o : Ops E) → FieldLaws o → (A : Structure E) → LiftedRowsArePulledBack o A }
 {}
