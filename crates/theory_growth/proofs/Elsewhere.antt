@@ -24,7 +24,7 @@ use Rattle.theory_left_orders.proofs.FractionResidues.{residue_rings}
 use Rattle.theory_left_orders.proofs.TupleLeftOrders.{left_orders_are_orders}
 use Rattle.theory_growth.specs.Settled.{residues}
 use Rattle.theory_growth.specs.Growths.{PolynomialLattice, IsStep, IsGrowth, StepsKeepOtherPlaces, GrowthsFall}
-use Rattle.theory_growth.specs.Growths.{LeftOrdersAreSteps}
+use Rattle.theory_growth.specs.Growths.{LeftOrdersAreSteps, OwnDualIsKept}
 use Rattle.theory_growth.proofs.Localized.{Multiplier, times, clear, uncleared}
 use Rattle.theory_growth.proofs.FractionPlaces.{localizes, residues_agree, place_multiplier, place_multiplier-is}
 
@@ -134,6 +134,13 @@ module _ {E : Type 0} (o : Ops E) (L : FieldLaws o) (A : Structure (Pair E)) whe
           → SpanOrder (fraction_ops o L) A (IsPolynomialFraction o) (t k)
       order_at zero t O each = O
       order_at (suc k) t O each = (each k (omega arith)).order
+
+module _ {E : Type 0} (o : Ops E) (L : FieldLaws o) (A : Structure (Pair E)) where
+  pub own_dual_is_kept : OwnDualIsKept o L A
+  own_dual_is_kept l a b same h = record {
+    into = λ x t d. same.0 x (h.into x t (λ y hy. d y (same.0 y hy)));
+    back = λ x hx y hy. h.back x (same.1 x hx) y (same.1 y hy);
+  }
 
 -- ---- left orders
 

@@ -23,7 +23,7 @@ use Rattle.theory_fractions.specs.CommonDenominator.{as_fraction}
 use Rattle.theory_places.specs.Places.{Finite}
 use Rattle.theory_places.specs.FractionPlaces.{IsIntegralAt, IsMonicIrreducible, fractions}
 use Rattle.theory_bases.specs.TupleLattices.{TupleLattice, SameTupleLattice, AreIndependentTuples, SpanOrder}
-use Rattle.theory_bases.specs.TupleLattices.{AreTraceDual, trace_of_product}
+use Rattle.theory_bases.specs.TupleLattices.{AreTraceDual, IsTraceDualOfItself, trace_of_product}
 use Rattle.theory_bases.specs.Bases.{IsPolynomialFraction}
 use Rattle.theory_left_orders.specs.FractionResidues.{ResidueRingsBy}
 use Rattle.theory_left_orders.specs.TupleResidues.{LeftOrderOf}
@@ -58,6 +58,13 @@ module _ {E : Type 0} (o : Ops E) (L : FieldLaws o) (A : Structure (Pair E)) whe
       → IsMonicIrreducible o m → (k : ℕ) (t : ℕ → List (List (Pair E)))
       → SpanOrder (fraction_ops o L) A (IsPolynomialFraction o) (t 0)
       → ((i : ℕ) → i < k → IsStep m (t i) (t (suc i))) → AreSameElsewhere m (t 0) (t k)
+
+  -- tuples with the same lattice at a place are their own dual for the trace there together
+  abbrev pub OwnDualIsKept : Type 0
+  OwnDualIsKept = (l : List E) (a b : List (List (Pair E)))
+      → SameTupleLattice (fraction_ops o L) (IsIntegralAt o (Finite l)) A.dim a b
+      → IsTraceDualOfItself (fraction_ops o L) A (IsIntegralAt o (Finite l)) a
+      → IsTraceDualOfItself (fraction_ops o L) A (IsIntegralAt o (Finite l)) b
 
   -- orders that grow one after the other from that of the tuples are at most b
   abbrev pub GrowthBound : List E → List (List (Pair E)) → ℕ → Type 0

@@ -5,7 +5,7 @@ ghost use Rattle.theory_fractions.specs.Fraction.{Pair};
 ghost use Rattle.theory_fractions.specs.FractionOps.{fraction_ops};
 ghost use Rattle.theory_growth.specs.Settled.{SettledWhereNothingGrows};
 ghost use Rattle.theory_growth.specs.Growths.{LeftOrdersAreSteps, StepsKeepOtherPlaces, BoundsExist, BoundByDegree};
-ghost use Rattle.theory_growth.specs.Growths.{GrowthsFall, DualBasisIsCarried};
+ghost use Rattle.theory_growth.specs.Growths.{GrowthsFall, DualBasisIsCarried, OwnDualIsKept};
 ghost use Rattle.theory_growth.specs.RamifiedRows.{RamifiedByRows};
 
 use theory_fractions::fraction_laws::ProgramField;
@@ -24,15 +24,17 @@ pub fn left_orders_are_steps<F: ProgramField>()
     ensures { (M : FieldLaws (fraction_ops F.ops F.laws)) → LeftOrdersAreSteps F.ops F.laws M }
 {}
 
-/// After any number of such steps the order is the same at each other monic irreducible polynomial.
+/// After any number of such steps the order is the same at each other monic irreducible polynomial. So it is still its
+/// own dual for the trace where it was.
 pub fn steps_keep_other_places<F: ProgramField>()
-    ensures { (A : Structure (Pair F.Value)) → StepsKeepOtherPlaces F.ops F.laws A }
+    ensures same { (A : Structure (Pair F.Value)) → StepsKeepOtherPlaces F.ops F.laws A }
+    ensures dual { (A : Structure (Pair F.Value)) → OwnDualIsKept F.ops F.laws A }
 {}
 
 /// Where the trace form is nondegenerate, there is a bound on the number of orders that grow one after the other from a
 /// given one at a monic irreducible polynomial. Also without that, the dimension times the degree of a polynomial that
-/// carries the dual of the order into it is such a bound; it carries the dual where it carries the dual basis. Where the
-/// order grows, a bound is at least 1, and one less is a bound for the larger order.
+/// carries the dual of the order into it is such a bound; it carries the dual where it carries the dual basis. Where
+/// the order grows, a bound is at least 1, and one less is a bound for the larger order.
 pub fn growth_is_bounded<F: ProgramField>()
     ensures exists { (A : Structure (Pair F.Value)) → BoundsExist F.ops F.laws A }
     ensures degree { (A : Structure (Pair F.Value)) → BoundByDegree F.ops F.laws A }
