@@ -1,5 +1,6 @@
 // Calls on algebras.
-ghost use Rattle.std.specs.Prelude.{◌≡◌, IfOk, IsTrue};
+ghost use Rattle.std.specs.Prelude.{◌≡◌, All, IfOk, IsTrue};
+ghost use Rattle.theory_rings.specs.Ops.{IsElem};
 ghost use Rattle.theory_tables.specs.Structure.{IsOver};
 ghost use Rattle.theory_tables.specs.Subspace.{IsSubspace};
 ghost use Rattle.theory_tables.specs.Algebras.{SpansAll};
@@ -62,6 +63,42 @@ fn basis_product<F: Scalars>(
     let i = args::below(i, algebra.dim())?;
     let j = args::below(j, algebra.dim())?;
     show::vector(alloc, out, f, algebra.basis_product(f, i, j))
+}
+
+/// Places counted from 1, each with its element; `none` where there is none.
+fn pairs<F: Scalars>(
+    alloc: Global,
+    f: &F,
+    list: &[(usize, F::Elem)],
+    out: &mut Vec<u8>,
+) -> Result<(), Fault>
+    requires { All (λ pair. IsElem (F.ops f.now) pair.1) list.now }
+{
+    if list.is_empty() {
+        return show::word(out, "none");
+    }
+    for (k, c) in list {
+        show::count(out, *k)?;
+        show::element(alloc, out, f, c)?;
+    }
+    Ok(())
+}
+
+/// `entries A i j`: the constants of the product of two basis elements that are not 0, each behind the number of its
+/// basis element, all counted from 1; `none` where the product is 0.
+fn entries<F: Scalars>(
+    alloc: Global,
+    f: &F,
+    algebra: &Algebra<F>,
+    i: &str,
+    j: &str,
+    out: &mut Vec<u8>,
+) -> Result<(), Fault>
+    requires { IsOver (F.ops f.now) algebra.now }
+{
+    let i = args::positive(i, algebra.dim())?;
+    let j = args::positive(j, algebra.dim())?;
+    pairs(alloc, f, algebra.entries(i, j).as_slice(), out)
 }
 
 /// `associates_at A i j k`
@@ -323,6 +360,47 @@ fn on_algebra<F: Scalars>(
     }
 }
 
+/// The answer of a call on an algebra and one word.
+fn on_one<F: Scalars>(
+    alloc: Global,
+    f: &F,
+    call: &str,
+    algebra: &Algebra<F>,
+    a: &str,
+    out: &mut Vec<u8>,
+) -> Result<(), Fault>
+    requires { IsOver (F.ops f.now) algebra.now }
+{
+    match call {
+        "basis_element" => basis_element(alloc, f, algebra, a, out),
+        "left_matrix" => left_matrix(alloc, f, algebra, a, out),
+        "ideal_generated" => ideal_generated(alloc, f, algebra, a, out),
+        "quotient" => quotient(alloc, f, algebra, a, out),
+        _ => Err(Fault::BadLine),
+    }
+}
+
+/// The answer of a call on an algebra and two words.
+fn on_two<F: Scalars>(
+    alloc: Global,
+    f: &F,
+    call: &str,
+    algebra: &Algebra<F>,
+    a: &str,
+    b: &str,
+    out: &mut Vec<u8>,
+) -> Result<(), Fault>
+    requires { IsOver (F.ops f.now) algebra.now }
+{
+    match call {
+        "mul" => mul(alloc, f, algebra, a, b, out),
+        "basis_product" => basis_product(alloc, f, algebra, a, b, out),
+        "entries" => entries(alloc, f, algebra, a, b, out),
+        "power_of_ideal" => power_of_ideal(alloc, f, algebra, a, b, out),
+        _ => Err(Fault::BadLine),
+    }
+}
+
 /// The answer of a call on an algebra and what stands behind it.
 fn on_more<F: Scalars>(
     alloc: Global,
@@ -334,16 +412,11 @@ fn on_more<F: Scalars>(
 ) -> Result<(), Fault>
     requires { IsOver (F.ops f.now) algebra.now }
 {
-    match (call, words) {
-        (_, []) => on_algebra(alloc, f, call, algebra, out),
-        ("mul", [a, b]) => mul(alloc, f, algebra, a, b, out),
-        ("basis_element", [i]) => basis_element(alloc, f, algebra, i, out),
-        ("basis_product", [i, j]) => basis_product(alloc, f, algebra, i, j, out),
-        ("associates_at", [i, j, k]) => associates_at(alloc, f, algebra, i, j, k, out),
-        ("left_matrix", [a]) => left_matrix(alloc, f, algebra, a, out),
-        ("ideal_generated", [rows]) => ideal_generated(alloc, f, algebra, rows, out),
-        ("quotient", [rows]) => quotient(alloc, f, algebra, rows, out),
-        ("power_of_ideal", [rows, n]) => power_of_ideal(alloc, f, algebra, rows, n, out),
+    match words {
+        [] => on_algebra(alloc, f, call, algebra, out),
+        [a] => on_one(alloc, f, call, algebra, a, out),
+        [a, b] => on_two(alloc, f, call, algebra, a, b, out),
+        [i, j, k] if call == "associates_at" => associates_at(alloc, f, algebra, i, j, k, out),
         _ => Err(Fault::BadLine),
     }
 }
