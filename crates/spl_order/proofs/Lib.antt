@@ -9,3 +9,5 @@ pub mod Contents
 pub mod RowBases
 pub mod LatticeBases
 pub mod StartRows
+pub mod InverseSteps
+pub mod InverseRows

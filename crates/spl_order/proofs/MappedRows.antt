@@ -25,3 +25,7 @@ pub some_of_not_none : {A : Type 0} (P : Type 0) (Q : A → Type 0) (r : Option 
     → IsSome r
 some_of_not_none P Q None h n = absurd (n h)
 some_of_not_none P Q (Some x) h n = refl
+
+pub some_of_no_none : {A : Type 0} (r : Option A) → (r ≡ None → ⊥) → IsSome r
+some_of_no_none None n = absurd (n refl)
+some_of_no_none (Some x) n = refl

@@ -13,7 +13,7 @@ use Rattle.theory_tables.proofs.Rows.Spans.{grow_at}
 use Rattle.theory_rows.specs.Rows.{IsPolynomialRow, IsPolynomialMatrix}
 use Rattle.spl_order.specs.Values.{HasRow, HasMatrix}
 
-longer : {X : Type 0} (n : ℕ) (before after : List X) (x : X) → length before ≡ n → after ≡ before ++ x ∷ []
+pub longer : {X : Type 0} (n : ℕ) (before after : List X) (x : X) → length before ≡ n → after ≡ before ++ x ∷ []
     → length after ≡ n + 1
 longer n before after x h e = ap length e ∙ length-append before (x ∷ []) ∙ omega (arith, h)
 

@@ -6,7 +6,7 @@ use Rattle.theory_fractions.specs.PolynomialLists.{IsPolynomialList}
 use Rattle.theory_fractions.specs.Fraction.{Pair}
 use Rattle.theory_fractions.specs.FractionOps.{fraction_ops}
 use Rattle.theory_fractions.specs.CommonDenominator.{as_fraction}
-use Rattle.theory_rows.specs.Rows.{IsPolynomialMatrix}
+use Rattle.theory_rows.specs.Rows.{IsPolynomialRow, IsPolynomialMatrix, IsRowCombination}
 
 module _ {E : Type 0} (o : Ops E) where
   -- w polynomials with these values
@@ -27,6 +27,14 @@ module _ {E : Type 0} (o : Ops E) where
 -- the row of n polynomials that is c at the place i, and else 0
 abbrev pub scaled_unit : {E : Type 0} → List E → ℕ → ℕ → List (List E)
 scaled_unit c n i = table n (λ k. cond (nat_eq k i) c [])
+
+module _ {E : Type 0} (o : Ops E) where
+  -- the first m rows are weights that combine the rows to the units of n places times the polynomial
+  pub record AreUnitCoordinates (rows : List (List (List E))) (n : ℕ) (scale : List E) (m : ℕ)
+      (weights : List (List (List E))) : Type 0 where
+    pub count : length weights ≡ m
+    pub polynomials : (i : ℕ) → i < m → IsPolynomialRow o (length rows) (get_or weights i [])
+    pub combines : (i : ℕ) → i < m → IsRowCombination o (get_or weights i []) rows (scaled_unit scale n i)
 
 module _ {E : Type 0} (o : Ops E) (L : FieldLaws o) where
   -- the entries of the product of two matrices, over n middle places

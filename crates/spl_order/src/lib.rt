@@ -9,6 +9,7 @@ pub mod basis;
 mod copies;
 mod denominators;
 mod fractions;
+mod inverse;
 mod lattice_bases;
 mod matrices;
 mod numerators;

@@ -15,13 +15,15 @@ use Rattle.theory_fractions.specs.PolynomialLists.{IsPolynomialList}
 use Rattle.theory_fractions.specs.Fraction.{Pair}
 use Rattle.theory_spaces.specs.Module.{ModuleOn}
 use Rattle.theory_spaces.specs.Linear.{Basis}
+use Rattle.theory_spaces.specs.Linear as linear
+use Rattle.theory_spaces.proofs.Linear.Spaces.{coords_of, full_span}
 use Rattle.theory_spaces.specs.Tuples.{IsTuple, Tuple}
 use Rattle.theory_spaces.proofs.Linear.Dimension.{exchange}
 use Rattle.theory_spaces.proofs.Tuples.Tables.{space_basis}
 use Rattle.theory_spaces.proofs.Tuples.Tuples.{tuples, tuple_space}
 use Rattle.theory_tables.specs.Matrix.{IsMatrix}
 use Rattle.theory_tables.specs.Subspace.{InSpan, AreIndependent}
-use Rattle.theory_tables.proofs.Algebras.Bridge.{row, to_span, to_independent, IsTuple-of}
+use Rattle.theory_tables.proofs.Algebras.Bridge.{row, to_span, from_span, to_independent, as_tuple, IsTuple-of}
 use Rattle.theory_tables.proofs.Rows.Spans.{InSpan_trans}
 use Rattle.theory_tables.proofs.Rows.Sums.{sum_of_zeros}
 use Rattle.theory_tables.proofs.Rows.Terms.{zero-mul}
@@ -58,6 +60,14 @@ module _ {E : Type 0} (o : Ops E) (L : FieldLaws o) (m : ℕ) (rows : List (List
       let high : m ≤ length rows = exchange F N m (length rows) units.vec v units.independent
       (λ i _. let x = units.vec i in to_span o L m rows shape x (spans x.0 (IsTuple-of o L m x))) in
       omega arith
+
+  pub spans_of_count : AreIndependent o m rows → length rows ≡ m → (x : List E) → IsTuple o m x → InSpan o m rows x
+  spans_of_count free count x hx =
+      let y = as_tuple o L m x hx in
+      from_span o L m rows shape y (subst (λ n. linear.InSpan N n v y) (sym count)
+      (full_span F N m (coords_of N m units) m units.vec v
+      (λ z. record { weights = units.coord z; combines = units.expand z })
+      (subst (λ n. linear.Independent N n v) count (to_independent o L m rows shape free)) y))
 
   -- a combination with weights in a set is one
   pub span_of_lattice : (P : E → Type 0) (x : List E) → InSpanOver o P m rows x → InSpan o m rows x
