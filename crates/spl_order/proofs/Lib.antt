@@ -11,3 +11,5 @@ pub mod LatticeBases
 pub mod StartRows
 pub mod InverseSteps
 pub mod InverseRows
+pub mod ClearedForms
+pub mod DualBases

@@ -8,6 +8,7 @@
 pub mod basis;
 mod copies;
 mod denominators;
+pub mod forms;
 mod fractions;
 mod inverse;
 mod lattice_bases;

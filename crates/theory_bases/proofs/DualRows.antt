@@ -6,7 +6,7 @@ use Rattle.theory_rings.specs.Ring.{FieldOn}
 use Rattle.theory_rings.specs.Ops.{Ops, IsElem, FieldLaws}
 use Rattle.theory_rings.specs.Elements.{Elem, Elem-path, elements}
 use Rattle.theory_rings.specs.Sum.{sum}
-use Rattle.theory_rings.proofs.Rings.Fields.{mul_left_cancel}
+use Rattle.theory_rings.proofs.Rings.Fields.{mul_left_cancel, field_mul-ne-zero}
 use Rattle.theory_rings.proofs.Rings.Solver.{◌⊠◌, ring3, ring4}
 use Rattle.theory_rings.proofs.Sums.Sums.{sum_congr, mul-sum}
 use Rattle.theory_spaces.specs.Matrix.{delta}
@@ -52,8 +52,26 @@ module _ {E : Type 0} (o : Ops E) (L : FieldLaws o) (A : Structure E) (constants
   abbrev τ : ℕ → ℕ → Elem o
   τ = matrix o L A constants assoc
 
+  -- the form at a row a over d, by b, which is e times the matrix of the form
+  pub scaled_form : (x y : Tuple o m) (a : ℕ → Elem o) (b : ℕ → ℕ → Elem o) (d e : Elem o)
+      → ((k : ℕ) → k < m → K.◌⊗◌ d (coord x k) ≡ a k) → ((k l : ℕ) → k < m → l < m → b k l ≡ K.◌⊗◌ e (τ k l))
+      → K.◌⊗◌ (K.◌⊗◌ d e) (f x y) ≡ sum K.monoid m
+      (λ l. K.◌⊗◌ (sum K.monoid m (λ k. K.◌⊗◌ (a k) (b k l))) (coord y l))
+  scaled_form x y a b d e x-is b-is =
+      let inner : ℕ → Elem o = λ l. sum K.monoid m (λ k. K.◌⊗◌ (coord x k) (τ k l)) in
+      ap (K.◌⊗◌ (K.◌⊗◌ d e)) (form_by_matrix o L A constants assoc x y)
+      ∙ mul-sum K.ring m (K.◌⊗◌ d e) (λ l. K.◌⊗◌ (inner l) (coord y l))
+      ∙ sum_congr K.monoid m (λ l. K.◌⊗◌ (K.◌⊗◌ d e) (K.◌⊗◌ (inner l) (coord y l)))
+      (λ l. K.◌⊗◌ (sum K.monoid m (λ k. K.◌⊗◌ (a k) (b k l))) (coord y l)) (λ l l_in.
+      sym (K.mul_assoc (K.◌⊗◌ d e) (inner l) (coord y l))
+      ∙ ap (λ z. K.◌⊗◌ z (coord y l)) (mul-sum K.ring m (K.◌⊗◌ d e) (λ k. K.◌⊗◌ (coord x k) (τ k l))
+      ∙ sum_congr K.monoid m (λ k. K.◌⊗◌ (K.◌⊗◌ d e) (K.◌⊗◌ (coord x k) (τ k l))) (λ k. K.◌⊗◌ (a k) (b k l))
+      (λ k k_in. ring4 K.cring (λ d e x t. ((d ⊠ e) ⊠ (x ⊠ t), (d ⊠ x) ⊠ (e ⊠ t))) refl d e (coord x k) (τ k l)
+      ∙ ap₂ K.◌⊗◌ (x-is k k_in) (sym (b-is k l k_in l_in)))))
+
   -- X is a over d, b is e times the matrix of the form, and Y is d·e·r over s, where r times the transposed of a·b is s
   module _ (X Y : ℕ → Tuple o m) (a b r : ℕ → ℕ → Elem o) (d e s : Elem o) (s_nonzero : s ≢ K.zero)
+      (de_nonzero : K.◌⊗◌ d e ≢ K.zero)
       (X-is : (i k : ℕ) → i < m → k < m → K.◌⊗◌ d (coord (X i) k) ≡ a i k)
       (b-is : (k l : ℕ) → k < m → l < m → b k l ≡ K.◌⊗◌ e (τ k l))
       (Y-is : (j l : ℕ) → j < m → l < m → K.◌⊗◌ s (coord (Y j) l) ≡ K.◌⊗◌ (K.◌⊗◌ d e) (r j l))
@@ -61,22 +79,20 @@ module _ {E : Type 0} (o : Ops E) (L : FieldLaws o) (A : Structure E) (constants
       (λ l. K.◌⊗◌ (r j l) (sum K.monoid m (λ k. K.◌⊗◌ (a i k) (b k l)))) ≡ K.◌⊗◌ s (delta K.ring i j)) where
     pub dual_pairing : (i j : ℕ) → i < m → j < m → f (X i) (Y j) ≡ delta K.ring i j
     dual_pairing i j i_in j_in =
-        let x = coord (X i) in
         let y = coord (Y j) in
-        let inner : ℕ → Elem o = λ l. sum K.monoid m (λ k. K.◌⊗◌ (x k) (τ k l)) in
-        mul_left_cancel K s (f (X i) (Y j)) (delta K.ring i j) s_nonzero (
-        ap (K.◌⊗◌ s) (form_by_matrix o L A constants assoc (X i) (Y j))
-        ∙ mul-sum K.ring m s (λ l. K.◌⊗◌ (inner l) (y l))
-        ∙ sum_congr K.monoid m (λ l. K.◌⊗◌ s (K.◌⊗◌ (inner l) (y l)))
-        (λ l. K.◌⊗◌ (r j l) (sum K.monoid m (λ k. K.◌⊗◌ (a i k) (b k l)))) (λ l l_in.
-        ring3 K.cring (λ s t y. (s ⊠ (t ⊠ y), t ⊠ (s ⊠ y))) refl s (inner l) (y l)
-        ∙ ap (K.◌⊗◌ (inner l)) (Y-is j l j_in l_in)
-        ∙ ring4 K.cring (λ t d e r. (t ⊠ ((d ⊠ e) ⊠ r), r ⊠ ((d ⊠ e) ⊠ t))) refl (inner l) d e (r j l)
-        ∙ ap (K.◌⊗◌ (r j l)) (mul-sum K.ring m (K.◌⊗◌ d e) (λ k. K.◌⊗◌ (x k) (τ k l))
-        ∙ sum_congr K.monoid m (λ k. K.◌⊗◌ (K.◌⊗◌ d e) (K.◌⊗◌ (x k) (τ k l))) (λ k. K.◌⊗◌ (a i k) (b k l))
-        (λ k k_in. ring4 K.cring (λ d e x t. ((d ⊠ e) ⊠ (x ⊠ t), (d ⊠ x) ⊠ (e ⊠ t))) refl d e (x k) (τ k l)
-        ∙ ap₂ K.◌⊗◌ (X-is i k i_in k_in) (sym (b-is k l k_in l_in)))))
-        ∙ inverse i j i_in j_in)
+        let z : ℕ → Elem o = λ l. sum K.monoid m (λ k. K.◌⊗◌ (a i k) (b k l)) in
+        let de = K.◌⊗◌ d e in
+        mul_left_cancel K (K.◌⊗◌ de s) (f (X i) (Y j)) (delta K.ring i j) (field_mul-ne-zero K de s de_nonzero s_nonzero)
+        (ring3 K.cring (λ c s t. ((c ⊠ s) ⊠ t, s ⊠ (c ⊠ t))) refl de s (f (X i) (Y j))
+        ∙ ap (K.◌⊗◌ s) (scaled_form (X i) (Y j) (a i) b d e (λ k. X-is i k i_in) b-is)
+        ∙ mul-sum K.ring m s (λ l. K.◌⊗◌ (z l) (y l))
+        ∙ sum_congr K.monoid m (λ l. K.◌⊗◌ s (K.◌⊗◌ (z l) (y l))) (λ l. K.◌⊗◌ de (K.◌⊗◌ (r j l) (z l))) (λ l l_in.
+        ring3 K.cring (λ s t y. (s ⊠ (t ⊠ y), t ⊠ (s ⊠ y))) refl s (z l) (y l)
+        ∙ ap (K.◌⊗◌ (z l)) (Y-is j l j_in l_in)
+        ∙ ring3 K.cring (λ t c r. (t ⊠ (c ⊠ r), c ⊠ (r ⊠ t))) refl (z l) de (r j l))
+        ∙ sym (mul-sum K.ring m de (λ l. K.◌⊗◌ (r j l) (z l)))
+        ∙ ap (K.◌⊗◌ de) (inverse i j i_in j_in)
+        ∙ sym (K.mul_assoc de s (delta K.ring i j)))
 
   -- what pairs with others to the unit matrix is independent
   pub independent_of_pairing : (X Y : ℕ → Tuple o m)
