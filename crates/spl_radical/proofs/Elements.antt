@@ -78,7 +78,7 @@ module _ (k : ResidueField) where
     two_le_size = let f = field_of k in two_le_power (prime_of k) l f.least
 
     -- the list of an element
-    of_element : (x : LiftNumbers k l) → IsLiftElem k l x.0
+    pub of_element : (x : LiftNumbers k l) → IsLiftElem k l x.0
     of_element x =
         let h = is_tuple-IsTuple (mod_ops (size_of k l) []) (width_of k) x.0 x.1 in
         record {
@@ -87,7 +87,7 @@ module _ (k : ResidueField) where
         }
 
     -- lists with the same numbers
-    table_is : (x : LiftNumbers k l) (f : ℕ → ℕ) → ((t : ℕ) → t < width_of k → f t ≡ get_or x.0 t 0)
+    pub table_is : (x : LiftNumbers k l) (f : ℕ → ℕ) → ((t : ℕ) → t < width_of k → f t ≡ get_or x.0 t 0)
         → table (width_of k) f ≡ x.0
     table_is x f h =
         let c = (of_element x).count in
@@ -137,6 +137,11 @@ module _ (k : ResidueField) where
         → r ≡ table (width_of k) (λ t. digit (prime_of k) (get_or a (t / digits_of k) 0) (t % digits_of k))
         → IsLiftElem k l r
     lift_below a r e = subst (IsLiftElem k l) (digits_are a ∙ sym e) (of_element (lifted k l a))
+
+    pub lift_digits : (a r : List ℕ)
+        → r ≡ table (width_of k) (λ t. digit (prime_of k) (get_or a (t / digits_of k) 0) (t % digits_of k))
+        → r ≡ (lifted k l a).0
+    lift_digits a r e = e ∙ sym (digits_are a)
 
     pub lift_small : (a r : List ℕ)
         → r ≡ table (width_of k) (λ t. digit (prime_of k) (get_or a (t / digits_of k) 0) (t % digits_of k))

@@ -6,3 +6,5 @@ mod Products
 mod MonicModulus
 mod Elements
 mod Columns
+mod PowerEntries
+mod LiftMatrices

@@ -11,7 +11,7 @@ use Rattle.theory_rings.proofs.Sums.Sums.{sum_congr}
 use Rattle.theory_rings.proofs.Sums.Lists.{length-table, All-table}
 use Rattle.theory_spaces.proofs.Matrices.PairIndex.{pair-lt, row-lt}
 use Rattle.theory_tables.proofs.Rows.Sums.{row_at}
-use Rattle.theory_chains.specs.NumberRows.{turned_number, AreNumbers}
+use Rattle.theory_chains.specs.NumberRows.{turned_number, AreNumbers, AreRows}
 
 -- one more product
 pub next_sum : (q : ℕ) (f : ℕ → ℕ) (r s s' x : ℕ) → s % q ≡ sum nat_monoid r f % q → s' % q ≡ (s + x) % q → x ≡ f r
@@ -84,3 +84,29 @@ opposites_below q n f r h e = subst (AreNumbers q n) (sym e) (record {
   count = length-table n (λ t. (q - f t % q) % q);
   below = All-table (λ x. x < q) n (λ t. (q - f t % q) % q) (λ t _. nat.mod-lt (q - f t % q) (omega arith));
 })
+
+-- ---- the diagonal of rows of elements
+
+pub number_in : (q w : ℕ) (rows : List (List ℕ)) (i t : ℕ) (x y : List ℕ) → AreRows q (length rows * w) rows
+    → i < length rows → t < w → x ≡ get_or rows i x → y ≡ x → i * w + t < length y
+number_in q w rows i t x y h il tl e f =
+    let g = (h i il).count in
+    let n : length y ≡ length (get_or rows i []) = ap length (row_at rows i x y il e f) in
+    let p = pair-lt (length rows) w i t il tl in
+    omega arith
+
+pub number_below : (q w : ℕ) (rows : List (List ℕ)) (i t : ℕ) (x y : List ℕ) → AreRows q (length rows * w) rows
+    → i < length rows → t < w → x ≡ get_or rows i x → y ≡ x → get_or y (i * w + t) 0 < q
+number_below q w rows i t x y h il tl e f = subst (λ z. get_or z (i * w + t) 0 < q) (sym (row_at rows i x y il e f))
+    ((h i il).below (i * w + t) 0
+    (let g = (h i il).count in let p = pair-lt (length rows) w i t il tl in omega arith))
+
+pub sum_below : (q n s : ℕ) → 1 ≤ q → s ≡ n % q → s < q
+sum_below q n s h e = let m : n % q < q = nat.mod-lt n (omega arith) in omega arith
+
+pub next_diagonal : (q : ℕ) (f : ℕ → ℕ) (i s x : ℕ) → s ≡ sum nat_monoid i f % q → x ≡ f i
+    → (s + x) % q ≡ sum nat_monoid (i + 1) f % q
+next_diagonal q f i s x e h =
+    let n : suc i ≡ i + 1 = omega arith in
+    ap (λ s. (s + x) % q) e ∙ nat.mod-add-mod (sum nat_monoid i f) q x
+    ∙ ap (λ x. (sum nat_monoid i f + x) % q) h ∙ ap (λ n. sum nat_monoid n f % q) n

@@ -1,3 +1,4 @@
 pub mod LiftRing
 pub mod LiftNumbers
 pub mod Multiples
+pub mod LiftMatrices

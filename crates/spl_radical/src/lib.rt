@@ -6,6 +6,7 @@
 
 mod digits;
 pub mod lift_ring;
+mod matrices;
 mod multiples;
 mod rows;
 mod turns;

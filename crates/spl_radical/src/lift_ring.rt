@@ -1,17 +1,20 @@
 // The lift ring of a residue field.
-ghost use Rattle.std.specs.Prelude.{◌≡◌, ◌-◌, ◌*◌, ◌/◌, ◌%◌, ◌<◌, ◌≤◌, ◌^◌, length, All, IfOk};
+ghost use Rattle.std.specs.Prelude.{◌≡◌, ◌-◌, ◌*◌, ◌/◌, ◌%◌, ◌<◌, ◌≤◌, ◌^◌, [], length, get_or, All, IfOk};
 ghost use Rattle.theory_rings.specs.Ops.{IsElem};
 ghost use Rattle.theory_rings.specs.Digits.{digit};
-ghost use Rattle.theory_rings.specs.Sum.{table};
-ghost use Rattle.theory_chains.specs.NumberRows.{AreRows};
+ghost use Rattle.theory_rings.specs.Sum.{sum, table};
+ghost use Rattle.theory_rings.specs.Naturals.{nat_monoid};
+ghost use Rattle.theory_spaces.specs.Matrix.{mat_trace};
+ghost use Rattle.theory_chains.specs.NumberRows.{AreNumbers, AreRows};
 ghost use Rattle.spl_residue.specs.Residue.{residue_ops};
 ghost use Rattle.spl_radical.specs.LiftRing.{prime_of, size_of, digits_of, width_of, coefficient_of, AreStepsOf};
-ghost use Rattle.spl_radical.specs.LiftRing.{AreColumns};
+ghost use Rattle.spl_radical.specs.LiftRing.{AreColumns, lifted, ring_of};
+ghost use Rattle.spl_radical.specs.LiftMatrices.{IsLiftMatrix, matrix_of};
 ghost use Rattle.spl_radical.specs.LiftRing.{IsLiftElem, IsLiftSum, IsLiftProduct, IsLiftOf};
 
 use crate::digits::{digits_of, power_of, sums_of};
 use crate::multiples::multiples;
-use crate::rows::{columns_of, combination};
+use crate::rows::{columns_of, combination, diagonal_of};
 use crate::turns::{back_of, first_turn, turns_of};
 use spl_field::field::NoMemory;
 use spl_field::list::List;
@@ -136,6 +139,41 @@ impl<'k> LiftRing<'k> {
         Ok(columns_of(alloc, all.as_slice(), n)?)
     }
 
+    /// The sums of the products of the numbers of a row and those of each column.
+    pub(crate) fn row_times(
+        &self,
+        alloc: Global,
+        row: &[u64],
+        columns: &[List<u64>],
+    ) -> Result<List<u64>, NoMemory>
+        requires row { AreNumbers (size_of (residues_of self.now) (level_of self.now))
+            (length columns.now) row.now }
+        requires columns { AreRows (size_of (residues_of self.now) (level_of self.now))
+            (length columns.now) columns.now }
+        ensures { IfOk result (λ r. r ≡ table (length columns.now) (λ t. sum nat_monoid (length columns.now)
+            (λ r. get_or row.now r 0 * get_or (get_or columns.now t []) r 0)
+            % size_of (residues_of self.now) (level_of self.now))) }
+    {
+        Ok(combination(alloc, self.modulus, row, columns)?)
+    }
+
+    /// The sum of the elements on the diagonal of a matrix with these rows. The one fault is want of memory.
+    pub(crate) fn trace(&self, alloc: Global, rows: &[List<u64>]) -> Result<LiftElem, NoMemory>
+        requires { IsLiftMatrix (residues_of self.now) (level_of self.now) (length rows.now) rows.now }
+        ensures { IfOk result (λ r. r ≡ (mat_trace (ring_of (residues_of self.now) (level_of self.now)).ring
+            (length rows.now) (matrix_of (residues_of self.now) (level_of self.now) rows.now)).0) }
+    {
+        let numbers = diagonal_of(alloc, self.modulus, self.width, rows)?;
+        Ok(LiftElem { numbers })
+    }
+
+    /// The residue field. It takes no memory.
+    pub(crate) fn residues(&self) -> &ResidueField
+        ensures { result.now ≡ residues_of self.now }
+    {
+        self.field
+    }
+
     /// The lift of an element whose numbers are from 0 to p − 1, which are the digits of its coefficients. The one
     /// fault is want of memory.
     pub fn lift(&self, alloc: Global, a: &ResidueElem) -> Result<LiftElem, NoMemory>
@@ -143,6 +181,7 @@ impl<'k> LiftRing<'k> {
         ensures elem { IfOk result (IsLiftElem (residues_of self.now) (level_of self.now)) }
         ensures small { IfOk result (All (λ x. x < prime_of (residues_of self.now))) }
         ensures value { IfOk result (IsLiftOf (residues_of self.now) (level_of self.now) a.now) }
+        ensures digits { IfOk result (λ r. r ≡ (lifted (residues_of self.now) (level_of self.now) a.now).0) }
     {
         let poly = self.field.lift(alloc, a)?;
         let p = u64::from(self.field.field().p());

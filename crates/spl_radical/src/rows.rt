@@ -204,3 +204,38 @@ pub(crate) fn columns_of(
     }
     Ok(out)
 }
+
+/// The sum modulo q over the rows i of number i·w + t.
+fn diagonal_at(q: u64, w: usize, rows: &[List<u64>], t: usize) -> u64
+    requires positive { 1 ≤ q }
+    requires modulus { q ≤ 2 ^ 40 }
+    requires place { t < w }
+    requires rows { AreRows q (length rows.now * w) rows.now }
+    ensures { result ≡ sum nat_monoid (length rows.now) (λ i. get_or (get_or rows.now i []) (i * w + t) 0) % q }
+{
+    let mut sum = 0;
+    for i in 0..rows.len() {
+        sum = (sum + rows[i].as_slice()[i * w + t]) % q;
+    }
+    sum
+}
+
+/// The sums modulo q of the numbers of element i of row i, for all rows.
+pub(crate) fn diagonal_of(
+    alloc: Global,
+    q: u64,
+    w: usize,
+    rows: &[List<u64>],
+) -> Result<List<u64>, NoMemory>
+    requires positive { 1 ≤ q }
+    requires modulus { q ≤ 2 ^ 40 }
+    requires rows { AreRows q (length rows.now * w) rows.now }
+    ensures { IfOk result (λ r. r ≡ table w
+        (λ t. sum nat_monoid (length rows.now) (λ i. get_or (get_or rows.now i []) (i * w + t) 0) % q)) }
+{
+    let mut out = List::new(alloc);
+    for t in 0..w {
+        out.push(diagonal_at(q, w, rows, t))?;
+    }
+    Ok(out)
+}

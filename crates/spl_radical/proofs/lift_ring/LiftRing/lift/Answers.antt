@@ -1,7 +1,7 @@
 use Rattle.std.proofs.Common.{◌∙◌, ap}
 use Rattle.spl_field.specs.SmallField.{characteristic}
 use Rattle.spl_radical.specs.LiftNumbers.{residues_of, level_of}
-use Rattle.spl_radical.proofs.Elements.{digits_read, lift_is, lift_below, lift_small}
+use Rattle.spl_radical.proofs.Elements.{digits_read, lift_is, lift_below, lift_small, lift_digits}
 use Rattle.spl_radical.proofs.lift_ring.LiftRing.lift.Goals as goal
 
 pub returns : goal.returns
@@ -17,4 +17,5 @@ returns c =
       elem = lift_below k l a c.in_ok-numbers.numbers e;
       small = lift_small k l a c.in_ok-numbers.numbers e;
       value = lift_is k l a c.in_ok-numbers.numbers c.requires e;
+      digits = lift_digits k l a c.in_ok-numbers.numbers e;
     }
