@@ -8,3 +8,5 @@ mod Elements
 mod Columns
 mod PowerEntries
 mod LiftMatrices
+mod TraceSteps
+mod IndependentTraces

@@ -2,3 +2,4 @@ pub mod LiftRing
 pub mod LiftNumbers
 pub mod Multiples
 pub mod LiftMatrices
+pub mod TracePower
