@@ -1,7 +1,7 @@
 -- Modulo p^(i + 1) the trace of the p^i-th power of a lift of a multiplication does not depend on the lift.
-use Rattle.std.specs.Prelude.{◌≡◌, ℕ, suc, ◌<◌, List}
-use Rattle.std.proofs.Common.{sym, ◌∙◌, ap}
-use Rattle.theory_rings.specs.Ops.{Ops, IsElem, FieldLaws}
+use Rattle.std.specs.Prelude.{◌≡◌, ℕ, suc, List}
+use Rattle.std.proofs.Common.{sym, ◌∙◌}
+use Rattle.theory_rings.specs.Ops.{IsElem, FieldLaws}
 use Rattle.theory_rings.specs.Elements.{Elem, Elem-path}
 use Rattle.theory_rings.specs.Sum.{at}
 use Rattle.theory_rings.proofs.Rings.Elements.{at-elem}
@@ -15,7 +15,7 @@ use Rattle.theory_lifts.proofs.ElementLists.{two_le_power, digit_list-down}
 use Rattle.spl_field.specs.SmallField.{small_ops, small_laws, modulus_of}
 use Rattle.spl_residue.specs.Residue.{field_of, polynomial_of, residue_ops}
 use Rattle.spl_residue.specs.declared.field.ResidueField.{ResidueField}
-use Rattle.spl_radical.specs.LiftRing.{small_by_digits, prime_of, residue_field, LiftNumbers, lift_ring, lifted}
+use Rattle.spl_radical.specs.LiftRing.{small_by_digits, prime_of, residue_field, lift_ring, lifted}
 use Rattle.spl_radical.specs.TracePower.{lifted_matrix, IsIndependentOfLift}
 
 module _ (k : ResidueField) (l : ℕ) (T : Structure (List ℕ)) (over : IsOver (residue_ops k) T) (a : List (List ℕ))
@@ -32,8 +32,8 @@ module _ (k : ResidueField) (l : ℕ) (T : Structure (List ℕ)) (over : IsOver 
 
   lifted-down : (x : Elem (residue_ops k)) → (lift_ring k l).down (lifted k l x.0) ≡ x
   lifted-down x = let f = field_of k in digit_list-down (small_ops f) (small_laws f) (polynomial_of k) k.irreducible
-      (prime_of k) f.least (modulus_of f) f.some_number (small_by_digits f) (suc l) (two_le_power (prime_of k) l f.least)
-      x
+      (prime_of k) f.least (modulus_of f) f.some_number (small_by_digits f) (suc l)
+      (two_le_power (prime_of k) l f.least) x
 
   pub independent_of_lift : (i : ℕ) → IsIndependentOfLift k l T a i
   independent_of_lift i N h = let f = field_of k in

@@ -1,5 +1,5 @@
 -- Steps of sums of products modulo a number, and the numbers of products by x.
-use Rattle.std.specs.Prelude.{◌≡◌, ℕ, suc, ◌+◌, ◌-◌, ◌*◌, ◌/◌, ◌%◌, ◌<◌, ◌≤◌, List, [], length, get_or, take, drop}
+use Rattle.std.specs.Prelude.{◌≡◌, ℕ, suc, ◌+◌, ◌-◌, ◌*◌, ◌/◌, ◌%◌, ◌^◌, ◌<◌, ◌≤◌, List, [], length, get_or, take, drop}
 use Rattle.std.specs.Prelude.{cond, nat_lt}
 use Rattle.std.proofs.Common.{sym, ◌∙◌, ap, ap₂, subst, arith}
 use Rattle.std.proofs.Math.Nat as nat
@@ -110,3 +110,16 @@ next_diagonal q f i s x e h =
     let n : suc i ≡ i + 1 = omega arith in
     ap (λ s. (s + x) % q) e ∙ nat.mod-add-mod (sum nat_monoid i f) q x
     ∙ ap (λ x. (sum nat_monoid i f + x) % q) h ∙ ap (λ n. sum nat_monoid n f % q) n
+
+-- ---- sums that stay small
+
+pub product_small : (q x y : ℕ) → q ≤ 2 ^ 20 → x < q → y < q → x * y ≤ 2 ^ 40
+product_small q x y h lx ly =
+    let ex : x ≤ 2 ^ 20 = omega arith in
+    let ey : y ≤ 2 ^ 20 = omega arith in
+    let m : x * y ≤ 2 ^ 20 * 2 ^ 20 = nat.mul-le-mul ex ey in
+    omega arith
+
+pub next_small : (q r s x y : ℕ) → q ≤ 2 ^ 20 → x < q → y < q → s ≤ r * 2 ^ 40
+    → s + x * y ≤ (r + 1) * 2 ^ 40
+next_small q r s x y h lx ly b = let m = product_small q x y h lx ly in omega arith

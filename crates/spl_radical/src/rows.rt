@@ -31,11 +31,31 @@ fn remainder(q: u64, sum: u128) -> u64
     requires { 1 ≤ q }
     ensures { result ≡ sum % q }
 {
-    (sum % u128::from(q)) as u64
+    if sum < 1 << 64 {
+        (sum as u64) % q
+    } else {
+        (sum % u128::from(q)) as u64
+    }
+}
+
+/// The sum of the products of the numbers at each place, where it is below 2^64.
+fn small_sum(q: u64, a: &[u64], b: &[u64]) -> u64
+    requires modulus { q ≤ 2 ^ 20 }
+    requires few { length a.now ≤ 2 ^ 23 }
+    requires left { All (λ x. x < q) a.now }
+    requires right { All (λ x. x < q) b.now }
+    requires same { length a.now ≡ length b.now }
+    ensures { result ≡ sum nat_monoid (length a.now) (λ r. get_or a.now r 0 * get_or b.now r 0) }
+{
+    let mut sum = 0;
+    for r in 0..a.len() {
+        sum += a[r] * b[r];
+    }
+    sum
 }
 
 /// The sum modulo q of the products of the numbers at each place.
-pub(crate) fn dot(q: u64, a: &[u64], b: &[u64]) -> u64
+fn large_dot(q: u64, a: &[u64], b: &[u64]) -> u64
     requires positive { 1 ≤ q }
     requires modulus { q ≤ 2 ^ 40 }
     requires left { All (λ x. x < q) a.now }
@@ -48,6 +68,21 @@ pub(crate) fn dot(q: u64, a: &[u64], b: &[u64]) -> u64
         sum = added(q, sum, a[r], b[r]);
     }
     remainder(q, sum)
+}
+
+/// The sum modulo q of the products of the numbers at each place.
+fn dot(q: u64, a: &[u64], b: &[u64]) -> u64
+    requires positive { 1 ≤ q }
+    requires modulus { q ≤ 2 ^ 40 }
+    requires left { All (λ x. x < q) a.now }
+    requires right { All (λ x. x < q) b.now }
+    requires same { length a.now ≡ length b.now }
+    ensures { result ≡ sum nat_monoid (length a.now) (λ r. get_or a.now r 0 * get_or b.now r 0) % q }
+{
+    if q <= 1 << 20 && a.len() <= 1 << 23 {
+        return small_sum(q, a, b) % q;
+    }
+    large_dot(q, a, b)
 }
 
 /// The sums modulo q of the products of the numbers and those of each column.

@@ -1,6 +1,6 @@
 use Rattle.std.proofs.Common.{refl, ◌*◌, get_or}
 use Rattle.spl_radical.proofs.RowSteps.{next_sum}
-use Rattle.spl_radical.proofs.rows.dot.Goals as goal
+use Rattle.spl_radical.proofs.rows.large_dot.Goals as goal
 
 pub loop-r-preserved : goal.loop-r-preserved
 loop-r-preserved c = record {
