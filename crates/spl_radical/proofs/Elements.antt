@@ -32,7 +32,7 @@ use Rattle.spl_radical.proofs.Products.{turns_are}
 use Rattle.theory_chains.specs.NumberRows.{AreNumbers}
 
 module _ (k : ResidueField) where
-  degree_is : suc (degree_of k) ≡ length (polynomial_of k)
+  pub degree_is : suc (degree_of k) ≡ length (polynomial_of k)
   degree_is = let f = field_of k in lists.suc_degree (small_ops f) (small_laws f) (polynomial_of k) k.irreducible
       (prime_of k) f.least (modulus_of f) f.some_number (small_by_digits f)
 

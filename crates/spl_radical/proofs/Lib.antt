@@ -10,3 +10,7 @@ mod PowerEntries
 mod LiftMatrices
 mod TraceSteps
 mod IndependentTraces
+mod DigitElements
+mod ChainSteps
+mod Levels
+mod TraceRoots

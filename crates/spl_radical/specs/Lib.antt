@@ -3,3 +3,4 @@ pub mod LiftNumbers
 pub mod Multiples
 pub mod LiftMatrices
 pub mod TracePower
+pub mod Radical
