@@ -13,3 +13,5 @@ pub mod SpanningRows
 pub mod ScaledRows
 pub mod TraceForms
 pub mod DualRows
+pub mod IndependentRows
+pub mod WeightsByInverse

@@ -1,22 +1,24 @@
 -- The trace form of an associative algebra by structure constants, which need not have an identity, as a bilinear form
 -- on tuples.
-use Rattle.std.specs.Prelude.{◌≡◌, ◌<◌, ℕ, List}
+use Rattle.std.specs.Prelude.{◌≡◌, ◌<◌, ℕ}
 use Rattle.std.specs.List.{All}
-use Rattle.std.proofs.Common.{refl, sym, ◌∙◌, ap, ap₂}
+use Rattle.std.proofs.Common.{sym, ◌∙◌, ap, ap₂}
 use Rattle.theory_rings.specs.Ring.{FieldOn}
 use Rattle.theory_rings.specs.Ops.{Ops, IsElem, FieldLaws}
-use Rattle.theory_rings.specs.Elements.{Elem, Elem-path, elements}
-use Rattle.theory_rings.specs.Sum.{at, sum, sum_of}
+use Rattle.theory_rings.specs.Elements.{Elem, elements}
+use Rattle.theory_rings.specs.Sum.{at, sum}
 use Rattle.theory_rings.proofs.Rings.Elements.{sum_of-elements, sum_of_congr}
 use Rattle.theory_rings.proofs.Sums.Sums.{sum_congr, sum_comm, mul-sum, sum-mul}
 use Rattle.theory_spaces.specs.Module.{ModuleOn}
 use Rattle.theory_spaces.specs.Linear.{Basis, comb}
-use Rattle.theory_spaces.specs.Form.{IsBilinear, IsSymmetric, IsNondegenerate}
+use Rattle.theory_spaces.specs.Algebra.{map_trace}
+use Rattle.theory_spaces.specs.Form.{IsBilinear, IsNondegenerate}
 use Rattle.theory_spaces.specs.Space.{ProductOn}
 use Rattle.theory_spaces.specs.Tuples.{Tuple, basis, product}
 use Rattle.theory_spaces.proofs.Forms.Forms.{form-comb_left, form-comb_right}
 use Rattle.theory_spaces.proofs.Forms.ProductTraces.{product_trace, product_trace-add, product_trace-scale}
-use Rattle.theory_spaces.proofs.Forms.ProductTraces.{product_trace_comm}
+use Rattle.theory_spaces.proofs.Forms.ProductTraces.{product_trace_comm, by_left_linear}
+use Rattle.theory_spaces.proofs.Linear.BasisChange.{map_trace_basis}
 use Rattle.theory_spaces.proofs.Tuples.Tables.{space_basis, space_basis-coord}
 use Rattle.theory_spaces.proofs.Tuples.Tuples.{Tuple-path, tuples, tuple_space, tuples-zero, unit-basis}
 use Rattle.theory_spaces.proofs.Tuples.TupleProducts.{tuple_product, tuple_product-list, tuple_product_assoc}
@@ -74,6 +76,16 @@ module _ {E : Type 0} (o : Ops E) (L : FieldLaws o) (A : Structure E) (constants
   pub form-is : (x y : Tuple o m) → (form x y).0 ≡ trace_of_product o A x.0 y.0
   unfolding form
   form-is x y = trace-is (P.◌⊗◌ x y) ∙ ap (list_trace o A) (product-is x y)
+
+  -- by any basis
+  pub form_by_basis : (D : Basis M m) (x y : Tuple o m)
+      → form x y ≡ map_trace M m D
+      (λ z. (let T = tuple_product o L m A.constants constants in T.◌⊗◌ (T.◌⊗◌ x y) z))
+  unfolding form P
+  form_by_basis D x y = map_trace_basis K.cring M m m units D
+      (λ z. (let T = tuple_product o L m A.constants constants in T.◌⊗◌ (T.◌⊗◌ x y) z))
+      (by_left_linear K.cring M (tuple_product o L m A.constants constants) m units
+      (let T = tuple_product o L m A.constants constants in T.◌⊗◌ x y))
 
   pub form_bilinear : IsBilinear M form
   unfolding form

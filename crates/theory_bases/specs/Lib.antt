@@ -3,3 +3,4 @@ pub mod Bases
 pub mod BasisLaws
 pub mod Joined
 pub mod StartOrders
+pub mod Grams

@@ -5,3 +5,6 @@ pub mod TupleLattices
 pub mod TupleLeftOrders
 pub mod FractionResidues
 pub mod TupleIdeals
+pub mod CoordinateOrders
+pub mod PlaceDenominators
+pub mod GramDuals
