@@ -15,3 +15,4 @@ pub mod TraceForms
 pub mod DualRows
 pub mod IndependentRows
 pub mod WeightsByInverse
+pub mod ProductWeights
