@@ -12,3 +12,4 @@ pub mod DegreeBounds
 pub mod SameAlgebras
 pub mod RamifiedRows
 pub mod DualTuples
+pub mod ClearedDuals

@@ -7,6 +7,7 @@
 -- the loop's measure, and once it is 0 nothing can grow: `for _ in 0..=b` never comes to its end, where b is the
 -- dimension times the degree of a polynomial that carries the dual into the first order (BoundByDegree).
 use Rattle.std.specs.Prelude.{◌≡◌, ◌≢◌, ◌<◌, ◌≤◌, ◌-◌, ◌*◌, ℕ, suc, List, [], get_or, length}
+use Rattle.std.specs.List.{All}
 use Rattle.theory_rings.specs.Ops.{Ops, FieldLaws}
 use Rattle.theory_rings.specs.Polynomial.{degree}
 use Rattle.theory_spaces.specs.Sets.{Within, Same, Multiple}
@@ -16,10 +17,10 @@ use Rattle.theory_tables.specs.Matrix.{IsMatrix}
 use Rattle.theory_tables.specs.Algebras.{IsIdentity}
 use Rattle.theory_tables.specs.Structure.{Structure, IsOver, IsAssociative, tuple_ops}
 use Rattle.theory_tables.specs.Traces.{IsNondegenerate}
-use Rattle.theory_fractions.specs.PolynomialLists.{IsPolynomialList}
+use Rattle.theory_fractions.specs.PolynomialLists.{IsPolynomialList, IsProduct}
 use Rattle.theory_fractions.specs.Fraction.{Pair}
 use Rattle.theory_fractions.specs.FractionOps.{fraction_ops}
-use Rattle.theory_fractions.specs.CommonDenominator.{as_fraction}
+use Rattle.theory_fractions.specs.CommonDenominator.{as_fraction, Clears}
 use Rattle.theory_places.specs.Places.{Finite}
 use Rattle.theory_places.specs.FractionPlaces.{IsIntegralAt, IsMonicIrreducible, fractions}
 use Rattle.theory_bases.specs.TupleLattices.{TupleLattice, SameTupleLattice, AreIndependentTuples, SpanOrder}
@@ -96,6 +97,18 @@ module _ {E : Type 0} (o : Ops E) (L : FieldLaws o) (A : Structure (Pair E)) whe
       → ((i : ℕ) → i < A.dim
       → PolynomialLattice tuples (tuple_scale (fraction_ops o L) A.dim (as_fraction o c) (get_or duals i [])))
       → CarriesDual c tuples
+
+  -- such a one is the square of the product of a polynomial that makes the dual basis polynomials, and one that makes the
+  -- constants of the algebra polynomials
+  abbrev pub DualIsCarriedBySquare : Type 0
+  DualIsCarriedBySquare = IsOver (fraction_ops o L) A → IsAssociative (fraction_ops o L) A
+      → (one : List (Pair E)) → IsIdentity (fraction_ops o L) A one
+      → (tuples duals : List (List (Pair E))) → AreIndependentTuples (fraction_ops o L) A.dim tuples
+      → IsMatrix (fraction_ops o L) A.dim duals → AreTraceDual (fraction_ops o L) A tuples duals
+      → length duals ≡ A.dim → (d e s c : List E)
+      → IsPolynomialList o d → All (All (Clears o d)) duals → IsPolynomialList o e
+      → ((i : ℕ) → i < length A.constants → Clears o e (get_or A.constants i ([], [])))
+      → IsPolynomialList o s → IsProduct o d e s → IsPolynomialList o c → IsProduct o s s c → CarriesDual c tuples
 
   -- the dimension times the degree of such a polynomial is a bound, for each m
   abbrev pub BoundByDegree : Type 0

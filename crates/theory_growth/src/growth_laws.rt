@@ -5,7 +5,8 @@ ghost use Rattle.theory_fractions.specs.Fraction.{Pair};
 ghost use Rattle.theory_fractions.specs.FractionOps.{fraction_ops};
 ghost use Rattle.theory_growth.specs.Settled.{SettledWhereNothingGrows};
 ghost use Rattle.theory_growth.specs.Growths.{LeftOrdersAreSteps, StepsKeepOtherPlaces, BoundsExist, BoundByDegree};
-ghost use Rattle.theory_growth.specs.Growths.{GrowthsFall, DualBasisIsCarried, OwnDualIsKept};
+ghost use Rattle.theory_growth.specs.Growths.{GrowthsFall, DualBasisIsCarried, DualIsCarriedBySquare};
+ghost use Rattle.theory_growth.specs.Growths.{OwnDualIsKept};
 ghost use Rattle.theory_growth.specs.RamifiedRows.{RamifiedByRows};
 
 use theory_fractions::fraction_laws::ProgramField;
@@ -33,12 +34,14 @@ pub fn steps_keep_other_places<F: ProgramField>()
 
 /// Where the trace form is nondegenerate, there is a bound on the number of orders that grow one after the other from a
 /// given one at a monic irreducible polynomial. Also without that, the dimension times the degree of a polynomial that
-/// carries the dual of the order into it is such a bound; it carries the dual where it carries the dual basis. Where
-/// the order grows, a bound is at least 1, and one less is a bound for the larger order.
+/// carries the dual of the order into it is such a bound; it carries the dual where it carries the dual basis, as the
+/// square of the product of denominators of the dual basis and of the constants does. Where the order grows, a bound is
+/// at least 1, and one less is a bound for the larger order.
 pub fn growth_is_bounded<F: ProgramField>()
     ensures exists { (A : Structure (Pair F.Value)) → BoundsExist F.ops F.laws A }
     ensures degree { (A : Structure (Pair F.Value)) → BoundByDegree F.ops F.laws A }
     ensures carries { (A : Structure (Pair F.Value)) → DualBasisIsCarried F.ops F.laws A }
+    ensures square { (A : Structure (Pair F.Value)) → DualIsCarriedBySquare F.ops F.laws A }
     ensures falls { (A : Structure (Pair F.Value)) → GrowthsFall F.ops F.laws A }
 {}
 

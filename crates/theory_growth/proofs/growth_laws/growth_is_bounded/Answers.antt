@@ -1,4 +1,5 @@
 use Rattle.theory_growth.proofs.Bounds.{bounds_exist}
+use Rattle.theory_growth.proofs.ClearedDuals.{dual_is_carried_by_square}
 use Rattle.theory_growth.proofs.DegreeBounds.{bound_by_degree}
 use Rattle.theory_growth.proofs.DualTuples.{dual_basis_is_carried}
 use Rattle.theory_growth.proofs.Elsewhere.{growths_fall}
@@ -12,6 +13,9 @@ returns-clause-degree g c = let f = g.F.ProgramField in bound_by_degree f.ops f.
 
 pub returns-clause-carries : goal.returns-clause-carries
 returns-clause-carries g c = let f = g.F.ProgramField in dual_basis_is_carried f.ops f.laws
+
+pub returns-clause-square : goal.returns-clause-square
+returns-clause-square g c = let f = g.F.ProgramField in dual_is_carried_by_square f.ops f.laws
 
 pub returns-clause-falls : goal.returns-clause-falls
 returns-clause-falls g c = let f = g.F.ProgramField in growths_fall f.ops f.laws
