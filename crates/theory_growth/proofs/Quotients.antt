@@ -35,7 +35,7 @@ use Rattle.theory_radical.specs.Ideal as ideals
 use Rattle.theory_blocks.specs.MaximalIdeals.{IsMaximalIdeal, HasNoNilpotentIdeal}
 use Rattle.theory_residue.specs.Residue.{ReductionOn, Reduced}
 use Rattle.theory_residue.proofs.Correspondence.{of_reduced}
-use Rattle.theory_residue.proofs.Radicals.{maximal_of_simple}
+use Rattle.theory_residue.proofs.Radicals.{maximal_of_simple, simple_of_maximal}
 use Rattle.theory_residue.proofs.ResidueAlgebra.{coord-vec}
 use Rattle.theory_residue.proofs.SimpleLaws.{simple_by_kernel}
 use Rattle.theory_residue.proofs.RadicalQuotients.{reduced_span, none_nilpotent}
@@ -53,9 +53,11 @@ use Rattle.theory_tables.proofs.Algebras.MatrixMaps.{zero-killed}
 use Rattle.theory_tables.proofs.Algebras.Quotients.{quotient_keeps}
 use Rattle.theory_tables.proofs.Algebras.Powers.{nilpotent_by_powers}
 use Rattle.theory_left_orders.proofs.TupleLattices.{is_comb}
+use Rattle.theory_chains.specs.Radical.{SpansRadical}
 use Rattle.theory_growth.specs.Steps.{HoldMaximalIdeals}
 use Rattle.theory_growth.specs.MaximalIdeals.{ArePulledBack, AreLifted, MaximalIdealsOverRadical, PulledBackIdeals}
 use Rattle.theory_growth.specs.MaximalIdeals.{LiftedRowsArePulledBack, MaximalByQuotient, NothingNilpotentOverRadical}
+use Rattle.theory_growth.specs.MaximalIdeals.{PulledBackMaximalIdeals, RadicalIsProper}
 use Rattle.theory_growth.proofs.Tables.{largest_of_rows, maximal_down, nilpotent_of_rows, family, family_shape}
 use Rattle.theory_growth.proofs.Tables.{family_maximal, to_family, from_family, family_ideal, family_long, family-at}
 use Rattle.theory_growth.proofs.Tables.{rows_maximal_of}
@@ -351,6 +353,53 @@ module _ {E : Type 0} (o : Ops E) (L : FieldLaws o) (T : Structure E) (over : Is
     }),
   )
 
+  -- what a maximal ideal of the quotient comes from
+  module _ (below above : List (List E)) (SA : SpansIdeal o T above)
+      (pulled : ArePulledBack o T Y project below above)
+      (X : sets.IsMaximalIdeal (tuple_ops o Y) (IsTuple o n) (rows_of.Combinations o n below)) where
+    abbrev above_row : ℕ → Tuple o m
+    above_row = ideal_row o L T over.of_elements assoc one is_one above SA
+
+    abbrev Above : Tuple o m → Type 0
+    Above = InSpan (module_of A) (length above) above_row
+
+    abbrev Below : Tuple o n → Type 0
+    Below w = rows_of.Combinations o n below w.0
+
+    to_above : (x : Tuple o m) → Below (f x) → Above x
+    unfolding tuple_algebra
+    to_above x h = to_span o L m above SA.shape x ((pulled x.0 (IsTuple-of o L m x)).1
+        (subst (rows_of.InSpan o n below) (f-is x) h.1))
+
+    to_below : (x : Tuple o m) → Above x → Below (f x)
+    to_below x h = (
+      IsTuple-of o L n (f x),
+      subst (rows_of.InSpan o n below) (sym (f-is x))
+          ((pulled x.0 (IsTuple-of o L m x)).0 (list_span o L T over.of_elements assoc one is_one above SA x h)),
+    )
+
+    same_below : Same Below (Reduced A Whole N C reduction Above)
+    unfolding reduction
+    same_below = (
+      λ w h. (reduction.lift w, to_above (reduction.lift w) (subst Below (sym (reduction.red-lift w)) h), reduction.red-lift w),
+      λ w h. subst Below h.2 (to_below h.0 h.1),
+    )
+
+    over_kernel : Within N Above
+    unfolding reduction
+    over_kernel x h = to_above x (subst Below (sym ((reduction.kernel x tt).1 h))
+        (subst (rows_of.Combinations o n below) (sym c_is.zero-is) X.ideal.zero_in))
+
+    pub maximal_above : sets.IsMaximalIdeal (tuple_ops o T) (IsTuple o m) (rows_of.Combinations o m above)
+    maximal_above =
+        let ideal = to_ideal o L T over.of_elements assoc one is_one above SA in
+        rows_maximal_of o L T over assoc one is_one above SA (record {
+          ideal = ideal;
+          simple = simple_of_maximal A Whole N Ow C reduction (λ _. true) ((λ x _. tt), (λ x _. refl)) Above ideal over_kernel
+              (maximal_same (ring_ops C.ring) Whole Below (Reduced A Whole N C reduction Above) same_below
+              (maximal_down o L Y q.over y_assoc y_one y_id (rows_of.Combinations o n below) X));
+        })
+
   -- ---- nilpotent ideals
 
   module _ (largest : IsLargestNilpotentIdeal A N) where
@@ -372,6 +421,34 @@ pub maximal_ideals_over_radical : {E : Type 0} (o : Ops E) → FieldLaws o → (
 maximal_ideals_over_radical o L A over assoc one is_one radical S B project lifts q count below above pulled hold =
     hold_above o L A over assoc one is_one radical S.ideal B project lifts q
     (nilpotent_of_rows o L A over assoc one is_one radical S.ideal S.nilpotent) count below above pulled hold
+
+-- the radical of an algebra that is not 0
+module _ {E : Type 0} (o : Ops E) (L : FieldLaws o) (T : Structure E) (over : IsOver o T) (assoc : IsAssociative o T)
+    (one : List E) (is_one : IsIdentity o T one) (positive : 1 ≤ T.dim) (radical : List (List E))
+    (S : SpansRadical o T radical) (all : SpansAll o T radical) where
+  abbrev Kr : FieldOn (Elem o)
+  Kr = elements o L
+
+  abbrev Alg : AlgebraOn Kr.ring (Tuple o T.dim)
+  Alg = algebra o L T over.of_elements assoc one is_one
+
+  abbrev units : Basis (module_of Alg) T.dim
+  units = table_basis o L T over.of_elements assoc one is_one
+
+  ones : (e : ℕ) → ideals.product Alg.ring (λ _. Alg.one) e ≡ Alg.one
+  ones zero = refl
+  ones (suc e) = Alg.one-mul (ideals.product Alg.ring (λ _. Alg.one) e) ∙ ones e
+
+  not_all : ⊥
+  unfolding tuple_algebra
+  not_all =
+      let nil = nilpotent_of_rows o L T over assoc one is_one radical S.ideal S.nilpotent in
+      let z : Alg.one ≡ Alg.zero = sym (ones nil.exponent) ∙ nil.vanishes (λ _. Alg.one) (λ _.
+      to_span o L T.dim radical S.ideal.shape Alg.one (all Alg.one.0 (IsTuple-of o L T.dim Alg.one))) in
+      let x = units.vec 0 in
+      let y : x ≡ Alg.zero = sym (Alg.one-mul x) ∙ ap (λ y. Alg.◌⊗◌ y x) z ∙ zero-mul Alg.ring x in
+      Kr.one-nonzero (sym (delta-same Kr.ring 0) ∙ sym (coord-vec (module_of Alg) T.dim units 0 0 positive positive)
+      ∙ ap (λ y. units.coord y 0) y ∙ units.coord-zero 0)
 
 -- rows that come from those of the quotient
 module _ {E : Type 0} (o : Ops E) (L : FieldLaws o) (T : Structure E) (over : IsOver o T) (ideal : List (List E))
@@ -568,3 +645,13 @@ module _ {E : Type 0} (o : Ops E) (L : FieldLaws o) (A : Structure E) where
   pub lifted_rows_are_pulled_back : LiftedRowsArePulledBack o A
   lifted_rows_are_pulled_back over ideal S B project lifts q below rows shape h =
       lifted_rows o L A over ideal B project lifts q S below rows shape h
+
+  pub maximal_ideals_pulled_back : PulledBackMaximalIdeals o A
+  maximal_ideals_pulled_back over assoc one is_one ideal S B project lifts q below above shape_below shape pulled X =
+      let SA = pulled_back_ideals o L A over ideal B project lifts q below above
+      (record { shape = shape_below; ideal = X.ideal }) shape pulled in
+      maximal_above o L A over assoc one is_one ideal S B project lifts q below above SA pulled X
+
+  pub radical_is_proper : RadicalIsProper o A
+  radical_is_proper over assoc one is_one positive radical S all =
+      not_all o L A over assoc one is_one positive radical S all

@@ -41,6 +41,15 @@ module _ {E : Type 0} (o : Ops E) (A : Structure E) where
       → (below above : List (List E)) → SpansIdeal o B below → IsMatrix o A.dim above
       → ArePulledBack o A B project below above → SpansIdeal o A above
 
+  -- what a maximal ideal of the quotient comes from is maximal
+  abbrev pub PulledBackMaximalIdeals : Type 0
+  PulledBackMaximalIdeals = IsOver o A → IsAssociative o A → (one : List E) → IsIdentity o A one
+      → (ideal : List (List E)) → SpansIdeal o A ideal → (B : Structure E) (project lifts : List (List E))
+      → IsQuotient o A ideal B project lifts → (below above : List (List E)) → IsMatrix o B.dim below
+      → IsMatrix o A.dim above → ArePulledBack o A B project below above
+      → IsMaximalIdeal (tuple_ops o B) (IsTuple o B.dim) (Combinations o B.dim below)
+      → IsMaximalIdeal (tuple_ops o A) (IsTuple o A.dim) (Combinations o A.dim above)
+
   -- each maximal ideal comes from one of the quotient by the radical
   abbrev pub MaximalIdealsOverRadical : Type 0
   MaximalIdealsOverRadical = IsOver o A → IsAssociative o A → (one : List E) → IsIdentity o A one
@@ -65,3 +74,8 @@ module _ {E : Type 0} (o : Ops E) (A : Structure E) where
       → (B : Structure E) (project lifts : List (List E)) → IsQuotient o A radical B project lifts
       → (e : List E) → IsIdentity o B e → (rows : List (List E)) → IsMatrix o B.dim rows
       → IsNilpotentIdeal (tuple_ops o B) e (IsTuple o B.dim) (Combinations o B.dim rows) → AreZero o B rows
+
+  -- the radical of an algebra that is not 0 is not everything
+  abbrev pub RadicalIsProper : Type 0
+  RadicalIsProper = IsOver o A → IsAssociative o A → (one : List E) → IsIdentity o A one → 1 ≤ A.dim
+      → (radical : List (List E)) → SpansRadical o A radical → SpansAll o A radical → ⊥
