@@ -1,3 +1,4 @@
+pub mod TupleTests
 pub mod Tables
 pub mod Vectors
 pub mod Placed

@@ -1,8 +1,7 @@
 -- From lists to the algebra on tuples of an associative table with an identity: maximal ideals, families of tuples as
 -- rows, and the radical.
-use Rattle.std.specs.Prelude.{◌≡◌, ◌↔◌, ◌⊎◌, ◌<◌, ℕ, zero, suc, Bool, false, IsTrue, List, [], length, get_or}
+use Rattle.std.specs.Prelude.{◌≡◌, ◌↔◌, ◌<◌, ℕ, zero, suc, Bool, List, [], length, get_or}
 use Rattle.std.proofs.Common.{refl, sym, ◌∙◌, ap, subst, inl, inr, ⊎_elim, arith}
-use Rattle.std.proofs.lemmas.Bool.{both_ways}
 use Rattle.theory_rings.specs.Ring.{FieldOn}
 use Rattle.theory_rings.specs.Ops.{Ops, FieldLaws}
 use Rattle.theory_rings.specs.Elements.{Elem, elements}
@@ -12,10 +11,9 @@ use Rattle.theory_spaces.specs.Module.{ModuleOn, AlgebraOn, module_of}
 use Rattle.theory_spaces.specs.Linear.{comb, InSpan}
 use Rattle.theory_spaces.specs.Sets as sets
 use Rattle.theory_spaces.specs.Sets.{Within, Same, Test, Whole, IsIdeal, ring_ops}
-use Rattle.theory_spaces.specs.Tuples.{IsTuple, Tuple, is_tuple, tuple_zero, tuple_add, product, IsTableAlgebra}
+use Rattle.theory_spaces.specs.Tuples.{IsTuple, Tuple, tuple_zero, tuple_add, product, IsTableAlgebra}
 use Rattle.theory_spaces.proofs.Algebras.SetLemmas.{ideal_same, maximal_same}
 use Rattle.theory_spaces.proofs.Linear.Modules.{comb_congr_right}
-use Rattle.theory_spaces.proofs.Linear.SpanTests.{decided}
 use Rattle.theory_spaces.proofs.Tuples.TupleProducts.{tuple_algebra}
 use Rattle.theory_spaces.proofs.Tuples.Tuples.{Tuple-path}
 use Rattle.theory_radical.specs.Ideal.{IsNilpotentIdeal, IsLargestNilpotentIdeal}
@@ -30,6 +28,8 @@ use Rattle.theory_tables.proofs.Algebras.Bridge.{algebra, algebra_is, one-is, as
 use Rattle.theory_tables.proofs.Algebras.Bridge.{to_span, from_span, to_ideal, ideal_row, list_span}
 use Rattle.theory_tables.proofs.Algebras.Powers.{nilpotent_by_powers}
 use Rattle.theory_chains.specs.Radical.{SpansRadical}
+use Rattle.theory_growth.proofs.TupleTests as tests
+use Rattle.theory_growth.proofs.TupleTests.{test_same}
 
 module _ {E : Type 0} (o : Ops E) (L : FieldLaws o) (T : Structure E) (over : IsOver o T) (assoc : IsAssociative o T)
     (one : List E) (is_one : IsIdentity o T one) where
@@ -57,18 +57,17 @@ module _ {E : Type 0} (o : Ops E) (L : FieldLaws o) (T : Structure E) (over : Is
   of_tuple : (x : V) → IsTuple o m x.0
   of_tuple x = IsTuple-of o L m x
 
-  -- the lists that are tuples of the set
   abbrev On : (V → Type 0) → List E → Type 0
-  On J a = (h : IsTuple o m a) × J (tuple a h)
+  On = tests.On o L m
 
-  again : (x : V) (h : IsTuple o m x.0) → tuple x.0 h ≡ x
-  again x h = Tuple-path o L m (tuple x.0 h) x refl
+  abbrev to_on : (J : V → Type 0) (x : V) (a : List E) → x.0 ≡ a → J x → On J a
+  to_on = tests.to_on o L m
 
-  to_on : (J : V → Type 0) (x : V) (a : List E) → x.0 ≡ a → J x → On J a
-  to_on J x a e j = subst (On J) e (of_tuple x, subst J (sym (again x (of_tuple x))) j)
+  abbrev from_on : (J : V → Type 0) (x : V) → On J x.0 → J x
+  from_on = tests.from_on o L m
 
-  from_on : (J : V → Type 0) (x : V) → On J x.0 → J x
-  from_on J x h = subst J (again x h.0) h.1
+  abbrev test : (V → Bool) → List E → Bool
+  test = tests.test o L m
 
   ideal_down : (C : List E → Type 0) → IsIdeal (tuple_ops o T) (IsTuple o m) C
       → IsIdeal (ring_ops A.ring) Whole (λ (x : V). C x.0)
@@ -107,30 +106,6 @@ module _ {E : Type 0} (o : Ops E) (L : FieldLaws o) (T : Structure E) (over : Is
     };
   }
 
-  -- a test of tuples as one of lists
-  abbrev lifted : (V → Bool) → (a : List E) → (IsTrue (is_tuple o m a) ⊎ (IsTrue (is_tuple o m a) → ⊥)) → Bool
-  lifted t a d = ⊎_elim (λ (h : IsTrue (is_tuple o m a)). t (a, h)) (λ (n : IsTrue (is_tuple o m a) → ⊥). false) d
-
-  abbrev test : (V → Bool) → List E → Bool
-  test t a = lifted t a (decided (is_tuple o m a))
-
-  lifted-at : (t : V → Bool) (x : V) (d : IsTrue (is_tuple o m x.0) ⊎ (IsTrue (is_tuple o m x.0) → ⊥))
-      → lifted t x.0 d ≡ t x
-  lifted-at t x (inl h) = ap t (Tuple-path o L m (x.0, h) x refl)
-  lifted-at t x (inr n) = absurd (n x.1)
-
-  lifted-tuple : (t : V → Bool) (a : List E) (d : IsTrue (is_tuple o m a) ⊎ (IsTrue (is_tuple o m a) → ⊥))
-      → IsTrue (lifted t a d) → IsTrue (is_tuple o m a)
-  lifted-tuple t a (inl h) p = h
-  lifted-tuple t a (inr n) p = absurd (both_ways false refl p)
-
-  test_same : (t : V → Bool) → Same (On (Test t)) (Test (test t))
-  test_same t = (
-    λ a p. let x = tuple a p.0 in subst IsTrue (sym (lifted-at t x (decided (is_tuple o m a)))) p.1,
-    λ a p. let x : V = (a, lifted-tuple t a (decided (is_tuple o m a)) p) in
-        to_on (Test t) x a refl (subst IsTrue (lifted-at t x (decided (is_tuple o m a))) p),
-  )
-
   pub maximal_down : (C : List E → Type 0) → sets.IsMaximalIdeal (tuple_ops o T) (IsTuple o m) C
       → IsMaximalIdeal A (λ (x : V). C x.0)
   maximal_down C h = record {
@@ -138,7 +113,7 @@ module _ {E : Type 0} (o : Ops E) (L : FieldLaws o) (T : Structure E) (over : Is
     simple = record {
       proper = λ w. h.simple.proper (λ a ta. w (tuple a ta) tt);
       nothing_between = λ t I above.
-          let s = test_same t in
+          let s = test_same o L m t in
           ⊎_elim
           (λ (w : Within (Test (test t)) C). inl (λ x tx. w x.0 (s.0 x.0 (to_on (Test t) x x.0 refl tx))))
           (λ (w : Within (IsTuple o m) (Test (test t))).

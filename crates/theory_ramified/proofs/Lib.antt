@@ -1,0 +1,3 @@
+pub mod TableSets
+pub mod TableLattices
+pub mod Conditions

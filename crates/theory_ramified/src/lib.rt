@@ -1,0 +1,10 @@
+// What a check of a ramified place tests, condition by condition: that the tuples of an order and of its radical span
+// lattices at the place with these properties; all conditions together are the claim of a ramified place.
+//
+// It stands on theory_growth (a ramified place by rows over a residue field), theory_swaps (infinity as the place x) and
+// theory_places (the claim), and has no code: each public function does nothing, and its contract is a theorem.
+//
+// Read specs/Conditions first, then condition_laws.
+#![tactic(auto)]
+
+pub mod condition_laws;
