@@ -20,3 +20,4 @@ pub mod ListSteps
 pub mod RefinedLists
 pub mod MaximalResidue
 pub mod Ranks
+pub mod FieldCentres

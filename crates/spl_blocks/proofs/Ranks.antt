@@ -224,7 +224,7 @@ module _ {E : Type 0} (o : Ops E) (L : FieldLaws o) (T : Structure E) (u : IsUni
       spans = λ x z. to_span o L m centre c.shape x (from_centre o L T u centre members x z);
     }
 
-  field_up : CentreIsField B → HasFieldCentre o T
+  pub field_up : CentreIsField B → HasFieldCentre o T
   field_up f one i a ca n =
       let is = A_is o L T u in
       let x : V = as_tuple o L m a ca.tuple in
@@ -234,7 +234,7 @@ module _ {E : Type 0} (o : Ops E) (L : FieldLaws o) (T : Structure E) (u : IsUni
         sym (is.product-is x q.0) ∙ ap (λ (v : V). v.0) q.2 ∙ one_of o L T u one i,
       )
 
-  field_down : HasFieldCentre o T → CentreIsField B
+  pub field_down : HasFieldCentre o T → CentreIsField B
   field_down f x z n =
       let is = A_is o L T u in
       let q = f u.identity.one u.identity.is_one x.0 (central_of o L T u x z)
