@@ -13,3 +13,12 @@ pub mod InverseSteps
 pub mod InverseRows
 pub mod ClearedForms
 pub mod DualBases
+pub mod ResidueValues
+pub mod ProductCoordinates
+pub mod CoordinateSums
+pub mod BlockProducts
+pub mod ProductItems
+pub mod ResidueTables
+pub mod IdealPreimages
+pub mod LiftedIdeals
+pub mod FieldResidues

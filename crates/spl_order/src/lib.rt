@@ -14,6 +14,7 @@ mod inverse;
 mod lattice_bases;
 mod matrices;
 mod numerators;
+pub mod reduction;
 pub mod start;
 pub mod swap;
 mod units;
