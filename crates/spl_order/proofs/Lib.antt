@@ -22,3 +22,6 @@ pub mod ResidueTables
 pub mod IdealPreimages
 pub mod LiftedIdeals
 pub mod FieldResidues
+pub mod LeftOrders
+pub mod LiftedLattices
+pub mod GrownTuples
