@@ -3,3 +3,4 @@ pub mod Multiples
 pub mod Sums
 pub mod ByResidues
 pub mod Remainders
+pub mod ConstantFractions

@@ -1,3 +1,4 @@
 pub mod Numerators
 pub mod Sums
 pub mod Residues
+pub mod Constants

@@ -3,11 +3,12 @@
 //
 // It stands on spl_algebra, on spl_fraction, whose rational functions are the constants, on spl_generators and
 // spl_residue for the generators of the algebra of residues, and on theory_constants and theory_reductions, by which
-// multiplied constants keep what associates, and few triples tell that all do. Read specs/Numerators.antt and
-// specs/Residues.antt, then `numerators_of` and `first_failed_triple`.
+// multiplied constants, and those in a smaller field, keep what associates, and few triples tell that all do. Read
+// specs/Numerators.antt, specs/Residues.antt and specs/Constants.antt, then `numerators_of` and `first_failed_triple`.
 #![tactic(auto)]
 
 pub mod associates;
+mod constants;
 pub mod numerators;
 pub mod products;
 pub mod residues;

@@ -10,6 +10,7 @@ ghost use Rattle.theory_constants.specs.Generated.{MiddlesAssociate};
 ghost use Rattle.spl_numerators.specs.Numerators.{AreNumerators};
 
 use crate::associates::associates;
+use crate::constants::{first_by_constants, small_algebra};
 use crate::numerators::{Numerators, numerators_of};
 use crate::residues::{generators_at, place};
 use spl_algebra::algebra::Algebra;
@@ -260,9 +261,24 @@ fn first_by_generators(
     Ok(first_by_numerators(alloc, f, a, n)?)
 }
 
+/// The first failed triple, by polynomials.
+fn first_by_polynomials(
+    alloc: Global,
+    f: &Fractions,
+    a: &Algebra<Fractions>,
+) -> Result<Option<Triple>, NoMemory>
+    requires { IsOver (fractions_over (field_of f.now)) a.now }
+    ensures { IfOk result (λ r. MatchOption r (IsAssociative (fractions_over (field_of f.now)) a.now)
+        (IsFirstFailed (fractions_over (field_of f.now)) a.now)) }
+{
+    let numerators = numerators_of(alloc, f, a)?;
+    Ok(first_by_generators(alloc, f, a, &numerators)?)
+}
+
 /// The first triple (i, j, k) in lexicographic order where (b_i·b_j)·b_k and b_i·(b_j·b_k) differ; None exactly where
-/// the algebra is associative. It works on polynomials over the common denominator of the constants, and on fractions
-/// where that has more than 100 coefficients. That there is none it mostly tells by few triples, whose middles generate
+/// the algebra is associative. Where all constants lie in the field of the coefficients, it works in that field. Else it
+/// works on polynomials over the common denominator of the constants, and on fractions where that has more than 100
+/// coefficients. That there is none it mostly tells by few triples, whose middles generate
 /// the algebra of the residues at a place (Schafer, An Introduction to Nonassociative Algebras, chapter II, on the
 /// middle nucleus). The one fault is want of memory.
 pub fn first_failed_triple(
@@ -274,6 +290,8 @@ pub fn first_failed_triple(
     ensures { IfOk result (λ r. MatchOption r (IsAssociative (fractions_over (field_of f.now)) a.now)
         (IsFirstFailed (fractions_over (field_of f.now)) a.now)) }
 {
-    let numerators = numerators_of(alloc, f, a)?;
-    Ok(first_by_generators(alloc, f, a, &numerators)?)
+    match small_algebra(alloc, f.field(), a)? {
+        Some(b) => Ok(first_by_constants(alloc, f.field(), a, &b)?),
+        None => first_by_polynomials(alloc, f, a),
+    }
 }

@@ -1,4 +1,4 @@
-use Rattle.std.proofs.Common.{◌*◌, ℕ, List, sym, subst}
+use Rattle.std.proofs.Common.{◌*◌, ℕ, sym, subst}
 use Rattle.theory_spaces.specs.Tuples.{IsTuple}
 use Rattle.theory_constants.specs.Generated.{Generates}
 use Rattle.spl_residue.specs.Residue.{residue_ops}
