@@ -1,0 +1,2 @@
+pub mod SemisimpleAlgebras
+pub mod PowerSteps
