@@ -2,9 +2,10 @@
 use crate::{devices, evidences, runs, tables};
 use spl_field::field::NoMemory;
 use spl_fraction::field::Fractions;
+use spl_place_words::calls;
+use spl_place_words::residues::over_residues;
 use spl_words::fault::Fault;
-use spl_words::residues::over_residues;
-use spl_words::{args, calls, laws, polynomials, show, small, texts};
+use spl_words::{args, laws, polynomials, show, small, texts};
 use std::alloc::Global;
 
 /// The most letters of what a name stands for.
