@@ -5,31 +5,12 @@ ghost use Rattle.spl_poly.specs.Operations.{IsOver};
 ghost use Rattle.spl_residue.specs.Residue.{field_of};
 
 use crate::fault::Fault;
-use crate::{args, calls, show};
+use crate::{args, show};
 use spl_field::small::SmallField;
 use spl_poly::poly::Poly;
 use spl_residue::field::ResidueField;
 use spl_residue::irreducible::is_irreducible;
 use std::alloc::Global;
-
-/// `residue MODULUS WORD ..`: the answer of a call over the remainders by the modulus; `none` where it isn't
-/// irreducible.
-pub fn over_residues(
-    alloc: Global,
-    f: &SmallField,
-    words: &[&str],
-    out: &mut Vec<u8>,
-) -> Result<(), Fault> {
-    let [modulus, word, rest @ ..] = words else {
-        return Err(Fault::BadLine);
-    };
-    let (kind, call) = word.split_once('.').ok_or(Fault::BadLine)?;
-    let modulus = args::poly(alloc, f, modulus)?;
-    match ResidueField::new(alloc, f, &modulus)? {
-        None => show::word(out, "none"),
-        Some(k) => calls::over_field(alloc, &k, kind, call, rest, out),
-    }
-}
 
 /// `new A`: the modulus, or `none`.
 fn new(alloc: Global, f: &SmallField, a: &Poly, out: &mut Vec<u8>) -> Result<(), Fault>
