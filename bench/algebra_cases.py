@@ -1,11 +1,12 @@
-"""Makes cases of radicals and maximal ideals for spl_calls: algebras over residue fields whose radical and blocks are
-known, in a random basis.
+"""Makes cases of radicals, maximal ideals and lift rings for spl_calls: worked ones, and algebras over residue fields
+whose radical and blocks are known, in a random basis.
 
     python3 algebra_cases.py SEED LINES ANSWERS
 
 Each algebra is written down by its products on a basis in which its radical and its maximal ideals can be seen, and then
-in a random one. The answers are what it was made of: no line is an answer of the program. Maximal ideals are listed by
-their bases as they stand in a line, in the order of these texts.
+in a random one: any one where the algebra is small, and one by few steps where it is large. The answers are what it was
+made of: no line is an answer of the program. Maximal ideals are listed by their bases as they stand in a line, in the
+order of these texts. Elements of lift rings are multiplied as polynomials with numbers as coefficients.
 """
 import random
 import sys
@@ -36,13 +37,7 @@ class Residues:
         return self.known[a, b]
 
     def inv(self, a):
-        power, base, left = (1,), a, self.q - 2
-        while left:
-            if left % 2:
-                power = self.mul(power, base)
-            base = self.mul(base, base)
-            left //= 2
-        return power
+        return raised(self, a, self.q - 2)
 
     def draw(self, draw):
         a = [draw.randrange(self.f.q) for _ in range(self.degree)]
@@ -135,11 +130,26 @@ def powers(k, modulus):
     return Made(n, products, radical, [[0] if nilpotent else list(range(n))])
 
 
-def cyclic(k, n):
-    """The group algebra of a cyclic group whose order is a power of the characteristic."""
-    products = {(i, j): {(i + j) % n: (1,)} for i in range(n) for j in range(n)}
+def group(k, n, multiply):
+    """The group algebra of a group of n elements, 0 being its one, whose order is a power of the characteristic."""
+    products = {(i, j): {multiply(i, j): (1,)} for i in range(n) for j in range(n)}
     radical = [[k.neg((1,)) if j == 0 else x for j, x in enumerate(unit(n, i))] for i in range(1, n)]
     return Made(n, products, radical, [[0]])
+
+
+def cyclic(k, n):
+    """Of the numbers modulo n."""
+    return group(k, n, lambda a, b: (a + b) % n)
+
+
+def dihedral(k):
+    """Of the symmetries of a square: number 4·s + r is the turn r behind the reflection s."""
+    return group(k, 8, lambda a, b: 4 * ((a // 4 + b // 4) % 2) + (a % 4 * (-1 if b // 4 else 1) + b % 4) % 4)
+
+
+def elementary(k, p):
+    """Of the pairs of numbers modulo p."""
+    return group(k, p * p, lambda a, b: (a // p + b // p) % p * p + (a % p + b % p) % p)
 
 
 def both(a, b):
@@ -152,27 +162,33 @@ def both(a, b):
     return Made(n, products, radical, a.blocks + [[a.n + i for i in block] for block in b.blocks])
 
 
-def in_basis(k, made, draw, scrambled):
+def random_basis(k, n, draw):
+    """A random basis where n is small, and else one by few steps from the first."""
+    if n <= 13:
+        return [[k.draw(draw) for _ in range(n)] for _ in range(n)]
+    basis = [unit(n, i) for i in draw.sample(range(n), n)]
+    for _ in range(n // 3):
+        i, j = draw.sample(range(n), 2)
+        c = k.draw(draw) or (1,)
+        basis[i] = [k.add(x, k.mul(c, y)) for x, y in zip(basis[i], basis[j])]
+    return basis
+
+
+def in_basis(k, made, draw):
     """The products of the rows of a random matrix, and what takes coordinates to the new basis."""
-    n = made.n
-    while True:
-        if scrambled:
-            basis = [[k.draw(draw) for _ in range(n)] for _ in range(n)]
-        else:
-            order = draw.sample(range(n), n)
-            basis = [unit(n, i) for i in order]
+    n, back = made.n, None
+    while not back:
+        basis = random_basis(k, n, draw)
         back = inverse(k, basis)
-        if back:
-            break
+    sparse = [[(i, x) for i, x in enumerate(row) if x] for row in basis]
     rows = []
-    for a in basis:
-        for b in basis:
+    for a in sparse:
+        for b in sparse:
             line = [()] * n
-            for (i, j), value in made.products.items():
-                if a[i] and b[j]:
-                    c = k.mul(a[i], b[j])
-                    for l, x in value.items():
-                        line[l] = k.add(line[l], k.mul(c, x))
+            for i, x in a:
+                for j, y in b:
+                    for l, z in made.products.get((i, j), {}).items():
+                        line[l] = k.add(line[l], k.mul(k.mul(x, y), z))
             rows.append(line)
     return multiply(k, rows, back), back
 
@@ -187,73 +203,234 @@ def space(k, rows):
 
 
 def algebras(k, draw):
-    """Some algebras over k: with a radical, and without."""
+    """Small algebras over k: with a radical, and without."""
     p = k.f.p
-    x = next(m for m in ([k.draw(draw) for _ in range(2)] + [(1,)] for _ in range(10000)) if has_no_root(k, m))
-    yield both(powers(k, x), triangular([2])), True
-    yield both(triangular([1]), both(triangular([2]), triangular([1]))), True
-    yield triangular([1, 2]), True
-    yield both(triangular([1, 1]), powers(k, [(), (), (), (1,)])), True
-    if p <= 5:
-        yield cyclic(k, p if p > 3 else p * p), True
-    yield powers(k, [()] * (p if p <= 7 else 6) + [(1,)]), False
+    x = quadratic(k, draw)
+    yield powers(k, x)
+    yield triangular([1, 2])
+    yield both(powers(k, x), triangular([2]))
+    yield both(triangular([1, 1]), powers(k, [(), (), (), (1,)]))
+    yield both(triangular([1]), both(triangular([2]), triangular([1])))
+    yield cyclic(k, p if p > 3 else p * p)
 
 
-def has_no_root(k, m):
-    """Whether a polynomial of degree 2 has no root in k."""
-    return all(value(k, m, a) for a in all_elements(k))
+def large_algebras(k):
+    """Algebras that are made over one or two fields alone, by the number of elements and the degree of the place."""
+    at = (k.f.q, k.degree)
+    if at in [(2, 1), (256, 1)]:
+        yield both(triangular([2]), triangular([3]))
+    if at in [(3, 1)]:
+        yield triangular([2, 3])
+    if at in [(2, 1), (4, 2)]:
+        yield dihedral(k)
+    if at in [(3, 2)]:
+        yield elementary(k, 3)
+    if at in [(256, 1)]:
+        yield cyclic(k, 8)
+    if at in [(25, 1)]:
+        yield powers(k, [()] * 25 + [(1,)])
 
 
-def all_elements(k):
-    for number in range(k.q):
-        a = [number // k.f.q ** i % k.f.q for i in range(k.degree)]
-        while a and a[-1] == 0:
-            a.pop()
-        yield tuple(a)
+def raised(k, a, n):
+    power = (1,)
+    while n:
+        if n % 2:
+            power = k.mul(power, a)
+        a = k.mul(a, a)
+        n //= 2
+    return power
 
 
-def value(k, m, a):
-    total = ()
-    for c in reversed(m):
-        total = k.add(k.mul(total, a), c)
-    return total
+def quadratic(k, draw):
+    """A polynomial of degree 2 without root: x² − c where c is no square, and x² + x + c where the trace of c is 1."""
+    while True:
+        c = k.draw(draw)
+        if k.f.p > 2:
+            if c and raised(k, c, (k.q - 1) // 2) != (1,):
+                return [k.neg(c), (), (1,)]
+            continue
+        trace, power, left = (), c, k.q
+        while left > 1:
+            trace, power, left = k.add(trace, power), k.mul(power, power), left // 2
+        if trace:
+            return [c, (1,), (1,)]
 
 
-FIELDS = [(2, [0], [1, 2, 3]), (3, [0], [1, 2]), (2, [1, 1], [1, 2]), (2, [1, 1, 0], [1]), (5, [2, 0], [1]),
-          (2, [1, 1, 0, 1, 1, 0, 0, 0], [1])]
+FIELDS = [(2, [0], 3), (3, [0], 3), (2, [1, 1], 3), (2, [1, 1, 0], 3), (5, [2, 0], 3), (2, [1, 1, 0, 1, 1, 0, 0, 0], 3)]
+
+
+class Script:
+    """Lines and their answers."""
+
+    def __init__(self):
+        self.lines, self.answers = [], []
+
+    def say(self, line, answer):
+        self.lines.append(line)
+        self.answers.append(str(answer))
+
+    def note(self, line):
+        self.say(f"# {line}", f"# {line}")
+
+    def over(self, p, modulus):
+        self.say(f"over {p} {text(modulus)}", f"{p} {text(modulus)} {p ** len(modulus)}")
+
+    def let(self, name, word):
+        self.say(f"let {name} {word}", len(word))
+
+
+def table(n, products):
+    """The word of an algebra by its products of basis elements that are not 0, each a basis element."""
+    return ";".join(":".join("1" if products.get((i, j)) == l else "0" for l in range(n))
+                    for i in range(n) for j in range(n))
+
+
+def worked(script):
+    """Over two elements an algebra in which the trace form has a larger kernel than the radical; and two over five."""
+    u, v, y, z, w = 0, 1, (2, 3), (4, 5), (6, 7, 8)
+    products = {(u, u): u, (v, v): v}
+    products.update({(u, a): a for a in y} | {(a, v): a for a in y})
+    products.update({(v, a): a for a in z + w} | {(a, u): a for a in z} | {(a, v): a for a in w})
+    element = lambda *places: ":".join("1" if l in places else "0" for l in range(9))
+    radical = ";".join(element(l) for l in range(2, 9))
+    ends = f"{element(0)};{element(1)}"
+    script.over(2, [0])
+    script.let("B9", table(9, products))
+    script.say("residue 0,1 radical B9", f"7 {radical}")
+    script.say("residue 0,1 algebra.trace_form B9", ";".join([element(0)] + [element()] * 8))
+    script.say(f"residue 0,1 algebra.is_nilpotent_ideal B9 {element(1)};{radical}", "no")
+    script.say(f"residue 0,1 algebra.is_nilpotent_ideal B9 {radical}", "yes")
+    script.say(f"residue 0,1 trace_power 3 B9 {element(0)} 0", 3)
+    script.say(f"residue 0,1 trace_power 3 B9 {element(1)} 1", 6)
+    script.say(f"residue 0,1 trace_power 3 B9 {element(1)} 4", "bad line")
+    script.say(f"residue 0,1 trace_power 39 B9 {element(1)} 39", 6)
+    script.say(f"residue 0,1 trace_power 40 B9 {element(1)} 0", "bad line")
+    script.say(f"residue 0,1 algebra.power_of_ideal B9 {radical} 2", "0 none")
+    script.say(f"residue 0,1 algebra.quotient B9 {radical}", f"2 1:0 0:0 0:0 0:1 {ends} {ends}")
+    script.say("residue 0,1 maximal_ideals B9", "bad line")
+    script.say("residue 0,1 is_simple B9", "bad line")
+    script.say("residue 0,1 radical 0:0;0:0;0:0;0:0", "bad line")
+    script.say("residue 0,1 radical 1:0;0:1;0:1;1:1", "0 none")
+    script.say("residue 0,1 radical 1:0;0:1;0:0;0:0", "bad line")
+    script.over(5, [0])
+    script.say("residue 0,1 maximal_ideals 1:0;0:0;0:0;0:1", "2 1 0:1 1 1:0")
+    units = table(4, {(0, 0): 0, (0, 1): 1, (1, 2): 0, (1, 3): 1, (2, 0): 2, (2, 1): 3, (3, 2): 2, (3, 3): 3})
+    script.let("T1", units)
+    script.say("residue 0,1 is_simple T1", "yes")
+    script.say("residue 0,1 radical T1", "0 none")
+    script.say("residue 0,1 maximal_ideals T1", "1 0 none")
+    script.say("algebra.two_sided_rank T1", 16)
+    script.say("fractions algebra.two_sided_rank T1", 16)
+    script.say("residue 2,0,1 algebra.two_sided_rank T1", 16)
+    script.say("algebra.two_sided_rank 1:0;0:0;0:0;0:1", 2)
+    script.say("fractions algebra.is_nilpotent_ideal 1:0;0:1;0:1;0:0 0:1", "yes")
+    script.say("algebra.is_nilpotent_ideal 1:0;0:0;0:0;0:1 0:1", "no")
+
+
+def on_algebra(script, k, place, made, draw):
+    """The radical, and where that is 0 the maximal ideals and whether there is but one."""
+    table, back = in_basis(k, made, draw)
+    script.let("A", spelled(table))
+    on = f"residue {text(place)}"
+    script.say(f"{on} radical A", space(k, multiply(k, made.radical, back) if made.radical else []))
+    if made.radical:
+        return
+    ideals = sorted(space(k, multiply(k, [unit(made.n, i) for other in made.blocks if other is not block
+                                          for i in other], back) if len(made.blocks) > 1 else [])
+                    for block in made.blocks)
+    script.say(f"{on} maximal_ideals A", " ".join([str(len(ideals))] + ideals))
+    script.say(f"{on} is_simple A", "yes" if len(made.blocks) == 1 else "no")
+
+
+class Numbers:
+    """The remainders of polynomials over Z/n by a monic one: digits of an element of F_q, or elements of a lift ring."""
+
+    def __init__(self, one, modulus):
+        self.one, self.modulus, self.degree = one, modulus, len(modulus)
+
+    def add(self, a, b):
+        return [self.one.add(x, y) for x, y in zip(a, b)]
+
+    def mul(self, a, b):
+        product = [self.one.zero() for _ in range(2 * self.degree)]
+        for i, x in enumerate(a):
+            for j, y in enumerate(b):
+                product[i + j] = self.one.add(product[i + j], self.one.mul(x, y))
+        for top in range(2 * self.degree - 1, self.degree - 1, -1):
+            lead = product[top]
+            for s, c in enumerate(self.modulus):
+                product[top - self.degree + s] = self.one.sub(product[top - self.degree + s], self.one.mul(lead, c))
+            product[top] = self.one.zero()
+        return product[: self.degree]
+
+    def zero(self):
+        return [self.one.zero() for _ in range(self.degree)]
+
+    def sub(self, a, b):
+        return [self.one.sub(x, y) for x, y in zip(a, b)]
+
+
+class Modulo:
+    """The integers modulo n."""
+
+    def __init__(self, n):
+        self.n = n
+
+    def zero(self):
+        return 0
+
+    def add(self, a, b):
+        return (a + b) % self.n
+
+    def sub(self, a, b):
+        return (a - b) % self.n
+
+    def mul(self, a, b):
+        return a * b % self.n
+
+
+def digits(p, d, number):
+    return [number // p ** v % p for v in range(d)]
+
+
+def on_lifts(script, k, place, draw):
+    """A sum and a product of lifts. The place is monic."""
+    p, d, level = k.f.p, len(k.f.modulus), draw.randrange(4)
+    inner = Numbers(Modulo(p ** (level + 1)), k.f.modulus)
+    ring = Numbers(inner, [digits(p, d, c) for c in place[:-1]])
+    a, b = k.draw(draw), k.draw(draw)
+    lift = lambda x: [digits(p, d, x[u] if u < len(x) else 0) for u in range(k.degree)]
+    show = lambda x: " ".join(str(n) for c in x for n in c)
+    on = f"residue {text(place)} lift_ring"
+    a_text, b_text = text(list(a)), text(list(b))
+    script.say(f"{on}.lift {level} {a_text}", show(lift(a)))
+    script.say(f"{on}.add {level} {a_text} {b_text}", show(ring.add(lift(a), lift(b))))
+    script.say(f"{on}.mul {level} {a_text} {b_text}", show(ring.mul(lift(a), lift(b))))
 
 
 def main():
     draw = random.Random(int(sys.argv[1]))
-    lines, answers = [], []
-    for p, modulus, degrees in FIELDS:
+    script = Script()
+    script.note("spl_radical, spl_blocks: worked algebras over 2 and 5 elements")
+    worked(script)
+    script.note("spl_radical, spl_blocks: algebras and lift rings over residue fields, by bench/algebra_cases.py from the "
+                f"number {sys.argv[1]}")
+    for turn, (p, modulus, degrees) in enumerate(FIELDS):
         f = Field(p, modulus)
-        lines.append(f"over {p} {text(modulus)}")
-        answers.append(f"{p} {text(modulus)} {f.q}")
-        for degree in degrees:
-            place = draw.choice([m for m in monic(f, degree) if is_irreducible(f, m)])
+        script.over(p, modulus)
+        for degree in range(1, degrees + 1):
+            place = next(m for m in ([draw.randrange(f.q) for _ in range(degree)] + [1] for _ in range(10000))
+                         if is_irreducible(f, m))
             k = Residues(f, place)
-            for made, scrambled in algebras(k, draw):
-                table, back = in_basis(k, made, draw, scrambled)
-                word = f"let A {spelled(table)}"
-                lines.append(word)
-                answers.append(str(len(word) - len("let A ")))
-                on = f"residue {text(place)}"
-                lines.append(f"{on} radical A")
-                answers.append(space(k, multiply(k, made.radical, back) if made.radical else []))
-                if made.radical:
-                    continue
-                ideals = sorted(space(k, multiply(k, [unit(made.n, i) for other in made.blocks if other is not block
-                                                      for i in other], back) if len(made.blocks) > 1 else [])
-                                for block in made.blocks)
-                lines.append(f"{on} maximal_ideals A")
-                answers.append(" ".join([str(len(ideals))] + ideals))
-                lines.append(f"{on} is_simple A")
-                answers.append("yes" if len(made.blocks) == 1 else "no")
+            small = [made for i, made in enumerate(algebras(k, draw)) if i % 3 == (turn + degree) % 3]
+            for made in [*small, *large_algebras(k)]:
+                on_algebra(script, k, place, made, draw)
+            on_lifts(script, k, place, draw)
+    script.say("residue 1 lift_ring.lift 0 1", "none")
     with open(sys.argv[2], "w") as out:
-        out.write("\n".join(lines) + "\n")
+        out.write("\n".join(script.lines) + "\n")
     with open(sys.argv[3], "w") as out:
-        out.write("\n".join(answers) + "\n")
+        out.write("\n".join(script.answers) + "\n")
 
 
 if __name__ == "__main__":
