@@ -1,6 +1,6 @@
 -- Products of matrices whose items stand in one list, row by row: where their items stand, and what they are.
-use Rattle.std.specs.Prelude.{◌≡◌, ◌<◌, ◌+◌, ◌*◌, ◌/◌, ◌%◌, ℕ, List, [], length, get_or}
-use Rattle.std.proofs.Common.{sym, ◌∙◌, ap, ap₂, arith}
+use Rattle.std.specs.Prelude.{◌≡◌, ◌<◌, ◌+◌, ◌*◌, ◌/◌, ◌%◌, ℕ, List, [], get_or}
+use Rattle.std.proofs.Common.{sym, ◌∙◌, ap, ap₂, arith, zero, suc}
 use Rattle.std.proofs.Math.Nat.{mod-lt}
 use Rattle.std.proofs.lemmas.Nat.{div-mul-add, mod-mul-add}
 use Rattle.theory_rings.specs.Ops.{Ops, FieldLaws}
@@ -37,6 +37,14 @@ module _ (count h n w p : ℕ) (l : p < count * (h * w)) where
 
   pub place_in_matrix : p / w % h < h
   place_in_matrix = column-lt count h (p / w) row_in
+
+  -- the matrices of the second list are no longer than this list
+  pub block_fits : (k : ℕ) → count * (n * w) < k → n * w < k
+  block_fits k fits = at_least count (omega (arith, block_in)) fits
+    where
+      at_least : (m : ℕ) → 0 < m → m * (n * w) < k → n * w < k
+      at_least zero positive within = absurd (omega arith)
+      at_least (suc m) positive within = omega arith
 
   pub first_within : (t : ℕ) → t < n → (p / w % h) * n + t < h * n
   first_within t t_in = pair-lt h n (p / w % h) t place_in_matrix t_in

@@ -8,7 +8,7 @@ use Rattle.theory_rings.specs.Elements.{Elem, Elem-path, elements}
 use Rattle.theory_rings.specs.Sum.{sum_of}
 use Rattle.theory_rings.proofs.Rings.Elements.{sum_of_congr, sum_of-elem}
 use Rattle.theory_rings.proofs.Rings.Fields.{mul-inv, mul_left_cancel, field_mul-ne-zero}
-use Rattle.theory_rings.proofs.Rings.Solver.{◌⊠◌, by_sorted, v0, v1, v2, v3, v4, var, ring4}
+use Rattle.theory_rings.proofs.Rings.Solver.{◌⊠◌, by_sorted, v0, v1, v2, v3, v4, ring4}
 use Rattle.theory_tables.proofs.Rows.Sums.{mul-sum_of, sum_of-mul, sum_of_comm, sum_of-delta_mul, sums_assoc}
 use Rattle.theory_tables.proofs.Rows.Terms.{cond_yes, cond_no, mul-zero, zero-mul}
 use Rattle.spl_order.specs.Coordinates.{row_products, scaled_coordinate}

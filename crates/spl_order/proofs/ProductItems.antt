@@ -24,7 +24,8 @@ use Rattle.theory_fractions.proofs.ElementClauses.{zero_is, ne_zero}
 use Rattle.theory_fractions.proofs.PolynomialFractions.{as_fraction-elem}
 use Rattle.theory_bases.specs.Bases.{BasisForm, IsBasis, fraction_over, tuples_of}
 use Rattle.theory_bases.proofs.FractionsOver.{M, entry-tuples, count-tuples, mul-divided, over-elem}
-use Rattle.theory_left_orders.specs.TupleResidues.{AreProductCoordinates}
+use Rattle.theory_bases.proofs.IndependentRows.{rows_independent}
+use Rattle.theory_rows.specs.Rows.{RowsAreIndependent}
 use Rattle.spl_numerators.specs.Numerators.{AreNumerators}
 use Rattle.spl_numerators.specs.Sums.{fraction_at}
 use Rattle.spl_order.specs.Values.{HasRow, fraction_entry, IsScaledInverse}
@@ -45,6 +46,17 @@ module _ {E : Type 0} (o : Ops E) (L : FieldLaws o) where
       → as_fraction o (cond b s []) ≡ cond b (as_fraction o s) (let k : Ops (Pair E) = fraction_ops o L in k.zero)
   unit_or_zero true s = refl
   unit_or_zero false s = sym (zero_is o L)
+
+module _ {E : Type 0} (o : Ops E) (L : FieldLaws o) (n : ℕ) (b : BasisForm E) (B : IsBasis o L n b) where
+  -- a basis has as many rows as columns
+  pub square_count : length b.numerators ≡ n
+  square_count = sym (count-tuples o L b) ∙ (let i = B.independent in i.count)
+
+  -- and its rows are independent over the polynomials
+  pub numerators_free : RowsAreIndependent o b.numerators
+  numerators_free = rows_independent o L n b B.polynomial
+      (nonzero_of_monic o L b.denominator (let l = B.least in l.monic)) B.rows
+      (let i = B.independent in i.independent)
 
 module _ {E : Type 0} (o : Ops E) (L : FieldLaws o) (A : Structure (Pair E)) (over : IsOver (fraction_ops o L) A)
     (g : List E) (entries : List (List E)) (G : AreNumerators o L g A entries) (b : BasisForm E)
@@ -109,7 +121,7 @@ module _ {E : Type 0} (o : Ops E) (L : FieldLaws o) (A : Structure (Pair E)) (ov
   d-ne = nonzero_of_monic o L d (let l = B.least in l.monic)
 
   rows-count : length b.numerators ≡ n
-  rows-count = sym (count-tuples o L b) ∙ (let i = B.independent in i.count)
+  rows-count = square_count o L n b B
 
   x-is : (i a : ℕ) → i < n → a < n → x i a ≡ fraction_entry o b.numerators i a
   x-is i a i_in a_in = R.values (i * n + a) (pair-lt n n i a i_in a_in)

@@ -6,6 +6,7 @@
 #![tactic(auto)]
 
 pub mod basis;
+mod coordinates;
 mod copies;
 mod denominators;
 pub mod forms;

@@ -18,7 +18,7 @@ use spl_poly::poly::Poly;
 use std::alloc::Global;
 
 /// The entry in row i and column j.
-fn entry(rows: &[PolyRow], i: usize, j: usize) -> &Poly
+pub(crate) fn entry(rows: &[PolyRow], i: usize, j: usize) -> &Poly
     requires row { i < length rows.now }
     requires column { j < length (get_or rows.now i []) }
     ensures { result.now ≡ get_or (get_or rows.now i []) j [] }

@@ -1,0 +1,169 @@
+// The coordinates of the products of a basis of tuples in this basis, as polynomials over one denominator.
+ghost use Rattle.std.specs.Prelude.{◌≡◌, ◌≢◌, ◌*◌, ◌+◌, ◌^◌, ◌<◌, ◌≤◌, ◌/◌, ◌%◌, ℕ, [], length, get_or, IfOk};
+ghost use Rattle.spl_field.specs.SmallField.{small_ops, small_laws};
+ghost use Rattle.theory_fractions.specs.PolynomialLists.{IsPolynomialList};
+ghost use Rattle.theory_fractions.specs.CommonDenominator.{as_fraction};
+ghost use Rattle.theory_rows.specs.Rows.{IsPolynomialMatrix};
+ghost use Rattle.spl_fraction.specs.FractionsOver.{fractions_over};
+ghost use Rattle.theory_tables.specs.Structure.{IsOver};
+ghost use Rattle.theory_bases.specs.Bases.{IsBasis, tuples_of};
+ghost use Rattle.spl_numerators.specs.Numerators.{AreNumerators};
+ghost use Rattle.spl_order.specs.Values.{HasRow, fraction_entry};
+ghost use Rattle.spl_order.specs.Coordinates.{block_item, AreScaledCoordinates, AreCoordinatesOver};
+
+use crate::basis::Basis;
+use crate::inverse::inverse_rows;
+use crate::matrices::entry;
+use spl_algebra::algebra::Algebra;
+use spl_field::field::NoMemory;
+use spl_field::small::SmallField;
+use spl_fraction::field::Fractions;
+use spl_lattice::rows::PolyRow;
+use spl_numerators::numerators::Numerators;
+use spl_numerators::products::sum_of_products;
+use spl_poly::poly::Poly;
+use std::alloc::Global;
+
+/// Polynomials which, over one polynomial other than 0, are the coordinates of products.
+#[derive(Drop)]
+pub(crate) struct Coordinates {
+    pub(crate) scale: Poly,
+    pub(crate) items: PolyRow,
+}
+
+/// The entries of the rows, which have w columns, one row after the other.
+fn flat(alloc: Global, f: &SmallField, rows: &[PolyRow], w: usize) -> Result<PolyRow, NoMemory>
+    requires rows { IsPolynomialMatrix (small_ops f.now) w rows.now }
+    requires fits { length rows.now * w < 2 ^ 64 }
+    ensures { IfOk result (HasRow (small_ops f.now)
+        (λ p. fraction_entry (small_ops f.now) rows.now (p / w) (p % w)) (length rows.now * w)) }
+{
+    let mut items = PolyRow::new(alloc);
+    for p in 0..rows.len() * w {
+        items.push(entry(rows, p / w, p % w).copy(alloc, f)?)?;
+    }
+    Ok(items)
+}
+
+/// An item of the products of an h by n matrix and each of the n by w matrices that stand one after the other.
+fn block_product(
+    alloc: Global,
+    f: &SmallField,
+    a: &[Poly],
+    b: &[Poly],
+    h: usize,
+    n: usize,
+    w: usize,
+    count: usize,
+    p: usize,
+) -> Result<Poly, NoMemory>
+    requires a_count { length a.now ≡ h * n }
+    requires b_count { length b.now ≡ count * (n * w) }
+    requires a { (p : ℕ) → p < length a.now → IsPolynomialList (small_ops f.now) (get_or a.now p []) }
+    requires b { (p : ℕ) → p < length b.now → IsPolynomialList (small_ops f.now) (get_or b.now p []) }
+    requires positive { 1 ≤ n }
+    requires a_fits { h * n < 2 ^ 64 }
+    requires b_fits { count * (n * w) < 2 ^ 64 }
+    requires width { h * w < 2 ^ 64 }
+    requires place { p < count * (h * w) }
+    ensures polynomial { IfOk result (IsPolynomialList (small_ops f.now)) }
+    ensures value { IfOk result (λ r. as_fraction (small_ops f.now) r
+        ≡ block_item (small_ops f.now) (small_laws f.now) a.now b.now h n w p) }
+{
+    let _ = count;
+    let first = (p / w % h) * n;
+    let second = (p / (h * w)) * (n * w) + p % w;
+    sum_of_products(alloc, f, n, a, first, b, second, w)
+}
+
+/// The products of an h by n matrix and each of the n by w matrices that stand one after the other.
+fn block_products(
+    alloc: Global,
+    f: &SmallField,
+    a: &[Poly],
+    b: &[Poly],
+    h: usize,
+    n: usize,
+    w: usize,
+    count: usize,
+) -> Result<PolyRow, NoMemory>
+    requires a_count { length a.now ≡ h * n }
+    requires b_count { length b.now ≡ count * (n * w) }
+    requires a { (p : ℕ) → p < length a.now → IsPolynomialList (small_ops f.now) (get_or a.now p []) }
+    requires b { (p : ℕ) → p < length b.now → IsPolynomialList (small_ops f.now) (get_or b.now p []) }
+    requires positive { 1 ≤ n }
+    requires a_fits { h * n < 2 ^ 64 }
+    requires b_fits { count * (n * w) < 2 ^ 64 }
+    requires width { h * w < 2 ^ 64 }
+    requires fits { count * (h * w) < 2 ^ 64 }
+    ensures { IfOk result (HasRow (small_ops f.now)
+        (block_item (small_ops f.now) (small_laws f.now) a.now b.now h n w) (count * (h * w))) }
+{
+    let mut items = PolyRow::new(alloc);
+    for p in 0..count * (h * w) {
+        items.push(block_product(alloc, f, a, b, h, n, w, count, p)?)?;
+    }
+    Ok(items)
+}
+
+/// The scaled coordinates of the products of n rows, by the constants and n columns.
+fn scaled_coordinates(
+    alloc: Global,
+    f: &SmallField,
+    n: usize,
+    rows: &[Poly],
+    columns: &[Poly],
+    constants: &[Poly],
+) -> Result<PolyRow, NoMemory>
+    requires fits { n * n * n < 2 ^ 64 }
+    requires positive { 1 ≤ n }
+    requires rows_count { length rows.now ≡ n * n }
+    requires columns_count { length columns.now ≡ n * n }
+    requires constants_count { length constants.now ≡ n * n * n }
+    requires rows { (p : ℕ) → p < length rows.now → IsPolynomialList (small_ops f.now) (get_or rows.now p []) }
+    requires columns { (p : ℕ) → p < length columns.now
+        → IsPolynomialList (small_ops f.now) (get_or columns.now p []) }
+    requires constants { (p : ℕ) → p < length constants.now
+        → IsPolynomialList (small_ops f.now) (get_or constants.now p []) }
+    ensures { IfOk result (AreScaledCoordinates (small_ops f.now) (small_laws f.now) n rows.now columns.now
+        constants.now) }
+{
+    let m = n * n;
+    let lefts = block_products(alloc, f, rows, constants, n, n, m, 1)?;
+    let products = block_products(alloc, f, rows, lefts.as_slice(), n, n, n, n)?;
+    let items = block_products(alloc, f, products.as_slice(), columns, m, n, n, 1)?;
+    Ok(items)
+}
+
+/// The coordinates, where the constants are those polynomials over one denominator.
+pub(crate) fn product_coordinates(
+    alloc: Global,
+    f: &SmallField,
+    a: &Algebra<Fractions>,
+    numerators: &Numerators,
+    order: &Basis,
+) -> Result<Coordinates, NoMemory>
+    requires over { IsOver (fractions_over f.now) a.now }
+    requires numerators { AreNumerators (small_ops f.now) (small_laws f.now) numerators.now.denominator a.now
+        numerators.now.entries }
+    requires order { IsBasis (small_ops f.now) (small_laws f.now) a.now.dim order.now }
+    ensures { IfOk result (λ r. AreCoordinatesOver (small_ops f.now) (small_laws f.now) a.now
+        (tuples_of (small_ops f.now) (small_laws f.now) order.now) r.scale r.items) }
+{
+    let _ = a.constants();
+    let n = a.dim();
+    let inverse = inverse_rows(alloc, f, order.numerators())?;
+    let denominator = numerators.denominator.mul(alloc, f, order.denominator())?;
+    let scale = denominator.mul(alloc, f, &inverse.scale)?;
+    let rows = flat(alloc, f, order.numerators().as_slice(), n)?;
+    let columns = flat(alloc, f, inverse.rows.as_slice(), n)?;
+    let items = scaled_coordinates(
+        alloc,
+        f,
+        n,
+        rows.as_slice(),
+        columns.as_slice(),
+        numerators.entries.as_slice(),
+    )?;
+    Ok(Coordinates { scale, items })
+}
