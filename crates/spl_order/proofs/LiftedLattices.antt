@@ -42,6 +42,29 @@ width-is o w [] h k e = omega (arith, e)
 width-is o w (x ∷ xs) h k e =
     let first = All-get_or (IsPolynomialRow o w) (x ∷ xs) 0 [] (omega arith) h in first.width
 
+-- products with, and multiples of, what is the n numerators of a basis
+module _ {E : Type 0} (o : Ops E) (L : FieldLaws o) (n : ℕ) (b : BasisForm E) (basis : IsBasis o L n b)
+    (R : List (List (List E))) (R-is : R ≡ b.numerators) where
+  numerators-count : length b.numerators ≡ n
+  numerators-count = sym (count-tuples o L b) ∙ (let i = basis.independent in i.count)
+
+  pub weighted-matrix : (w W P : List (List (List E))) → w ≡ W
+      → HasMatrix o (product_entry o L (length R) w R) (length w) n P
+      → HasMatrix o (product_entry o L n W b.numerators) (length W) n P
+  weighted-matrix w W P e h =
+      subst (λ t. HasMatrix o (product_entry o L t W b.numerators) (length W) n P) numerators-count
+      (subst (λ r. HasMatrix o (product_entry o L (length r) W r) (length W) n P) R-is
+      (subst (λ v. HasMatrix o (product_entry o L (length R) v R) (length v) n P) e h))
+
+  pub multiplied-matrix : (m : List E) (Q : List (List (List E)))
+      → (let k : Ops (Pair E) = K o L in
+      HasMatrix o (λ i j. k.mul (as_fraction o m) (fraction_entry o R i j)) (length R) n Q
+      → HasMatrix o (λ i j. k.mul (as_fraction o m) (fraction_entry o b.numerators i j)) n n Q)
+  multiplied-matrix m Q h =
+      let k : Ops (Pair E) = K o L in
+      subst (λ t. HasMatrix o (λ i j. k.mul (as_fraction o m) (fraction_entry o b.numerators i j)) t n Q) numerators-count
+      (subst (λ r. HasMatrix o (λ i j. k.mul (as_fraction o m) (fraction_entry o r i j)) (length r) n Q) R-is h)
+
 module _ {E : Type 0} (o : Ops E) (L : FieldLaws o) (n : ℕ) (c : List E) (hc : IsPolynomialList o c) (nc : c ≢ []) where
   abbrev k : Ops (Pair E)
   k = K o L

@@ -11,7 +11,7 @@ use spl_poly::poly::Poly;
 use std::alloc::Global;
 
 /// An equal row.
-fn copied_row(alloc: Global, f: &SmallField, row: &[Poly]) -> Result<PolyRow, NoMemory>
+pub(crate) fn copied_row(alloc: Global, f: &SmallField, row: &[Poly]) -> Result<PolyRow, NoMemory>
     requires { All (IsOver (small_ops f.now)) row.now }
     ensures { IfOk result (λ r. r ≡ row.now) }
 {
