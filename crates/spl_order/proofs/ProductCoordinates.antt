@@ -63,12 +63,19 @@ module _ {E R : Type 0} (o : Ops E) (L : FieldLaws o) (P : E → Type 0) (p q : 
       subst T (row-is o L n rows ind.shape i l') (from_lattice o L n rows ind.shape P (v i)
       (span-member K Q D.subring M (length rows) v i l'))
 
-  -- where the lattice is closed under products, the coordinates of the products are weights that are allowed
-  pub coordinates_allowed : ((x y : List E) → T x → T y → T (product_of o A x y)) → (c : ℕ → ℕ → ℕ → E)
+  -- where the lattice is closed under products, it holds those of the tuples
+  pub products_inside : ((x y : List E) → T x → T y → T (product_of o A x y)) → (i j : ℕ) → i < n → j < n
+      → T (product_of o A (get_or rows i []) (get_or rows j []))
+  products_inside closed i j i_in j_in =
+      closed (get_or rows i []) (get_or rows j []) (member i i_in) (member j j_in)
+
+  -- where the lattice holds the products of the tuples, their coordinates are weights that are allowed
+  pub coordinates_allowed : ((i j : ℕ) → i < n → j < n → T (product_of o A (get_or rows i []) (get_or rows j [])))
+      → (c : ℕ → ℕ → ℕ → E)
       → AreProductCoordinates o A rows c → (i j l : ℕ) → i < n → j < n → l < n → P (c i j l)
-  coordinates_allowed closed c h i j l i_in j_in l_in =
+  coordinates_allowed inside c h i j l i_in j_in l_in =
       let z = product_of o A (get_or rows i []) (get_or rows j []) in
-      let t : T z = closed (get_or rows i []) (get_or rows j []) (member i i_in) (member j j_in) in
+      let t : T z = inside i j i_in j_in in
       let x : Tuple o n = as_tuple o L n z t.0 in
       let e : ℕ → Elem o = λ k. (c i j k, h.elements_of i j k) in
       let S : ℕ → Type 0 = λ m. LatticeOver M Q m v x in
@@ -105,7 +112,8 @@ module _ {E : Type 0} (o : Ops E) (L : FieldLaws o) (M : FieldLaws (fraction_ops
     coordinates = H.coordinates;
     residues = λ i j l i_in j_in l_in.
         let e = (let C = H.coordinates in C.elements_of i j l) in
-        let a = coordinates_allowed k M AtPlace R.p q r N R.at_place A tuples S.basis (let O = S.order in O.mul_in)
+        let a = coordinates_allowed k M AtPlace R.p q r N R.at_place A tuples S.basis
+        (products_inside k M AtPlace R.p q r N R.at_place A tuples S.basis (let O = S.order in O.mul_in))
         H.coordinate H.coordinates i j l i_in j_in l_in in
         record {
           elem = e;
@@ -124,7 +132,8 @@ module _ {E : Type 0} (o : Ops E) (L : FieldLaws o) (M : FieldLaws (fraction_ops
     coordinates = H.coordinates;
     residues = λ i j l i_in j_in l_in.
         let e = (let C = H.coordinates in C.elements_of i j l) in
-        let a = coordinates_allowed k M Poly R.p q r N R.polynomials A tuples S.basis (let O = S.order in O.mul_in)
+        let a = coordinates_allowed k M Poly R.p q r N R.polynomials A tuples S.basis
+        (products_inside k M Poly R.p q r N R.polynomials A tuples S.basis (let O = S.order in O.mul_in))
         H.coordinate H.coordinates i j l i_in j_in l_in in
         record {
           elem = e;

@@ -7,7 +7,7 @@ use Rattle.std.proofs.lemmas.List.Elements.{All-from_get_or}
 use Rattle.theory_rings.specs.Ops.{Ops, IsElem, FieldLaws}
 use Rattle.theory_spaces.specs.Tuples.{IsTuple}
 use Rattle.theory_spaces.proofs.Matrices.PairIndex.{pair-lt, row-lt, column-lt}
-use Rattle.theory_tables.specs.Structure.{Structure, IsOver, IsAssociative}
+use Rattle.theory_tables.specs.Structure.{Structure, IsOver, IsAssociative, product_of}
 use Rattle.theory_tables.specs.Algebras.{HasIdentity}
 use Rattle.theory_tables.proofs.Rows.Spans.{grow_at}
 use Rattle.theory_fractions.specs.Fraction.{Pair}
@@ -18,13 +18,13 @@ use Rattle.theory_remainders.proofs.RemainderField.{monic, remainder_laws}
 use Rattle.theory_places.specs.Places.{Finite}
 use Rattle.theory_places.specs.FractionPlaces.{IsIntegralAt, IsMonicIrreducible, fractions}
 use Rattle.theory_reductions.specs.Reductions.{IsResidueOf}
-use Rattle.theory_bases.specs.TupleLattices.{SpanOrder}
+use Rattle.theory_bases.specs.TupleLattices.{TupleLattice, AreIndependentTuples, SpanOrder}
 use Rattle.theory_bases.specs.Bases.{fraction_over}
 use Rattle.theory_left_orders.specs.FractionResidues.{ResidueRingsBy}
 use Rattle.theory_left_orders.proofs.FractionResidues.{residue_rings}
 use Rattle.spl_order.specs.Coordinates.{AreCoordinatesOver}
 use Rattle.spl_order.specs.Residues.{AreProductResidues, AreResiduesOver}
-use Rattle.spl_order.proofs.ProductCoordinates.{coordinates_allowed, laws_of_residues}
+use Rattle.spl_order.proofs.ProductCoordinates.{products_inside, coordinates_allowed, laws_of_residues}
 
 -- a number below n³ by its three digits to the base n
 module _ (n p : ℕ) (l : p < n * n * n) where
@@ -98,16 +98,18 @@ module _ {E : Type 0} (o : Ops E) (L : FieldLaws o) (m : List E) where
     abbrev coordinate : ℕ → ℕ → ℕ → Pair E
     coordinate i j l = fraction_over o L scale (get_or items ((i * n + j) * n + l) [])
 
-    -- the coordinates are integral where the tuples span an order
-    pub integral_items : SpanOrder k A (IsIntegralAt o (Finite m)) tuples → (p : ℕ) → p < n * n * n
-        → IsIntegralAt o (Finite m) (fraction_over o L scale (get_or items p []))
-    integral_items S p l =
+    -- the coordinates are integral where the products of the tuples are in their lattice
+    pub integral_items : AreIndependentTuples k n tuples
+        → ((i j : ℕ) → i < n → j < n
+        → TupleLattice k (IsIntegralAt o (Finite m)) n tuples (product_of k A (get_or tuples i []) (get_or tuples j [])))
+        → (p : ℕ) → p < n * n * n → IsIntegralAt o (Finite m) (fraction_over o L scale (get_or items p []))
+    integral_items independent inside p l =
         let N = remainder_laws o L m s.irreducible in
         let r = remainder_ops o L m (monic o L m s.irreducible) in
         let R : ResidueRingsBy o L laws m r N = residue_rings o L laws m s N in
         subst (λ q. IsIntegralAt o (Finite m) (fraction_over o L scale (get_or items q []))) (by_digits n p l)
         (coordinates_allowed k laws (IsIntegralAt o (Finite m)) R.p (let F = fractions o L laws in F.inv R.p) r N
-        R.at_place A tuples S.basis (let O = S.order in O.mul_in) coordinate C.coordinates (first_digit n p l)
+        R.at_place A tuples independent inside coordinate C.coordinates (first_digit n p l)
         (second_digit n p l) (third_digit n p l) (first_in n p l) (second_in n p l) (third_in n p l))
 
     -- and their residues are those of the products
@@ -126,6 +128,19 @@ module _ {E : Type 0} (o : Ops E) (L : FieldLaws o) (m : List E) where
           subst (IsResidueOf o m r (coordinate i j l))
           (get_or_default residues p [] r.zero (omega (arith, p_in, H.count))) (H.values p p_in);
     }
+
+  -- an order holds the products of its tuples
+  pub order_products : (s : IsMonicIrreducible o m) (A : Structure (Pair E)) (tuples : List (List (Pair E)))
+      → SpanOrder (fraction_ops o L) A (IsIntegralAt o (Finite m)) tuples → (i j : ℕ) → i < A.dim → j < A.dim
+      → TupleLattice (fraction_ops o L) (IsIntegralAt o (Finite m)) A.dim tuples
+      (product_of (fraction_ops o L) A (get_or tuples i []) (get_or tuples j []))
+  order_products s A tuples S =
+      let M = fraction_laws o L in
+      let N = remainder_laws o L m s.irreducible in
+      let r = remainder_ops o L m (monic o L m s.irreducible) in
+      let R : ResidueRingsBy o L M m r N = residue_rings o L M m s N in
+      products_inside (fraction_ops o L) M (IsIntegralAt o (Finite m)) R.p
+      (let F = fractions o L M in F.inv R.p) r N R.at_place A tuples S.basis (let O = S.order in O.mul_in)
 
   -- the laws of the algebra with these constants, over operations that are those of the remainders
   pub residue_laws : (s : IsMonicIrreducible o m) (A : Structure (Pair E)) (tuples : List (List (Pair E)))

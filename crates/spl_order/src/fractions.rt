@@ -15,7 +15,12 @@ use spl_poly::poly::Poly;
 use std::alloc::Global;
 
 /// The fraction num / den.
-fn fraction(alloc: Global, f: &Fractions, num: &Poly, den: &Poly) -> Result<Fraction, NoMemory>
+pub(crate) fn fraction(
+    alloc: Global,
+    f: &Fractions,
+    num: &Poly,
+    den: &Poly,
+) -> Result<Fraction, NoMemory>
     requires num { IsPolynomialList (small_ops (field_of f.now)) num.now }
     requires den { IsPolynomialList (small_ops (field_of f.now)) den.now }
     requires nonzero { den.now ≢ [] }

@@ -17,6 +17,7 @@ mod lifts;
 mod matrices;
 mod numerators;
 pub mod reduction;
+pub mod residue_algebra;
 pub mod start;
 pub mod swap;
 mod units;

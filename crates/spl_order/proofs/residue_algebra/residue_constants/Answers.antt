@@ -1,0 +1,90 @@
+use Rattle.std.proofs.Common.{◌<◌, ℕ, [], get_or, length, subst, sym}
+use Rattle.spl_field.specs.SmallField.{small_ops, small_laws}
+use Rattle.spl_fraction.specs.Fractions.{field_of}
+use Rattle.spl_fraction.specs.FractionsOver.{fractions_over}
+use Rattle.spl_residue.specs.Residue.{polynomial_of, residue_ops}
+use Rattle.theory_fractions.specs.PolynomialLists.{IsPolynomialList}
+use Rattle.theory_places.specs.Places.{Finite}
+use Rattle.theory_places.specs.FractionPlaces.{IsIntegralAt}
+use Rattle.theory_tables.specs.Structure.{IsOver}
+use Rattle.theory_bases.specs.Bases.{IsBasis, fraction_over, tuples_of}
+use Rattle.spl_numerators.specs.Numerators.{AreNumerators}
+use Rattle.spl_order.specs.Coordinates.{AreCoordinatesOver}
+use Rattle.spl_order.specs.Residues.{AreResiduesOver}
+use Rattle.spl_order.proofs.ResidueTables.{integral_items, product_residues}
+use Rattle.spl_order.proofs.residue_algebra.residue_constants.Goals as goal
+
+pub product_coordinates-requires-clause-over : goal.product_coordinates-requires-clause-over
+product_coordinates-requires-clause-over c =
+    subst (λ q. IsOver (fractions_over q) c.args.a.now) (sym c.field.ensures) c.requires.over
+
+pub product_coordinates-requires-clause-numerators : goal.product_coordinates-requires-clause-numerators
+product_coordinates-requires-clause-numerators c =
+    let n = c.in_ok-numerators.numerators in
+    subst (λ q. AreNumerators (small_ops q) (small_laws q) n.denominator c.args.a.now n.entries) (sym c.field.ensures)
+    c.in_ok-numerators.ensures
+
+pub product_coordinates-requires-clause-order : goal.product_coordinates-requires-clause-order
+product_coordinates-requires-clause-order c =
+    subst (λ q. IsBasis (small_ops q) (small_laws q) c.args.a.now.dim c.args.order.now) (sym c.field.ensures)
+    c.requires.basis
+
+pub residues_over-requires-clause-d : goal.residues_over-requires-clause-d
+residues_over-requires-clause-d c =
+    let found = c.in_ok-found.found in
+    let C = subst (λ q. AreCoordinatesOver (small_ops q) (small_laws q) c.args.a.now
+    (tuples_of (small_ops q) (small_laws q) c.args.order.now) found.scale found.items) c.field.ensures
+    c.in_ok-found.ensures in C.polynomial
+
+pub residues_over-requires-clause-nonzero : goal.residues_over-requires-clause-nonzero
+residues_over-requires-clause-nonzero c =
+    let found = c.in_ok-found.found in
+    let C = subst (λ q. AreCoordinatesOver (small_ops q) (small_laws q) c.args.a.now
+    (tuples_of (small_ops q) (small_laws q) c.args.order.now) found.scale found.items) c.field.ensures
+    c.in_ok-found.ensures in C.nonzero
+
+pub residues_over-requires-clause-items : goal.residues_over-requires-clause-items
+residues_over-requires-clause-items c =
+    let s = field_of c.args.f.now in
+    let found = c.in_ok-found.found in
+    let C = subst (λ q. AreCoordinatesOver (small_ops q) (small_laws q) c.args.a.now
+    (tuples_of (small_ops q) (small_laws q) c.args.order.now) found.scale found.items) c.field.ensures
+    c.in_ok-found.ensures in
+    subst (λ xs. (p : ℕ) → p < length xs → IsPolynomialList (small_ops s) (get_or xs p [])) (sym c.as_slice.ensures)
+    (λ p l. C.polynomials p (subst (λ n. p < n) C.count l))
+
+pub residues_over-requires-clause-integral : goal.residues_over-requires-clause-integral
+residues_over-requires-clause-integral c =
+    let s = field_of c.args.f.now in
+    let o = small_ops s in
+    let L = small_laws s in
+    let m = polynomial_of c.args.k.now in
+    let A = c.args.a.now in
+    let T = tuples_of o L c.args.order.now in
+    let found = c.in_ok-found.found in
+    let C = subst (λ q. AreCoordinatesOver (small_ops q) (small_laws q) A
+    (tuples_of (small_ops q) (small_laws q) c.args.order.now) found.scale found.items) c.field.ensures
+    c.in_ok-found.ensures in
+    subst (λ xs. (p : ℕ) → p < length xs
+    → IsIntegralAt o (Finite m) (fraction_over o L found.scale (get_or xs p []))) (sym c.as_slice.ensures)
+    (λ p l. integral_items o L m c.requires.place A T found.scale found.items C
+    (let B = c.requires.basis in B.independent) c.requires.products p (subst (λ n. p < n) C.count l))
+
+pub returns : goal.returns
+returns c =
+    let s = field_of c.args.f.now in
+    let o = small_ops s in
+    let L = small_laws s in
+    let m = polynomial_of c.args.k.now in
+    let r = residue_ops c.args.k.now in
+    let A = c.args.a.now in
+    let T = tuples_of o L c.args.order.now in
+    let found = c.in_ok-found.found in
+    let constants = c.in_ok-constants.constants in
+    let C = subst (λ q. AreCoordinatesOver (small_ops q) (small_laws q) A
+    (tuples_of (small_ops q) (small_laws q) c.args.order.now) found.scale found.items) c.field.ensures
+    c.in_ok-found.ensures in
+    product_residues o L m c.requires.place A T found.scale found.items C r constants
+    (subst (λ n. AreResiduesOver o L m r found.scale found.items n constants) C.count
+    (subst (λ x. AreResiduesOver o L m r found.scale x (length x) constants) c.as_slice.ensures
+    c.in_ok-constants.ensures))
