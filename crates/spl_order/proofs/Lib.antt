@@ -25,3 +25,4 @@ pub mod FieldResidues
 pub mod LeftOrders
 pub mod LiftedLattices
 pub mod GrownTuples
+pub mod ProductMatrices

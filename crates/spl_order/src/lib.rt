@@ -16,6 +16,7 @@ mod lattice_bases;
 mod lifts;
 mod matrices;
 mod numerators;
+mod product_matrices;
 pub mod reduction;
 pub mod residue_algebra;
 pub mod start;
