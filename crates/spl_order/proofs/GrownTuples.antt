@@ -1,11 +1,11 @@
 -- Combinations of the rows of a basis by polynomials over a multiple of its denominator, and the left order that they
 -- and the basis span.
-use Rattle.std.specs.Prelude.{◌≡◌, ◌≢◌, ◌<◌, ◌*◌, ℕ, List, [], ◌∷◌, ◌++◌, length, get_or}
-use Rattle.std.proofs.Common.{refl, sym, ◌∙◌, ap, ap₂, subst, arith}
-use Rattle.std.proofs.lemmas.List.Elements.{All-append, All-get_or, All-from_get_or}
+use Rattle.std.specs.Prelude.{◌≡◌, ◌≢◌, ◌<◌, ◌*◌, ℕ, List, [], ◌++◌, length, get_or}
+use Rattle.std.proofs.Common.{refl, sym, ◌∙◌, ap, subst, arith}
+use Rattle.std.proofs.lemmas.List.Elements.{All-append, All-get_or}
 use Rattle.theory_rings.specs.Ring.{FieldOn}
 use Rattle.theory_rings.specs.Ops.{Ops, IsElem, FieldLaws}
-use Rattle.theory_rings.specs.Elements.{Elem, Elem-path, elements}
+use Rattle.theory_rings.specs.Elements.{Elem, Elem-path}
 use Rattle.theory_rings.specs.Sum.{at, sum, sum_of, table}
 use Rattle.theory_rings.proofs.Rings.Elements.{sum_of-elements, sum_of_congr}
 use Rattle.theory_rings.proofs.Rings.Fields.{mul-inv, field_mul-ne-zero}
@@ -19,7 +19,6 @@ use Rattle.theory_fractions.proofs.CommonDenominators.{nonzero_of_monic}
 use Rattle.theory_fractions.proofs.ElementClauses.{zero_is, ne_zero}
 use Rattle.theory_remainders.specs.RemainderOps.{remainder_ops}
 use Rattle.theory_remainders.proofs.RemainderField.{monic}
-use Rattle.theory_remainders.proofs.RemainderValues.{of_elem}
 use Rattle.theory_remainders.proofs.RemainderValues.{zero_is as remainder_zero}
 use Rattle.theory_places.specs.Places.{Finite}
 use Rattle.theory_places.specs.FractionPlaces.{IsIntegralAt, IsMonicIrreducible}
@@ -35,12 +34,13 @@ use Rattle.theory_bases.specs.Bases.{BasisForm, IsBasis, IsPolynomialFraction, t
 use Rattle.theory_bases.specs.TupleLattices.{SameTupleLattice, AreIndependentTuples}
 use Rattle.theory_left_orders.specs.TupleResidues.{AreProductCoordinates}
 use Rattle.theory_left_orders.proofs.FractionResidues.{polynomial_lattices_at_places}
-use Rattle.theory_bases.proofs.FractionsOver.{K, M, inverse, count-tuples, entry-tuples}
+use Rattle.theory_bases.proofs.FractionsOver.{K, M, count-tuples, entry-tuples}
 use Rattle.theory_bases.proofs.PolynomialDivisors.{fraction_field, up}
-use Rattle.spl_order.specs.Values.{HasMatrix, fraction_entry, product_entry}
+use Rattle.spl_order.specs.Values.{fraction_entry, product_entry}
 use Rattle.spl_order.specs.Lifts.{combined_tuples, multiple_tuples}
 use Rattle.spl_order.specs.LeftOrders.{SpansIdealOver, SpansLeftOrder, product_matrix}
 use Rattle.spl_order.proofs.LeftOrders.{left_order_at_place, left_order_over_polynomials}
+use Rattle.spl_order.proofs.RemainderRows.{lifted_matrix}
 use Rattle.spl_order.proofs.LiftedLattices.{values-tuples}
 
 module _ {E : Type 0} (o : Ops E) (L : FieldLaws o) (n : ℕ) (m : List E) (hm : IsPolynomialList o m) (nm : m ≢ [])
@@ -224,16 +224,7 @@ module _ {E : Type 0} (o : Ops E) (L : FieldLaws o) (m : List E) (s : IsMonicIrr
   item-is i l = ap (get_or (get_or rows i []) l) zero-is
 
   weights-is : IsPolynomialMatrix o n rows
-  weights-is = All-from_get_or (IsPolynomialRow o n) rows [] (λ i i_in.
-      let h = All-get_or (IsTuple r n) rows i [] i_in shape in
-      let each : (l : ℕ) (x : List E) → l < length (get_or rows i []) → IsPolynomialList o (get_or (get_or rows i []) l x) =
-      λ l x l_in. let t = of_elem o L m s.irreducible (get_or (get_or rows i []) l x) (h.of_elements l x l_in) in
-      t.polynomial in
-      record {
-        width = h.right_length;
-        over = λ l x l_in. (each l x l_in).over;
-        trimmed = λ l x l_in. (each l x l_in).trimmed;
-      })
+  weights-is = lifted_matrix o L m s n rows shape
 
   abbrev more : List (List (Pair E))
   more = grown o L n m hm nm b basis c hc c-is rows weights-is

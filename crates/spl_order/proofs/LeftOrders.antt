@@ -1,13 +1,12 @@
 -- The left order of the lattice of tuples by the residues of the coordinates of their products, at a place and over the
 -- polynomials.
-use Rattle.std.specs.Prelude.{◌≡◌, ◌<◌, ◌*◌, ◌+◌, ◌/◌, ◌%◌, ℕ, List, [], ◌∷◌, ◌++◌, length, get_or}
+use Rattle.std.specs.Prelude.{◌≡◌, ◌<◌, ◌*◌, ◌+◌, ◌/◌, ◌%◌, ℕ, List, [], ◌++◌, length, get_or}
 use Rattle.std.proofs.Common.{refl, sym, ◌∙◌, ap, subst, arith}
 use Rattle.std.proofs.lemmas.Nat.{div-mul-add, mod-mul-add}
-use Rattle.std.proofs.lemmas.List.Elements.{All-get_or}
 use Rattle.theory_rings.specs.Ops.{Ops, IsElem, FieldLaws}
-use Rattle.theory_rings.specs.Elements.{Elem, Elem-path, elements}
+use Rattle.theory_rings.specs.Elements.{Elem, elements}
 use Rattle.theory_rings.specs.Sum.{at, sum_of, table}
-use Rattle.theory_rings.proofs.Rings.Elements.{at-elem, sum_of_congr}
+use Rattle.theory_rings.proofs.Rings.Elements.{sum_of_congr}
 use Rattle.theory_rings.proofs.Sums.Lists.{length-table, get_or-table, All-table}
 use Rattle.theory_fractions.specs.PolynomialLists.{IsPolynomialList}
 use Rattle.theory_fractions.specs.Fraction.{Pair}
@@ -16,17 +15,16 @@ use Rattle.theory_fractions.specs.CommonDenominator.{as_fraction}
 use Rattle.theory_fractions.proofs.FractionField.{fraction_laws}
 use Rattle.theory_fractions.proofs.ListPolynomials.{has_polynomial_of}
 use Rattle.theory_fractions.proofs.PolynomialFractions.{as_fraction-elem}
-use Rattle.theory_remainders.specs.RemainderLaws.{IsRemainder, IsRemainderOf}
+use Rattle.theory_remainders.specs.RemainderLaws.{IsRemainderOf}
 use Rattle.theory_remainders.specs.RemainderOps.{remainder_ops}
 use Rattle.theory_remainders.proofs.RemainderField.{monic, remainder_laws}
 use Rattle.theory_remainders.proofs.RemainderValues.{remainder_of_eq, of_elem}
 use Rattle.theory_places.specs.Places.{Finite}
 use Rattle.theory_places.specs.FractionPlaces.{IsIntegralAt, IsMonicIrreducible, fractions}
 use Rattle.theory_reductions.specs.Reductions.{IsResidueOf}
-use Rattle.theory_spaces.specs.Sets.{Within, Same, IsIdeal, LeftOrder}
-use Rattle.theory_spaces.specs.Tuples.{IsTuple, Tuple, constant, tuple_scale}
+use Rattle.theory_spaces.specs.Tuples.{IsTuple, constant, tuple_scale}
 use Rattle.theory_spaces.proofs.Linear.LatticeSpans.{span-member}
-use Rattle.theory_spaces.proofs.Matrices.PairIndex.{pair-lt, row-lt, column-lt}
+use Rattle.theory_spaces.proofs.Matrices.PairIndex.{pair-lt}
 use Rattle.theory_spaces.proofs.Tuples.Tuples.{IsTuple-table, at-table, tuples}
 use Rattle.theory_tables.specs.Matrix.{entry, IsMatrix}
 use Rattle.theory_tables.specs.Subspace.{SpansKernel}
@@ -40,7 +38,7 @@ use Rattle.theory_bases.specs.Bases.{IsPolynomialFraction}
 use Rattle.theory_left_orders.specs.ResidueRings.{ResidueRingOn}
 use Rattle.theory_left_orders.specs.FractionResidues.{ResidueRingsBy, HasResidues}
 use Rattle.theory_left_orders.specs.TupleResidues.{AreProductCoordinates, IsProductMatrix, AreResidueRows}
-use Rattle.theory_left_orders.specs.TupleResidues.{AreOverP, IsClosedTuples, HasResidue}
+use Rattle.theory_left_orders.specs.TupleResidues.{AreOverP, IsClosedTuples}
 use Rattle.theory_left_orders.proofs.FractionResidues.{residue_rings, poly_loc}
 use Rattle.theory_left_orders.proofs.ResidueRings.{coord_member}
 use Rattle.theory_left_orders.proofs.TupleLattices.{from_lattice}

@@ -24,5 +24,7 @@ pub mod LiftedIdeals
 pub mod FieldResidues
 pub mod LeftOrders
 pub mod LiftedLattices
+pub mod RemainderRows
 pub mod GrownTuples
 pub mod ProductMatrices
+pub mod LeftOrderBases

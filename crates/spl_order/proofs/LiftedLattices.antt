@@ -1,12 +1,12 @@
 -- The combinations of the rows of a basis by weights, and multiples of these rows, over a denominator, as tuples, which
 -- span everything.
-use Rattle.std.specs.Prelude.{◌≡◌, ◌≢◌, ◌<◌, ◌+◌, ◌*◌, ℕ, List, [], ◌∷◌, ◌++◌, length, get_or, map}
+use Rattle.std.specs.Prelude.{◌≡◌, ◌≢◌, ◌<◌, ◌+◌, ℕ, List, [], ◌∷◌, ◌++◌, length, get_or, map}
 use Rattle.std.proofs.Common.{refl, sym, ◌∙◌, ap, ap₂, subst, arith, length-append}
 use Rattle.std.proofs.lemmas.List.{get_or-append-add, map-append}
 use Rattle.std.proofs.lemmas.List.Elements.{All-append, All-get_or}
 use Rattle.theory_rings.specs.Ring.{FieldOn}
-use Rattle.theory_rings.specs.Ops.{Ops, IsElem, FieldLaws}
-use Rattle.theory_rings.specs.Elements.{Elem, Elem-path, elements}
+use Rattle.theory_rings.specs.Ops.{Ops, FieldLaws}
+use Rattle.theory_rings.specs.Elements.{Elem}
 use Rattle.theory_rings.specs.Sum.{at, table}
 use Rattle.theory_rings.proofs.Rings.Fields.{mul-inv}
 use Rattle.theory_rings.proofs.Rings.Solver.{◌⊠◌, v0, v1, v2, v3, v4, var, by_sorted}
@@ -18,7 +18,7 @@ use Rattle.theory_fractions.proofs.CommonDenominators.{nonzero_of_monic}
 use Rattle.theory_fractions.proofs.ElementClauses.{ne_zero}
 use Rattle.theory_spaces.specs.Linear.{InSpan}
 use Rattle.theory_spaces.specs.Module.{ModuleOn}
-use Rattle.theory_spaces.specs.Tuples.{IsTuple, Tuple, tuple_scale}
+use Rattle.theory_spaces.specs.Tuples.{IsTuple, Tuple}
 use Rattle.theory_spaces.proofs.Linear.Modules.{InSpan-scale, InSpan-member}
 use Rattle.theory_spaces.proofs.Tuples.Tuples.{tuples, Tuple-path, IsTuple-ext, at-table, tuples-scale}
 use Rattle.theory_tables.specs.Matrix.{entry, IsMatrix, width_of}
@@ -31,7 +31,7 @@ use Rattle.theory_bases.specs.Bases.{BasisForm, IsBasis, fraction_over, tuples_o
 use Rattle.theory_bases.proofs.FractionsOver.{K, M, inverse, count-tuples, entry-tuples, over_rows-matrix, map-table}
 use Rattle.theory_bases.proofs.PolynomialDivisors.{fraction_field, up}
 use Rattle.theory_bases.proofs.SpanningRows.{spans_of_count}
-use Rattle.spl_order.specs.Values.{HasRow, HasMatrix, fraction_entry, product_entry}
+use Rattle.spl_order.specs.Values.{HasMatrix, fraction_entry, product_entry}
 use Rattle.spl_order.specs.Lifts.{combined_tuples, multiple_tuples}
 use Rattle.spl_order.proofs.Values.{matrix_is}
 

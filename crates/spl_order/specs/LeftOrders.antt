@@ -1,6 +1,6 @@
 -- Left orders of ideals of orders in an algebra over the fractions, at a place and over the polynomials. (Reiner,
 -- Maximal Orders, section 8.)
-use Rattle.std.specs.Prelude.{◌*◌, ◌/◌, ◌%◌, ℕ, List}
+use Rattle.std.specs.Prelude.{◌≡◌, ◌*◌, ◌/◌, ◌%◌, ℕ, List}
 use Rattle.theory_rings.specs.Ops.{Ops, FieldLaws}
 use Rattle.theory_rings.specs.Sum.{table}
 use Rattle.theory_fractions.specs.Fraction.{Pair}
@@ -8,8 +8,12 @@ use Rattle.theory_fractions.specs.FractionOps.{fraction_ops}
 use Rattle.theory_fractions.specs.CommonDenominator.{as_fraction}
 use Rattle.theory_spaces.specs.Sets.{Within, Same, Multiple, IsIdeal, LeftOrder}
 use Rattle.theory_spaces.specs.Tuples.{constant, tuple_scale}
-use Rattle.theory_tables.specs.Structure.{Structure, IsElement, tuple_ops}
+use Rattle.theory_tables.specs.Structure.{Structure, IsElement, IsOver, IsAssociative, tuple_ops}
+use Rattle.theory_places.specs.Places.{Finite}
+use Rattle.theory_places.specs.FractionPlaces.{IsIntegralAt}
 use Rattle.theory_bases.specs.TupleLattices.{TupleLattice, SpanOrder}
+use Rattle.theory_bases.specs.Bases.{BasisForm, IsPolynomialFraction, tuples_of}
+use Rattle.spl_order.specs.Residues.{AreProductResidues}
 
 module _ {E : Type 0} (o : Ops E) (L : FieldLaws o) (P : Pair E → Type 0) (A : Structure (Pair E)) where
   -- the combinations of the tuples with weights in P
@@ -33,3 +37,20 @@ module _ {E : Type 0} (o : Ops E) (L : FieldLaws o) (P : Pair E → Type 0) (A :
 -- combination of the first factors has products that are 0
 abbrev pub product_matrix : {R : Type 0} → Ops R → ℕ → List R → List (List R)
 product_matrix r n constants = table (n * n) (λ t. table n (λ i. constant r n constants i (t / n) (t % n)))
+
+module _ {E : Type 0} (o : Ops E) (L : FieldLaws o) (m : List E) where
+  -- the tuples out span the left order of the ideal's lattice, at m and over the polynomials, each where the tuples of
+  -- the order and of the ideal are what they are called there
+  pub record SpansLeftOrders (A : Structure (Pair E)) (order ideal out : List (List (Pair E))) : Type 0 where
+    pub at_place : SpansIdealOver o L (IsIntegralAt o (Finite m)) A m order ideal
+        → SpansLeftOrder o L (IsIntegralAt o (Finite m)) A ideal out
+    pub over_polynomials : SpansIdealOver o L (IsPolynomialFraction o) A m order ideal
+        → SpansLeftOrder o L (IsPolynomialFraction o) A ideal out
+
+  -- the same in each algebra of dimension n in which the constants are the residues at m, by the operations r, of the
+  -- coordinates of the products of the ideal's tuples
+  abbrev pub GivesLeftOrders : Ops (List E) → ℕ → List (List E) → BasisForm E → BasisForm E → Type 0
+  GivesLeftOrders r n constants ideal out =
+      (A : Structure (Pair E)) → A.dim ≡ n → IsOver (fraction_ops o L) A → IsAssociative (fraction_ops o L) A
+      → AreProductResidues o L m r A (tuples_of o L ideal) constants → (order : List (List (Pair E)))
+      → SpansLeftOrders A order (tuples_of o L ideal) (tuples_of o L out)

@@ -13,6 +13,7 @@ pub mod forms;
 mod fractions;
 mod inverse;
 mod lattice_bases;
+mod left_order;
 mod lifts;
 mod matrices;
 mod numerators;
