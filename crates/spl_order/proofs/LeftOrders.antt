@@ -43,6 +43,7 @@ use Rattle.theory_left_orders.proofs.FractionResidues.{residue_rings, poly_loc}
 use Rattle.theory_left_orders.proofs.ResidueRings.{coord_member}
 use Rattle.theory_left_orders.proofs.TupleLattices.{from_lattice}
 use Rattle.theory_left_orders.proofs.TupleLeftOrders.{B, to_basis, coord_of, left_order_of_tuples}
+use Rattle.spl_order.proofs.ProductCoordinates.{products_inside}
 use Rattle.spl_order.specs.LeftOrders.{SpansIdealOver, SpansLeftOrder, product_matrix}
 
 pub product_matrix-entry : {R : Type 0} (r : Ops R) (n : ℕ) (cs : List R) (i j l : ℕ) → i < n → j < n → l < n
@@ -82,6 +83,16 @@ module _ {E : Type 0} (o : Ops E) (L : FieldLaws o) (m : List E) (s : IsMonicIrr
       let t = of_elem o L m s.irreducible u h in
       remainder_of_eq o L m s.irreducible (polynomial_of o L u) (at o u)
       (has_polynomial_of o L u (let i = t.polynomial in i.over)) u t refl
+
+  -- an ideal holds the products of its tuples
+  pub ideal_products : (A : Structure (Pair E)) (order ideal : List (List (Pair E))) → AreIndependentTuples K A.dim ideal
+      → SpansIdealOver o L (IsIntegralAt o (Finite m)) A m order ideal → (i j : ℕ) → i < A.dim → j < A.dim
+      → TupleLattice K (IsIntegralAt o (Finite m)) A.dim ideal
+      (product_of K A (get_or ideal i []) (get_or ideal j []))
+  ideal_products A order ideal ind h =
+      let I = h.is_ideal in
+      products_inside K M (IsIntegralAt o (Finite m)) p q r N Res.at_place A ideal ind
+      (λ x y hx hy. I.left x y (I.inside x hx) hy)
 
   module _ (A : Structure (Pair E)) (over : IsOver K A) (assoc : IsAssociative K A)
       (order ideal : List (List (Pair E))) (ind : AreIndependentTuples K A.dim ideal)
