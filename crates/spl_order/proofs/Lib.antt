@@ -13,6 +13,9 @@ pub mod InverseSteps
 pub mod InverseRows
 pub mod ClearedForms
 pub mod DualBases
+pub mod InverseGrams
+pub mod GramRows
+pub mod OwnDualPlaces
 pub mod ResidueValues
 pub mod ProductCoordinates
 pub mod CoordinateSums

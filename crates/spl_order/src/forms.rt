@@ -50,7 +50,7 @@ pub(crate) fn cleared_form(
 }
 
 /// The dual basis for the trace form, by its matrix.
-fn dual_by_form(
+pub(crate) fn dual_by_form(
     alloc: Global,
     f: &SmallField,
     a: &Algebra<Fractions>,

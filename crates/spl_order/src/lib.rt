@@ -5,6 +5,7 @@
 // holds at infinity holds of what `swap` makes at the place x (theory_swaps).
 #![tactic(auto)]
 
+pub mod bad_places;
 pub mod basis;
 mod coordinates;
 mod copies;
