@@ -31,3 +31,6 @@ pub mod RemainderRows
 pub mod GrownTuples
 pub mod ProductMatrices
 pub mod LeftOrderBases
+pub mod LatticeMembers
+pub mod Containments
+pub mod ContainedRows

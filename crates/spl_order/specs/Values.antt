@@ -6,6 +6,7 @@ use Rattle.theory_fractions.specs.PolynomialLists.{IsPolynomialList}
 use Rattle.theory_fractions.specs.Fraction.{Pair}
 use Rattle.theory_fractions.specs.FractionOps.{fraction_ops}
 use Rattle.theory_fractions.specs.CommonDenominator.{as_fraction}
+use Rattle.theory_bases.specs.Bases.{fraction_over}
 use Rattle.theory_rows.specs.Rows.{IsPolynomialRow, IsPolynomialMatrix, IsRowCombination}
 
 module _ {E : Type 0} (o : Ops E) where
@@ -42,6 +43,10 @@ module _ {E : Type 0} (o : Ops E) (L : FieldLaws o) where
   product_entry n a b i j =
       let K : Ops (Pair E) = fraction_ops o L in
       sum_of K n (λ k. K.mul (fraction_entry o a i k) (fraction_entry o b k j))
+
+  -- d times u / c
+  abbrev pub multiple_over : (d c u : List E) → Pair E
+  multiple_over d c u = let K : Ops (Pair E) = fraction_ops o L in K.mul (as_fraction o d) (fraction_over o L c u)
 
   -- the product of n rows and the n given ones is the polynomial, which is not 0, on the diagonal, and else 0
   pub record IsScaledInverse (n : ℕ) (rows inverse : List (List (List E))) (scale : List E) : Type 0 where

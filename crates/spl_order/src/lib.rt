@@ -25,3 +25,4 @@ pub mod residue_algebra;
 pub mod start;
 pub mod swap;
 mod units;
+pub mod within;
