@@ -11,6 +11,6 @@ mod fixed;
 pub mod ideals;
 mod powers;
 pub mod rank_laws;
-mod refine;
+pub mod refine;
 pub mod simple;
 mod splits;

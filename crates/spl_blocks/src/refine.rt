@@ -21,7 +21,7 @@ use spl_matrix::subspace::Subspace;
 use std::alloc::Global;
 
 /// The combination of rows of m elements.
-fn combination<F: Field>(
+pub fn combination<F: Field>(
     alloc: Global,
     f: &F,
     a: &Algebra<F>,
