@@ -10,7 +10,8 @@ use Rattle.theory_rings.specs.Ops.{Ops, IsElem, FieldLaws}
 use Rattle.theory_rings.specs.Elements.{Elem, elements}
 use Rattle.theory_rings.specs.Sum.{at, sum_of, table}
 use Rattle.theory_rings.specs.Polynomial.{IsTrimmed}
-use Rattle.theory_rings.proofs.Rings.Elements.{sum_of_congr, at-elem}
+use Rattle.theory_rings.proofs.Rings.Elements.{sum_of-elem, sum_of_congr}
+use Rattle.theory_rings.proofs.Sums.Lists.{length-table, get_or-table, All-table}
 use Rattle.theory_rings.proofs.Rings.Fields.{inv_mul_cancel_left}
 use Rattle.theory_spaces.specs.Linear as linear
 use Rattle.theory_spaces.specs.Tuples.{IsTuple, Tuple, tuple_scale}
@@ -49,10 +50,19 @@ use Rattle.theory_left_orders.specs.TupleResidues.{HasResidue, AreResidueRows}
 use Rattle.theory_left_orders.specs.TupleIdeals.{IsResidueTable, AreCombinations, AreMultiples, IsPreimage}
 use Rattle.theory_left_orders.proofs.FractionResidues.{poly_loc, polynomial_lattices_at_places}
 use Rattle.theory_left_orders.proofs.TupleIdeals.{preimages_of_rows}
-use Rattle.spl_order.specs.Values.{HasMatrix, fraction_entry, product_entry}
+use Rattle.spl_order.specs.Values.{fraction_entry, product_entry}
+use Rattle.spl_order.specs.Lifts.{combined_tuples, multiple_tuples}
 use Rattle.spl_order.specs.Residues.{AreProductResidues, ArePreimages}
-use Rattle.spl_order.proofs.Values.{matrix_is}
 use Rattle.spl_order.proofs.ProductCoordinates.{table_at_place, table_of_polynomials}
+
+module _ {X : Type 0} (o : Ops X) (h w : ℕ) (f : ℕ → ℕ → X) where
+  -- a matrix by its entries
+  tables_matrix : ((i j : ℕ) → IsElem o (f i j)) → IsMatrix o w (table h (λ i. table w (f i)))
+  tables_matrix g = All-table (IsTuple o w) h (λ i. table w (f i)) (λ i _. IsTuple-table o w (f i) (λ j _. g i j))
+
+  entry-tables : (i j : ℕ) → i < h → j < w → entry o (table h (λ i. table w (f i))) i j ≡ f i j
+  entry-tables i j i_in j_in =
+      ap (λ x. at o x j) (get_or-table h (λ i. table w (f i)) i [] i_in) ∙ at-table o w (f i) j j_in
 
 module _ {E : Type 0} (o : Ops E) (L : FieldLaws o) (m : List E) (s : IsMonicIrreducible o m) (A : Structure (Pair E))
     (b : BasisForm E) (B : IsBasis o L A.dim b) (rows : List (List (List E)))
@@ -106,9 +116,11 @@ module _ {E : Type 0} (o : Ops E) (L : FieldLaws o) (m : List E) (s : IsMonicIrr
         (λ j l. let z = small i j i_in (omega (arith, l, t.right_length)) in let p = z.polynomial in p.trimmed);
   }
 
-  pub rows_matrix : IsPolynomialMatrix o (length O) rows
-  rows_matrix = subst (λ w. IsPolynomialMatrix o w rows) (sym rows-count)
-      (All-from_get_or (IsPolynomialRow o n) rows [] rows-row)
+  pub weights_matrix : IsPolynomialMatrix o n rows
+  weights_matrix = All-from_get_or (IsPolynomialRow o n) rows [] rows-row
+
+  rows_matrix : IsPolynomialMatrix o (length O) rows
+  rows_matrix = subst (λ w. IsPolynomialMatrix o w rows) (sym rows-count) weights_matrix
 
   pub numerators_matrix : IsPolynomialMatrix o n O
   numerators_matrix = B.rows
@@ -150,192 +162,142 @@ module _ {E : Type 0} (o : Ops E) (L : FieldLaws o) (m : List E) (s : IsMonicIrr
 
   -- ---- the combinations by them, and the multiples
 
-  module _ (eo po : List (List (List E)))
-      (EO : HasMatrix o (product_entry o L (length O) rows O) (length rows) n eo)
-      (PO : HasMatrix o (λ i j. k.mul (as_fraction o m) (fraction_entry o O i j)) (length O) n po) where
-    abbrev lifted : List (List (Pair E))
-    lifted = tuples_of o L (record { denominator = d; numerators = eo })
+  abbrev lifted : List (List (Pair E))
+  lifted = combined_tuples o L n d rows O
 
-    abbrev multiples : List (List (Pair E))
-    multiples = tuples_of o L (record { denominator = d; numerators = po })
+  abbrev multiples : List (List (Pair E))
+  multiples = multiple_tuples o L n d m O
 
-    abbrev all : List (List (Pair E))
-    all = tuples_of o L (record { denominator = d; numerators = eo ++ po })
+  abbrev all : List (List (Pair E))
+  all = lifted ++ multiples
 
-    eo-matrix : IsPolynomialMatrix o n eo
-    eo-matrix = matrix_is o (product_entry o L (length O) rows O) (length rows) n eo EO
+  abbrev lifted-at : ℕ → ℕ → Pair E
+  lifted-at i j = k.mul (product_entry o L n rows O i j) di
 
-    po-matrix : IsPolynomialMatrix o n po
-    po-matrix = matrix_is o (λ i j. k.mul (as_fraction o m) (fraction_entry o O i j)) (length O) n po PO
+  abbrev multiple-at : ℕ → ℕ → Pair E
+  multiple-at i j = k.mul (k.mul (as_fraction o m) (fraction_entry o O i j)) di
 
-    pub joined_matrix : IsPolynomialMatrix o n (eo ++ po)
-    joined_matrix = All-append (IsPolynomialRow o n) eo po eo-matrix po-matrix
+  lifted-count : length lifted ≡ length rows
+  lifted-count = length-table (length rows) (λ i. table n (lifted-at i))
 
-    joined-is : all ≡ lifted ++ multiples
-    joined-is = map-append (map (fraction_over o L d)) eo po
+  multiples-count : length multiples ≡ length T
+  multiples-count = length-table n (λ i. table n (multiple-at i))
+      ∙ sym (let i = B.independent in i.count)
 
-    lifted-count : length lifted ≡ length rows
-    lifted-count = count-tuples o L (record { denominator = d; numerators = eo }) ∙ EO.count
+  product-elem : (i j : ℕ) → IsElem k (product_entry o L n rows O i j)
+  product-elem i j = sum_of-elem k laws n (λ l. k.mul (fraction_entry o rows i l) (fraction_entry o O l j))
+      (λ l _. laws.mul-elem (fraction_entry o rows i l) (fraction_entry o O l j)
+      (fraction-elem (length O) rows rows_matrix i l) (fraction-elem n O B.rows l j))
 
-    multiples-count : length multiples ≡ length T
-    multiples-count = count-tuples o L (record { denominator = d; numerators = po }) ∙ PO.count
-        ∙ sym (count-tuples o L b)
+  lifted-shape : IsMatrix k n lifted
+  lifted-shape = tables_matrix k (length rows) n lifted-at
+      (λ i j. laws.mul-elem (product_entry o L n rows O i j) di (product-elem i j) di-elem)
 
-    lifted-shape : IsMatrix k n lifted
-    lifted-shape = over_rows-matrix o L d B.polynomial d-nonzero n eo eo-matrix
+  multiples-shape : IsMatrix k n multiples
+  multiples-shape = tables_matrix k n n multiple-at
+      (λ i j. laws.mul-elem (k.mul (as_fraction o m) (fraction_entry o O i j)) di
+      (laws.mul-elem (as_fraction o m) (fraction_entry o O i j) (as_fraction-elem o L m s.polynomial)
+      (fraction-elem n O B.rows i j)) di-elem)
 
-    multiples-shape : IsMatrix k n multiples
-    multiples-shape = over_rows-matrix o L d B.polynomial d-nonzero n po po-matrix
+  pub joined_shape : IsMatrix k n all
+  joined_shape = All-append (IsTuple k n) lifted multiples lifted-shape multiples-shape
 
-    pub joined_shape : IsMatrix k n all
-    joined_shape = over_rows-matrix o L d B.polynomial d-nonzero n (eo ++ po) joined_matrix
+  entry-T : (i j : ℕ) → i < n → j < n → entry k T i j ≡ k.mul (fraction_entry o O i j) di
+  entry-T i j i_in j_in = entry-tuples o L n b B.rows i j (omega (arith, i_in, rows-count)) j_in
 
-    entry-T : (i j : ℕ) → i < n → j < n → entry k T i j ≡ k.mul (fraction_entry o O i j) di
-    entry-T i j i_in j_in = entry-tuples o L n b B.rows i j (omega (arith, i_in, rows-count)) j_in
+  combined : (i c : ℕ) → i < length rows → c < n
+      → entry k lifted i c ≡ sum_of k n (λ l. k.mul (entry k lifts i l) (entry k T l c))
+  combined i c i_in c_in =
+      let u : ℕ → Pair E = λ l. fraction_entry o rows i l in
+      let v : ℕ → Pair E = λ l. fraction_entry o O l c in
+      let u-elem = λ (l : ℕ). fraction-elem (length O) rows rows_matrix i l in
+      let v-elem = λ (l : ℕ). fraction-elem n O B.rows l c in
+      entry-tables k (length rows) n lifted-at i c i_in c_in
+      ∙ sum_of-mul k laws n di (λ l. k.mul (u l) (v l)) di-elem (λ l. laws.mul-elem (u l) (v l) (u-elem l) (v-elem l))
+      ∙ sum_of_congr k n (λ l. k.mul (k.mul (u l) (v l)) di) (λ l. k.mul (entry k lifts i l) (entry k T l c))
+      (λ l l_in. laws.mul_assoc (u l) (v l) di (u-elem l) (v-elem l) di-elem
+      ∙ ap₂ k.mul (sym (entry-lifts i l i_in l_in)) (sym (entry-T l c l_in c_in)))
 
-    combined : (i c : ℕ) → i < length rows → c < n
-        → entry k lifted i c ≡ sum_of k n (λ l. k.mul (entry k lifts i l) (entry k T l c))
-    combined i c i_in c_in =
-        let u : ℕ → Pair E = λ l. fraction_entry o rows i l in
-        let v : ℕ → Pair E = λ l. fraction_entry o O l c in
-        let u-elem = λ (l : ℕ). fraction-elem (length O) rows rows_matrix i l in
-        let v-elem = λ (l : ℕ). fraction-elem n O B.rows l c in
-        entry-tuples o L n (record { denominator = d; numerators = eo }) eo-matrix i c
-        (omega (arith, i_in, EO.count)) c_in
-        ∙ ap (λ x. k.mul x di) (let e = EO.each i i_in in e.values c c_in)
-        ∙ ap (λ t. k.mul (sum_of k t (λ l. k.mul (u l) (v l))) di) rows-count
-        ∙ sum_of-mul k laws n di (λ l. k.mul (u l) (v l)) di-elem (λ l. laws.mul-elem (u l) (v l) (u-elem l) (v-elem l))
-        ∙ sum_of_congr k n (λ l. k.mul (k.mul (u l) (v l)) di) (λ l. k.mul (entry k lifts i l) (entry k T l c))
-        (λ l l_in. laws.mul_assoc (u l) (v l) di (u-elem l) (v-elem l) di-elem
-        ∙ ap₂ k.mul (sym (entry-lifts i l i_in l_in)) (sym (entry-T l c l_in c_in)))
+  multiplied : (i c : ℕ) → i < n → c < n → entry k multiples i c ≡ k.mul (as_fraction o m) (entry k T i c)
+  multiplied i c i_in c_in =
+      entry-tables k n n multiple-at i c i_in c_in
+      ∙ laws.mul_assoc (as_fraction o m) (fraction_entry o O i c) di (as_fraction-elem o L m s.polynomial)
+      (fraction-elem n O B.rows i c) di-elem
+      ∙ ap (k.mul (as_fraction o m)) (sym (entry-T i c i_in c_in))
 
-    multiplied : (i c : ℕ) → i < n → c < n → entry k multiples i c ≡ k.mul (as_fraction o m) (entry k T i c)
-    multiplied i c i_in c_in =
-        entry-tuples o L n (record { denominator = d; numerators = po }) po-matrix i c
-        (omega (arith, i_in, PO.count, rows-count)) c_in
-        ∙ ap (λ x. k.mul x di)
-        (let e = PO.each i (omega (arith, i_in, rows-count)) in e.values c c_in)
-        ∙ laws.mul_assoc (as_fraction o m) (fraction_entry o O i c) di (as_fraction-elem o L m s.polynomial)
-        (fraction-elem n O B.rows i c) di-elem
-        ∙ ap (k.mul (as_fraction o m)) (sym (entry-T i c i_in c_in))
+  -- ---- the preimage
 
-    F : FieldOn (Elem k)
-    F = elements k laws
+  module _ (W : FieldLaws k) (N : FieldLaws r) (R : ResidueRingsBy o L W m r N) where
+    abbrev q : Elem k
+    q = let G = fractions o L W in G.inv R.p
 
-    fm : Elem k
-    fm = (as_fraction o m, as_fraction-elem o L m s.polynomial)
+    module _ (P : Pair E → Type 0) (D : ResidueRingOn (elements k W) (λ w. P w.0) R.p q (elements r N))
+        (polynomial_in : (x : List E) → IsPolynomialList o x → P (as_fraction o x))
+        (V : HasResidues o L W m r (λ w. P w.0) D.res) where
+      combinations : AreCombinations k W P R.p q r N D A T lifts lifted
+      combinations = record {
+        count = lifted-count ∙ sym lifts-count;
+        shape = lifted-shape;
+        combines = λ i c i_in c_in. combined i c (omega (arith, i_in, lifts-count)) c_in;
+      }
 
-    m-nonzero : m ≢ []
-    m-nonzero = nonzero_of_monic o L m s.monic
+      are_multiples : AreMultiples k W P R.p q r N D A T multiples
+      are_multiples = record {
+        count = multiples-count;
+        shape = multiples-shape;
+        entries = λ i c i_in c_in. multiplied i c (omega (arith, i_in, count-tuples o L b, rows-count)) c_in
+            ∙ ap (λ x. k.mul x (entry k T i c)) (sym R.p_is);
+      }
 
-    row_in_span : (i : ℕ) → i < length T → InSpan k n all (get_or T i [])
-    unfolding F fm
-    row_in_span i l =
-        let N = tuples k laws n in
-        let R = row k laws n all joined_shape in
-        let i_in : i < n = omega (arith, l, count-tuples o L b, rows-count) in
-        let t = length lifted + i in
-        let t_in : t < length all = subst (λ xs. t < length xs) (sym joined-is)
-        (let e : length (lifted ++ multiples) ≡ length lifted + length multiples = length-append lifted multiples in
-        omega (arith, l, e, multiples-count)) in
-        let at_t : get_or all t [] ≡ get_or multiples i [] = ap (λ xs. get_or xs t []) joined-is
-        ∙ get_or-append-add lifted multiples i [] in
-        let x = N.◌•◌ (F.inv fm) (R t) in
-        let T-shape = (let I = B.independent in I.shape) in
-        let same : x.0 ≡ get_or T i [] = IsTuple-ext k n x.0 (get_or T i []) (IsTuple-of k laws n x) (T-shape i [] l)
-        (λ j j_in. ap (λ y. at k y j) (tuples-scale k laws n (F.inv fm) (R t))
-        ∙ at-table k n (λ j. k.mul (F.inv fm).0 (at k (R t).0 j)) j j_in
-        ∙ ap (λ y. k.mul (F.inv fm).0 (at k y j)) (row-is k laws n all joined_shape t t_in ∙ at_t)
-        ∙ ap (k.mul (F.inv fm).0) (multiplied i j i_in j_in)
-        ∙ ap (λ (z : Elem k). z.0) (inv_mul_cancel_left F fm (
-          entry k T i j,
-          at-elem k laws (get_or T i [])
-              (let u = T-shape i [] l in u.of_elements) j,
-        )
-        (λ z. ne_zero o L (as_fraction o m) m-nonzero (ap (λ (z : Elem k). z.0) z)))) in
-        subst (InSpan k n all) same (from_span k laws n all joined_shape x
-        (InSpan-scale N (length all) R (F.inv fm) (R t) (InSpan-member N (length all) t R t_in)))
+      residue_of : (x : List E) → IsRemainder o m x → HasResidue k W P R.p q r N D (as_fraction o x) x
+      residue_of x h =
+          let e = as_fraction-elem o L x h.polynomial in
+          record {
+            elem = e;
+            allowed = polynomial_in x h.polynomial;
+            residue = V.polynomial_value (as_fraction o x, e) x x h.polynomial refl h (own_remainder x h);
+          }
 
-    pub joined_spans : (v : List (Pair E)) → IsTuple k n v → InSpan k n all v
-    joined_spans v hv = let I = B.independent in
-        InSpan_trans k laws n T all v joined_shape row_in_span
-        (spans_of_count k laws n T I.shape I.independent I.count v hv)
+      residue_rows : AreResidueRows k W P R.p q r N D n lifts rows
+      residue_rows = record {
+        count = lifts-count;
+        shape = lifts-shape;
+        entries = λ i j l j_in.
+            let i_in : i < length rows = omega (arith, l, lifts-count) in
+            let x = get_or (get_or rows i []) j [] in
+            subst (λ y. HasResidue k W P R.p q r N D y (entry r rows i j)) (sym (entry-lifts i j i_in j_in))
+            (subst (HasResidue k W P R.p q r N D (as_fraction o x)) (sym (entry-rows i j i_in j_in))
+            (residue_of x (small i j i_in j_in)));
+      }
 
-    -- ---- the preimage
+      preimage_over : (constants : List (List E)) (out : List (List (Pair E))) → IsOver k A → IsAssociative k A
+          → (S : SpanOrder k A P T) → IsResidueTable k W P R.p q r N D A T constants
+          → SpansIdeal r (record { dim = A.dim; constants = constants }) rows → SameTupleLattice k P n all out
+          → IsPreimage k W P R.p q r N D A T constants rows out
+      preimage_over constants out over assoc S table ideal same =
+          let I = preimages_of_rows k W P R.p q r N D A over assoc S.one S.is_one T S.basis S.order constants table rows
+          ideal lifts lifted multiples residue_rows combinations are_multiples in
+          record {
+            lattice = (
+              λ x h. same.0 x (I.lattice.0 x h),
+              λ x h. I.lattice.1 x (same.1 x h),
+            );
+            ideal = I.ideal;
+            over = I.over;
+            whole = I.whole;
+          }
 
-    module _ (W : FieldLaws k) (N : FieldLaws r) (R : ResidueRingsBy o L W m r N) where
-      abbrev q : Elem k
-      q = let G = fractions o L W in G.inv R.p
-
-      module _ (P : Pair E → Type 0) (D : ResidueRingOn (elements k W) (λ w. P w.0) R.p q (elements r N))
-          (polynomial_in : (x : List E) → IsPolynomialList o x → P (as_fraction o x))
-          (V : HasResidues o L W m r (λ w. P w.0) D.res) where
-        combinations : AreCombinations k W P R.p q r N D A T lifts lifted
-        combinations = record {
-          count = lifted-count ∙ sym lifts-count;
-          shape = lifted-shape;
-          combines = λ i c i_in c_in. combined i c (omega (arith, i_in, lifts-count)) c_in;
-        }
-
-        are_multiples : AreMultiples k W P R.p q r N D A T multiples
-        are_multiples = record {
-          count = multiples-count;
-          shape = multiples-shape;
-          entries = λ i c i_in c_in. multiplied i c (omega (arith, i_in, count-tuples o L b, rows-count)) c_in
-              ∙ ap (λ x. k.mul x (entry k T i c)) (sym R.p_is);
-        }
-
-        residue_of : (x : List E) → IsRemainder o m x → HasResidue k W P R.p q r N D (as_fraction o x) x
-        residue_of x h =
-            let e = as_fraction-elem o L x h.polynomial in
-            record {
-              elem = e;
-              allowed = polynomial_in x h.polynomial;
-              residue = V.polynomial_value (as_fraction o x, e) x x h.polynomial refl h (own_remainder x h);
-            }
-
-        residue_rows : AreResidueRows k W P R.p q r N D n lifts rows
-        residue_rows = record {
-          count = lifts-count;
-          shape = lifts-shape;
-          entries = λ i j l j_in.
-              let i_in : i < length rows = omega (arith, l, lifts-count) in
-              let x = get_or (get_or rows i []) j [] in
-              subst (λ y. HasResidue k W P R.p q r N D y (entry r rows i j)) (sym (entry-lifts i j i_in j_in))
-              (subst (HasResidue k W P R.p q r N D (as_fraction o x)) (sym (entry-rows i j i_in j_in))
-              (residue_of x (small i j i_in j_in)));
-        }
-
-        preimage_over : (constants : List (List E)) (out : List (List (Pair E))) → IsOver k A → IsAssociative k A
-            → (S : SpanOrder k A P T) → IsResidueTable k W P R.p q r N D A T constants
-            → SpansIdeal r (record { dim = A.dim; constants = constants }) rows → SameTupleLattice k P n all out
-            → IsPreimage k W P R.p q r N D A T constants rows out
-        preimage_over constants out over assoc S table ideal same =
-            let I = preimages_of_rows k W P R.p q r N D A over assoc S.one S.is_one T S.basis S.order constants table rows
-            ideal lifts lifted multiples residue_rows combinations are_multiples in
-            let same' : SameTupleLattice k P n (lifted ++ multiples) out =
-            subst (λ xs. SameTupleLattice k P n xs out) joined-is same in
-            record {
-              lattice = (
-                λ x h. same'.0 x (I.lattice.0 x h),
-                λ x h. I.lattice.1 x (same'.1 x h),
-              );
-              ideal = I.ideal;
-              over = I.over;
-              whole = I.whole;
-            }
-
-    -- a basis of the lattice of these rows spans the preimage, at the place and over the polynomials
-    pub preimages : (constants : List (List E)) (out : List (List (Pair E))) → IsOver k A → IsAssociative k A
-        → AreProductResidues o L m r A T constants
-        → SpansIdeal r (record { dim = A.dim; constants = constants }) rows
-        → IsMatrix k n out → SameTupleLattice k (IsPolynomialFraction o) n all out
-        → ArePreimages o L m s A T constants rows out
-    preimages constants out over assoc H ideal out-shape same = record {
-      at_place = λ W N R S. preimage_over W N R (IsIntegralAt o (Finite m)) R.at_place
-          (λ x h. poly_loc o L W m s (as_fraction o x, as_fraction-elem o L x h) refl) R.at_place_values constants out
-          over assoc S (table_at_place o L W m s N R A T constants H S) ideal
-          (polynomial_lattices_at_places o L m s n all out joined_shape out-shape same);
-      polynomials = λ W N R S. preimage_over W N R (IsPolynomialFraction o) R.polynomials (λ x h. refl)
-          R.polynomial_values constants out over assoc S (table_of_polynomials o L W m s N R A T constants H S) ideal same;
-    }
+  -- a basis of the lattice of these rows spans the preimage, at the place and over the polynomials
+  pub preimages : (constants : List (List E)) (out : List (List (Pair E))) → IsOver k A → IsAssociative k A
+      → AreProductResidues o L m r A T constants
+      → SpansIdeal r (record { dim = A.dim; constants = constants }) rows
+      → IsMatrix k n out → SameTupleLattice k (IsPolynomialFraction o) n all out
+      → ArePreimages o L m s A T constants rows out
+  preimages constants out over assoc H ideal out-shape same = record {
+    at_place = λ W N R S. preimage_over W N R (IsIntegralAt o (Finite m)) R.at_place
+        (λ x h. poly_loc o L W m s (as_fraction o x, as_fraction-elem o L x h) refl) R.at_place_values constants out
+        over assoc S (table_at_place o L W m s N R A T constants H S) ideal
+        (polynomial_lattices_at_places o L m s n all out joined_shape out-shape same);
+    polynomials = λ W N R S. preimage_over W N R (IsPolynomialFraction o) R.polynomials (λ x h. refl)
+        R.polynomial_values constants out over assoc S (table_of_polynomials o L W m s N R A T constants H S) ideal same;
+  }

@@ -20,10 +20,10 @@ use Rattle.spl_field.specs.declared.small.SmallField.{SmallField}
 use Rattle.spl_field.specs.SmallField.{small_ops, small_laws}
 use Rattle.spl_residue.specs.declared.field.ResidueField.{ResidueField}
 use Rattle.spl_residue.specs.Residue.{field_of, polynomial_of, residue_ops}
-use Rattle.spl_order.specs.Residues.{AreProductResidues, ArePreimages, AreIdealRows, IsResidueAlgebra, LiftsIdeal}
+use Rattle.spl_order.specs.Lifts.{combined_tuples, multiple_tuples}
+use Rattle.spl_order.specs.Residues.{AreProductResidues, IsResidueAlgebra, LiftsIdeal}
 use Rattle.spl_order.proofs.ResidueValues.{same_remainders}
-use Rattle.spl_order.proofs.ResidueTables.{structure_is}
-use Rattle.spl_order.proofs.IdealPreimages.{rows_matrix, joined_matrix, joined_shape, joined_spans, preimages}
+use Rattle.spl_order.proofs.IdealPreimages.{weights_matrix, preimages}
 
 -- the operations of a residue field are those of the remainders by its polynomial over each field that is equal to its
 -- own
@@ -51,53 +51,34 @@ module _ (f : SmallField) (order : BasisForm ℕ) (k : ResidueField) (rows : Lis
   abbrev r : Ops (List ℕ)
   r = remainder_ops (small_ops f) (small_laws f) m (monic (small_ops f) (small_laws f) m s.irreducible)
 
-  module _ (n : ℕ) (B : IsBasis (small_ops f) (small_laws f) n order) (shape : IsMatrix (residue_ops k) n rows)
-      (out : List (List (List ℕ)))
-      (I : AreIdealRows (small_ops f) (small_laws f) m order.numerators rows n out) where
-    abbrev A0 : Structure (Pair ℕ)
-    A0 = record { dim = n; constants = [] }
+  -- rows over the residue field are rows of polynomials
+  pub residue_rows_matrix : (n : ℕ) → IsBasis (small_ops f) (small_laws f) n order → IsMatrix (residue_ops k) n rows
+      → IsPolynomialMatrix (small_ops f) n rows
+  residue_rows_matrix n B shape =
+      weights_matrix o L m s (record { dim = n; constants = [] }) order B rows
+      (subst (λ r. IsMatrix r n rows) (residues_are_remainders f k e s) shape)
 
-    shape-r : IsMatrix r n rows
-    shape-r = subst (λ r. IsMatrix r n rows) (residues_are_remainders f k e s) shape
-
-    pub ideal_matrix : IsPolynomialMatrix o n out
-    ideal_matrix = subst (IsPolynomialMatrix o n) (sym I.value)
-        (joined_matrix o L m s A0 order B rows shape-r I.combined I.multiplied I.combines I.multiplies)
-
-    pub ideal_spans : (v : List (Pair ℕ)) → IsTuple K n v
-        → InSpan K n (tuples_of o L (record { denominator = order.denominator; numerators = out })) v
-    ideal_spans v hv =
-        subst (λ xs. InSpan K n (tuples_of o L (record { denominator = order.denominator; numerators = xs })) v)
-        (sym I.value)
-        (joined_spans o L m s A0 order B rows shape-r I.combined I.multiplied I.combines I.multiplies v hv)
-
-  -- a basis of the lattice of these rows
+  -- a basis of the lattice of the combinations by them and of the multiples
   pub lifts_ideal : (B : Structure (List ℕ)) → IsBasis (small_ops f) (small_laws f) B.dim order
-      → SpansIdeal (residue_ops k) B rows → (out : List (List (List ℕ)))
-      → AreIdealRows (small_ops f) (small_laws f) m order.numerators rows B.dim out → (b : BasisForm ℕ)
+      → SpansIdeal (residue_ops k) B rows → (b : BasisForm ℕ)
       → IsBasis (small_ops f) (small_laws f) B.dim b
       → SameTupleLattice K (IsPolynomialFraction (small_ops f)) B.dim
-      (tuples_of (small_ops f) (small_laws f) (record { denominator = order.denominator; numerators = out }))
+      (combined_tuples (small_ops f) (small_laws f) B.dim order.denominator rows order.numerators
+      ++ multiple_tuples (small_ops f) (small_laws f) B.dim order.denominator (polynomial_of k) order.numerators)
       (tuples_of (small_ops f) (small_laws f) b) → LiftsIdeal f order k B rows b
-  lifts_ideal B H J out I b Hb same A over assoc T t =
+  lifts_ideal B H J b Hb same A over assoc T t =
       let d : B.dim ≡ A.dim = T.dim in
       let q = remainder_ops o L m (monic o L m t.irreducible) in
       let c : residue_ops k ≡ q = residues_are_remainders f k e t in
       let HA : IsBasis o L A.dim order = subst (λ n. IsBasis o L n order) d H in
       let HbA : IsBasis o L A.dim b = subst (λ n. IsBasis o L n b) d Hb in
-      let IA : AreIdealRows o L m order.numerators rows A.dim out =
-      subst (λ n. AreIdealRows o L m order.numerators rows n out) d I in
       let JA : SpansIdeal q (record { dim = A.dim; constants = B.constants }) rows =
       subst (λ r. SpansIdeal r (record { dim = A.dim; constants = B.constants }) rows) c
       (subst (λ n. SpansIdeal (residue_ops k) (record { dim = n; constants = B.constants }) rows) d J) in
       let P : AreProductResidues o L m q A (tuples_of o L order) B.constants =
       subst (λ r. AreProductResidues o L m r A (tuples_of o L order) B.constants) c T.products in
-      let sameA : SameTupleLattice K (IsPolynomialFraction o) A.dim
-      (tuples_of o L (record { denominator = order.denominator; numerators = IA.combined ++ IA.multiplied }))
-      (tuples_of o L b) =
-      subst (λ xs. SameTupleLattice K (IsPolynomialFraction o) A.dim
-      (tuples_of o L (record { denominator = order.denominator; numerators = xs })) (tuples_of o L b)) IA.value
+      preimages o L m t A order HA rows JA.shape B.constants (tuples_of o L b) over assoc P JA
+      (let i = HbA.independent in i.shape)
       (subst (λ n. SameTupleLattice K (IsPolynomialFraction o) n
-      (tuples_of o L (record { denominator = order.denominator; numerators = out })) (tuples_of o L b)) d same) in
-      preimages o L m t A order HA rows JA.shape IA.combined IA.multiplied IA.combines IA.multiplies B.constants
-      (tuples_of o L b) over assoc P JA (let i = HbA.independent in i.shape) sameA
+      (combined_tuples o L n order.denominator rows order.numerators
+      ++ multiple_tuples o L n order.denominator m order.numerators) (tuples_of o L b)) d same)

@@ -1,6 +1,6 @@
 -- An order of tuples modulo a monic irreducible polynomial, and the preimages of its ideals, by what a program computes.
 -- (Reiner, Maximal Orders, sections 6 and 39.)
-use Rattle.std.specs.Prelude.{◌≡◌, ◌<◌, ◌*◌, ◌++◌, ℕ, List, [], length, get_or}
+use Rattle.std.specs.Prelude.{◌≡◌, ◌<◌, ◌*◌, ℕ, List, [], length, get_or}
 use Rattle.theory_rings.specs.Ops.{Ops, IsElem, FieldLaws}
 use Rattle.theory_spaces.specs.Tuples.{IsTuple, constant}
 use Rattle.theory_tables.specs.Structure.{Structure, IsOver, IsAssociative}
@@ -16,8 +16,6 @@ use Rattle.theory_bases.specs.Bases.{BasisForm, IsPolynomialFraction, fraction_o
 use Rattle.theory_left_orders.specs.FractionResidues.{ResidueRingsBy}
 use Rattle.theory_left_orders.specs.TupleResidues.{AreProductCoordinates}
 use Rattle.theory_left_orders.specs.TupleIdeals.{IsPreimage}
-use Rattle.theory_fractions.specs.CommonDenominator.{as_fraction}
-use Rattle.spl_order.specs.Values.{HasMatrix, fraction_entry, product_entry}
 use Rattle.spl_field.specs.declared.small.SmallField.{SmallField}
 use Rattle.spl_field.specs.SmallField.{small_ops, small_laws}
 use Rattle.spl_residue.specs.declared.field.ResidueField.{ResidueField}
@@ -56,16 +54,6 @@ module _ {E : Type 0} (o : Ops E) (L : FieldLaws o) where
     pub count : length residues ≡ n
     pub elements : (p : ℕ) → p < n → IsElem r (get_or residues p [])
     pub values : (p : ℕ) → p < n → IsResidueOf o m r (fraction_over o L d (get_or items p [])) (get_or residues p [])
-
-  -- combinations of the numerators by the rows, whose entries are polynomials, and then m times the numerators
-  pub record AreIdealRows (m : List E) (numerators rows : List (List (List E))) (n : ℕ)
-      (out : List (List (List E))) : Type 0 where
-    pub combined : List (List (List E))
-    pub multiplied : List (List (List E))
-    pub combines : HasMatrix o (product_entry o L (length numerators) rows numerators) (length rows) n combined
-    pub multiplies : (let K = fraction_ops o L in
-        HasMatrix o (λ i j. K.mul (as_fraction o m) (fraction_entry o numerators i j)) (length numerators) n multiplied)
-    pub value : out ≡ combined ++ multiplied
 
 -- k is the field of the remainders by m over a field with the operations of f
 pub record IsResidueField (f : SmallField) (m : List ℕ) (k : ResidueField) : Type 0 where

@@ -15,6 +15,7 @@ mod fractions;
 mod inverse;
 mod lattice_bases;
 pub mod left_order;
+pub mod lift_ideal;
 mod lifts;
 mod matrices;
 mod numerators;
