@@ -1,5 +1,5 @@
 // The calls by their kind, where this crate has some of the kind; the others are those of spl_words.
-use crate::algebras;
+use crate::{algebras, orders};
 use spl_fraction::field::Fractions;
 use spl_words::calls;
 use spl_words::fault::Fault;
@@ -32,6 +32,7 @@ pub fn call(
 ) -> Result<(), Fault> {
     match kind {
         "algebra" => algebras::call(alloc, k.field(), call, words, out),
+        "order" => orders::call(alloc, k, call, words, out),
         _ => calls::call(alloc, k, kind, call, words, out),
     }
 }
