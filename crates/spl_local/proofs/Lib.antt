@@ -1,1 +1,5 @@
 pub mod MaximalIdeals
+pub mod Bounds
+pub mod Growth
+pub mod States
+pub mod Overorders

@@ -1,1 +1,2 @@
 pub mod PulledBack
+pub mod Growth
