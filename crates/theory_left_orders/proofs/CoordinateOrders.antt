@@ -1,28 +1,27 @@
 -- Independent tuples span an order over a subring exactly where the coordinates of their products, and those of an
 -- identity, lie in the subring. The algebra need not be associative.
-use Rattle.std.specs.Prelude.{◌≡◌, ℕ, ◌<◌, List, [], get_or}
+use Rattle.std.specs.Prelude.{◌≡◌, ℕ, ◌<◌, List, [], get_or, length}
 use Rattle.std.proofs.Common.{refl, sym, ◌∙◌, ap, ap₂, subst, arith}
 use Rattle.theory_rings.specs.Ring.{FieldOn}
 use Rattle.theory_rings.specs.Ops.{Ops, IsElem, FieldLaws}
 use Rattle.theory_rings.specs.Elements.{Elem, elements}
 use Rattle.theory_rings.specs.Sum.{at, sum_of}
 use Rattle.theory_spaces.specs.Module.{ModuleOn}
-use Rattle.theory_spaces.specs.Linear.{comb, Basis}
+use Rattle.theory_spaces.specs.Linear.{comb}
 use Rattle.theory_spaces.specs.Lattice.{IsSubring, LatticeOver}
 use Rattle.theory_spaces.specs.Space.{ProductOn}
 use Rattle.theory_spaces.specs.Tuples.{Tuple}
-use Rattle.theory_spaces.proofs.Linear.LatticeSpans.{span-zero, span-add, span-neg, span-member, span-comb}
-use Rattle.theory_spaces.proofs.Linear.Modules.{map-comb}
-use Rattle.theory_spaces.proofs.Linear.Spaces.{Basis-coord}
+use Rattle.theory_spaces.proofs.Linear.LatticeSpans.{span-member}
 use Rattle.theory_spaces.proofs.Tuples.TupleProducts.{tuple_product, tuple_product-list, one-product, product-one}
-use Rattle.theory_spaces.proofs.Tuples.Tuples.{tuples, tuples-zero, tuples-add, tuples-neg}
+use Rattle.theory_spaces.proofs.Tuples.Tuples.{tuples}
 use Rattle.theory_tables.specs.Matrix.{entry}
 use Rattle.theory_tables.specs.Structure.{Structure, IsOver, product_of}
 use Rattle.theory_tables.specs.Algebras.{IsIdentity}
 use Rattle.theory_tables.proofs.Algebras.Bridge.{row, row-is, as_tuple}
 use Rattle.theory_bases.specs.TupleLattices.{TupleLattice, AreIndependentTuples, SpanOrder}
 use Rattle.theory_left_orders.specs.TupleResidues.{AreProductCoordinates}
-use Rattle.theory_left_orders.proofs.TupleLattices.{to_lattice, from_lattice, is_comb, rows_basis}
+use Rattle.theory_left_orders.proofs.TupleLattices.{to_lattice, from_lattice, is_comb, weights_allowed}
+use Rattle.theory_left_orders.proofs.ProductLattices.{products_within, order_of_products}
 
 module _ {E : Type 0} (o : Ops E) (L : FieldLaws o) (P : E → Type 0)
     (subring : IsSubring (let K = elements o L in K.ring) (λ x. P x.0)) (A : Structure E) (over : IsOver o A)
@@ -45,9 +44,6 @@ module _ {E : Type 0} (o : Ops E) (L : FieldLaws o) (P : E → Type 0)
 
   open times use {◌⊗◌}
 
-  abbrev B : Basis N m
-  B = rows_basis o L m rows free
-
   abbrev v : ℕ → V
   v = row o L m rows free.shape
 
@@ -67,10 +63,7 @@ module _ {E : Type 0} (o : Ops E) (L : FieldLaws o) (P : E → Type 0)
 
   -- the weights of a member of the lattice are in the subring
   pub weights_in : (x : V) (c : ℕ → Elem o) → x ≡ comb N m c v → In x → (l : ℕ) → l < m → P (c l).0
-  weights_in x c e h l l_in =
-      let Q : Elem o → Type 0 = λ z. P z.0 in
-      subst Q (sym (ap (λ y. B.coord y l) h.combines ∙ Basis-coord N m B h.weights l l_in)
-      ∙ ap (λ y. B.coord y l) e ∙ Basis-coord N m B c l l_in) (h.passes l l_in)
+  weights_in = weights_allowed o L m rows free P
 
   pub product-is : (x y : V) → (x ⊗ y).0 ≡ product_of o A x.0 y.0
   product-is = tuple_product-list o L m A.constants over.of_elements
@@ -78,7 +71,7 @@ module _ {E : Type 0} (o : Ops E) (L : FieldLaws o) (P : E → Type 0)
   -- what combines to a tuple
   module _ (e : List E) (w : ℕ → E) (w-elem : (l : ℕ) → IsElem o (w l))
       (w-is : (t : ℕ) → t < m → at o e t ≡ sum_of o m (λ l. o.mul (w l) (entry o rows l t))) where
-    combined : (x : V) → x.0 ≡ e → x ≡ comb N m (λ l. (w l, w-elem l)) v
+    pub combined : (x : V) → x.0 ≡ e → x ≡ comb N m (λ l. (w l, w-elem l)) v
     combined x p = is_comb o L m rows free.shape x m (λ l. (w l, w-elem l))
         (λ t t_in. ap (λ xs. at o xs t) p ∙ w-is t t_in)
 
@@ -103,47 +96,26 @@ module _ {E : Type 0} (o : Ops E) (L : FieldLaws o) (P : E → Type 0)
         combines = vectors_product i j i_in j_in;
       }
 
-      closed : (x y : V) → In x → In y → In (x ⊗ y)
-      closed x y s t =
-          subst In (sym (ap (λ z. z ⊗ y) s.combines ∙ map-comb N N (λ z. z ⊗ y)
-          (record { map-add = λ a b. times.add-mul a b y; map-scale = λ a b. times.scale-left a b y }) m s.weights v))
-          (span-comb K (λ c. P c.0) subring N m v m s.weights (λ i. v i ⊗ y) s.passes (λ i i_in.
-          subst In (sym (ap (λ z. v i ⊗ z) t.combines ∙ map-comb N N (λ z. v i ⊗ z)
-          (record { map-add = times.mul-add (v i); map-scale = λ a b. times.scale-right a (v i) b }) m t.weights v))
-          (span-comb K (λ c. P c.0) subring N m v m t.weights (λ j. v i ⊗ v j) t.passes
-          (λ j j_in. vectors_in i j i_in j_in))))
+      rows_in : (i j : ℕ) → i < length rows → j < length rows → T (product_of o A (get_or rows i []) (get_or rows j []))
+      rows_in i j i_in j_in =
+          let e = free.count in
+          subst T (product-is (v i) (v j) ∙ ap₂ (product_of o A) (row-is o L m rows free.shape i i_in)
+          (row-is o L m rows free.shape j j_in))
+          (outside (v i ⊗ v j) (vectors_in i j (omega (arith, i_in, e)) (omega (arith, j_in, e))))
 
       module _ (one : List E) (is_one : IsIdentity o A one) (w : ℕ → E) (w-elem : (l : ℕ) → IsElem o (w l))
           (w-is : (t : ℕ) → t < m → at o one t ≡ sum_of o m (λ l. o.mul (w l) (entry o rows l t)))
           (w-in : (l : ℕ) → l < m → P (w l)) where
-        abbrev up : (x : List E) → T x → V
-        up x h = as_tuple o L m x h.0
-
         pub order_of_coordinates : SpanOrder o A P rows
         order_of_coordinates =
             let u = as_tuple o L m one is_one.tuple in
-            record {
-              basis = free;
-              one = one;
-              is_one = is_one;
-              order = record {
-                one_in = outside u (record {
-                  weights = λ l. (w l, w-elem l);
-                  passes = w-in;
-                  combines = combined one w w-elem w-is u refl;
-                });
-                zero_in = subst T (tuples-zero o L m) (outside N.zero (span-zero K (λ c. P c.0) subring N m v));
-                add_in = λ x y hx hy. subst T (tuples-add o L m (up x hx) (up y hy))
-                    (outside (N.◌⊕◌ (up x hx) (up y hy)) (span-add K (λ c. P c.0) subring N m v (up x hx) (up y hy)
-                    (inside (up x hx) hx) (inside (up y hy) hy)));
-                neg_in = λ x hx. subst T (tuples-neg o L m (up x hx))
-                    (outside (N.neg (up x hx)) (span-neg K (λ c. P c.0) subring N m v (up x hx)
-                    (inside (up x hx) hx)));
-                mul_in = λ x y hx hy. subst T (product-is (up x hx) (up y hy))
-                    (outside (up x hx ⊗ up y hy) (closed (up x hx) (up y hy) (inside (up x hx) hx)
-                    (inside (up y hy) hy)));
-              };
-            }
+            order_of_products o L P subring A over rows free one is_one
+            (outside u (record {
+              weights = λ l. (w l, w-elem l);
+              passes = w-in;
+              combines = combined one w w-elem w-is u refl;
+            }))
+            (products_within o L P subring A over rows rows rows free.shape free.shape free.shape rows_in)
 
   -- the other way round
   module _ (h : SpanOrder o A P rows) where

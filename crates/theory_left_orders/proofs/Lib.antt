@@ -5,6 +5,8 @@ pub mod TupleLattices
 pub mod TupleLeftOrders
 pub mod FractionResidues
 pub mod TupleIdeals
+pub mod ProductLattices
 pub mod CoordinateOrders
 pub mod PlaceDenominators
 pub mod GramDuals
+pub mod IntegralQuotients

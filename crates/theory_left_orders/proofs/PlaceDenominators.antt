@@ -48,7 +48,7 @@ module _ {E : Type 0} (o : Ops E) (L : FieldLaws o) (m : List E) (s : IsMonicIrr
   den_path w h = ap (λ x. x.0.1) (rational_function_eq o L w h)
 
   -- a fraction in lowest terms is integral exactly where m does not divide its denominator
-  off_of_integral : (w : Pair E) → Frac w → IsIntegralAt o (Finite m) w → Divides o m w.1 → ⊥
+  pub off_of_integral : (w : Pair E) → Frac w → IsIntegralAt o (Finite m) w → Divides o m w.1 → ⊥
   off_of_integral w h i d =
       let low = lowest_of_elem o L w h in
       let r = (integral_at o L (Finite m) s w h).1 i in
@@ -56,7 +56,7 @@ module _ {E : Type 0} (o : Ops E) (L : FieldLaws o) (m : List E) (s : IsMonicIrr
       r.2 r.3 (subst (DividesIn P (poly m)) (sym (den_path w h))
       (poly_divides o L m w.1 s.polynomial.over low.denominator_over d))
 
-  integral_of_off : (w : Pair E) → Frac w → (Divides o m w.1 → ⊥) → IsIntegralAt o (Finite m) w
+  pub integral_of_off : (w : Pair E) → Frac w → (Divides o m w.1 → ⊥) → IsIntegralAt o (Finite m) w
   integral_of_off w h n =
       let low = lowest_of_elem o L w h in
       record {

@@ -181,29 +181,16 @@ module _ {K E V : Type 0} (F : FieldOn K) (P : K → Type 0) (p q : K) (k : Fiel
       values = coord-red MC w;
     }
 
-    module _ (r : ReducesByCoordinates F P p q k D A n b C w) (s : ℕ) (rows : ℕ → W) (I : IdealSpan C s rows)
-        (lifts : ℕ → V) (h : AreLifts F P p q k D A n b C w r.reduction s rows lifts) where
+    module _ (r : ReducesByCoordinates F P p q k D A n b C w) where
       abbrev R : ReductionOn A L N C
       R = r.reduction
 
-      abbrev Up : V → Type 0
-      Up = Lifted A L N C R (InSpan MC s rows)
-
-      abbrev small : ℕ → V
-      small i = p • v i
-
-      abbrev S : V → Type 0
-      S = LatticeOver MA P (s + n) (join s lifts small)
-
-      abbrev U : LiftedIdeal A L N C R (InSpan MC s rows)
-      U = lifted_is A L N O C R (InSpan MC s rows) I
-
-      red-scale : (a : K) (x : V) → P a → L x → R.red (a • x) ≡ C.◌•◌ (res a) (R.red x)
+      pub red-scale : (a : K) (x : V) → P a → L x → R.red (a • x) ≡ C.◌•◌ (res a) (R.red x)
       red-scale a x ha hx = basis_ext MC n w (R.red (a • x)) (C.◌•◌ (res a) (R.red x)) (λ i l.
           r.values (a • x) i l ∙ ap res (b.coord-scale a x i) ∙ D.map-mul a (b.coord x i) ha (coord_in x hx i l)
           ∙ ap (k.◌⊗◌ (res a)) (sym (r.values x i l)) ∙ sym (w.coord-scale (res a) (R.red x) i))
 
-      red-comb : (m : ℕ) (c : ℕ → K) (y : ℕ → V) → ((i : ℕ) → i < m → P (c i)) → ((i : ℕ) → i < m → L (y i))
+      pub red-comb : (m : ℕ) (c : ℕ → K) (y : ℕ → V) → ((i : ℕ) → i < m → P (c i)) → ((i : ℕ) → i < m → L (y i))
           → R.red (comb MA m c y) ≡ comb MC m (λ i. res (c i)) (λ i. R.red (y i))
       red-comb m c y hc hy = basis_ext MC n w (R.red (comb MA m c y)) (comb MC m (λ i. res (c i)) (λ i. R.red (y i)))
           (λ i l. r.values (comb MA m c y) i l ∙ ap res (coord_comb_of i)
@@ -218,58 +205,72 @@ module _ {K E V : Type 0} (F : FieldOn K) (P : K → Type 0) (p q : K) (k : Fiel
           coord_comb_of : (i : ℕ) → b.coord (comb MA m c y) i ≡ sum F.monoid m (λ t. F.◌⊗◌ (c t) (b.coord (y t) i))
           coord_comb_of i = coord-comb MA n (coords_of MA n b) m c y i
 
-      small_in : (i : ℕ) → i < n → Up (small i)
-      small_in i l = U.over (small i) (v i, vec_in i l, refl)
+      module _ (s : ℕ) (rows : ℕ → W) (I : IdealSpan C s rows)
+          (lifts : ℕ → V) (h : AreLifts F P p q k D A n b C w r.reduction s rows lifts) where
+        abbrev Up : V → Type 0
+        Up = Lifted A L N C R (InSpan MC s rows)
 
-      lifts_in : (i : ℕ) → i < s → Up (lifts i)
-      lifts_in i l = (h.inside i l, subst (InSpan MC s rows) (sym (h.becomes i l)) (InSpan-member MC s i rows l))
+        abbrev small : ℕ → V
+        small i = p • v i
 
-      -- a multiple of a member is one
-      scale_in : (a : K) (x : V) → P a → Up x → Up (a • x)
-      scale_in a x ha g = (
-        span-scale F P subring MA n v a x ha g.0,
-        subst (InSpan MC s rows) (sym (red-scale a x ha g.0)) (InSpan-scale MC s rows (res a) (R.red x) g.1),
-      )
+        abbrev S : V → Type 0
+        S = LatticeOver MA P (s + n) (join s lifts small)
 
-      down : (x : V) → S x → Up x
-      down x g = subst Up (sym g.combines) (comb_in_closed F P MA Up U.ideal.zero_in U.ideal.add_in scale_in (s + n)
-          g.weights (join s lifts small) g.passes (each_join s n lifts small Up lifts_in small_in))
+        abbrev U : LiftedIdeal A L N C R (InSpan MC s rows)
+        U = lifted_is A L N O C R (InSpan MC s rows) I
 
-      -- p times a member of the order
-      multiple_of : (x : V) → N x → S x
-      multiple_of x g = subst S (sym (g.2 ∙ ap (λ y. p • y) (b.expand g.0)
-          ∙ map-comb MA MA (λ y. p • y) scale_p n (b.coord g.0) v))
-          (span-comb F P subring MA (s + n) (join s lifts small) n (b.coord g.0) small (coord_in g.0 g.1)
-          (span-join_right F P p q k D MA s n lifts small))
-        where
-          scale_p : IsLinear MA MA (λ x. p • x)
-          scale_p = record {
-            map-add = MA.scale-add p;
-            map-scale = λ c x. sym (MA.mul-scale p c x) ∙ ap (λ t. t • x) (F.mul_comm p c) ∙ MA.mul-scale c p x;
-          }
+        small_in : (i : ℕ) → i < n → Up (small i)
+        small_in i l = U.over (small i) (v i, vec_in i l, refl)
 
-      up : (x : V) → Up x → S x
-      up x g =
-          let c : ℕ → K = λ i. D.lift (g.1.weights i) in
-          let y = comb MA s c lifts in
-          let y_in : L y = span-comb F P subring MA n v s c lifts (λ i _. D.lift_in (g.1.weights i)) h.inside in
-          let same : R.red x ≡ R.red y = g.1.combines
-          ∙ sym (red-comb s c lifts (λ i _. D.lift_in (g.1.weights i)) h.inside
-          ∙ sum_congr C.monoid s (λ i. C.◌•◌ (res (c i)) (R.red (lifts i))) (λ i. C.◌•◌ (g.1.weights i) (rows i))
-          (λ i l. ap₂ C.◌•◌ (D.res-lift (g.1.weights i)) (h.becomes i l))) in
-          subst S (A.add_assoc x (A.neg y) y ∙ ap (λ z. x ⊕ z) (A.neg-add y) ∙ add-zero A.monoid x)
-          (span-add F P subring MA (s + n) (join s lifts small) (x ⊕ A.neg y) y
-          (multiple_of (x ⊕ A.neg y) (reduced_difference A L N O C R x y g.0 y_in same))
-          (span-comb F P subring MA (s + n) (join s lifts small) s c lifts (λ i _. D.lift_in (g.1.weights i))
-          (span-join_left F P p q k D MA s n lifts small)))
+        lifts_in : (i : ℕ) → i < s → Up (lifts i)
+        lifts_in i l = (h.inside i l, subst (InSpan MC s rows) (sym (h.becomes i l)) (InSpan-member MC s i rows l))
 
-      pub preimage : PreimageOf F P p q k D A n b C w R s rows lifts
-      preimage = record {
-        lattice = (up, down);
-        ideal = U.ideal;
-        over = U.over;
-        whole = λ f y. U.reduced.0 y (R.lift y, f (R.lift y) (R.lift_in y), R.red-lift y);
-      }
+        -- a multiple of a member is one
+        scale_in : (a : K) (x : V) → P a → Up x → Up (a • x)
+        scale_in a x ha g = (
+          span-scale F P subring MA n v a x ha g.0,
+          subst (InSpan MC s rows) (sym (red-scale a x ha g.0)) (InSpan-scale MC s rows (res a) (R.red x) g.1),
+        )
+
+        down : (x : V) → S x → Up x
+        down x g = subst Up (sym g.combines) (comb_in_closed F P MA Up U.ideal.zero_in U.ideal.add_in scale_in (s + n)
+            g.weights (join s lifts small) g.passes (each_join s n lifts small Up lifts_in small_in))
+
+        -- p times a member of the order
+        multiple_of : (x : V) → N x → S x
+        multiple_of x g = subst S (sym (g.2 ∙ ap (λ y. p • y) (b.expand g.0)
+            ∙ map-comb MA MA (λ y. p • y) scale_p n (b.coord g.0) v))
+            (span-comb F P subring MA (s + n) (join s lifts small) n (b.coord g.0) small (coord_in g.0 g.1)
+            (span-join_right F P p q k D MA s n lifts small))
+          where
+            scale_p : IsLinear MA MA (λ x. p • x)
+            scale_p = record {
+              map-add = MA.scale-add p;
+              map-scale = λ c x. sym (MA.mul-scale p c x) ∙ ap (λ t. t • x) (F.mul_comm p c) ∙ MA.mul-scale c p x;
+            }
+
+        up : (x : V) → Up x → S x
+        up x g =
+            let c : ℕ → K = λ i. D.lift (g.1.weights i) in
+            let y = comb MA s c lifts in
+            let y_in : L y = span-comb F P subring MA n v s c lifts (λ i _. D.lift_in (g.1.weights i)) h.inside in
+            let same : R.red x ≡ R.red y = g.1.combines
+            ∙ sym (red-comb s c lifts (λ i _. D.lift_in (g.1.weights i)) h.inside
+            ∙ sum_congr C.monoid s (λ i. C.◌•◌ (res (c i)) (R.red (lifts i))) (λ i. C.◌•◌ (g.1.weights i) (rows i))
+            (λ i l. ap₂ C.◌•◌ (D.res-lift (g.1.weights i)) (h.becomes i l))) in
+            subst S (A.add_assoc x (A.neg y) y ∙ ap (λ z. x ⊕ z) (A.neg-add y) ∙ add-zero A.monoid x)
+            (span-add F P subring MA (s + n) (join s lifts small) (x ⊕ A.neg y) y
+            (multiple_of (x ⊕ A.neg y) (reduced_difference A L N O C R x y g.0 y_in same))
+            (span-comb F P subring MA (s + n) (join s lifts small) s c lifts (λ i _. D.lift_in (g.1.weights i))
+            (span-join_left F P p q k D MA s n lifts small)))
+
+        pub preimage : PreimageOf F P p q k D A n b C w R s rows lifts
+        preimage = record {
+          lattice = (up, down);
+          ideal = U.ideal;
+          over = U.over;
+          whole = λ f y. U.reduced.0 y (R.lift y, f (R.lift y) (R.lift_in y), R.red-lift y);
+        }
 
 module _ {K V E : Type 0} (F : FieldOn K) (P : K → Type 0) (p q : K) (k : FieldOn E) (D : ResidueRingOn F P p q k)
     (A : AlgebraOn F.ring V) (n : ℕ) (b : Basis (module_of A) n) (W : Type 0) where

@@ -204,6 +204,71 @@ module _ {E R : Type 0} (o : Ops E) (L : FieldLaws o) (P : E → Type 0) (p q : 
 
   -- ---- preimages
 
+  -- residues of the coordinates
+  residue_at : (x : V) (hx : BL x) (l : ℕ) → l < n
+      → HasResidue o L P p q r N D (b.coord x l).0 (at r (red x).0 l)
+  residue_at x hx l c_in = record {
+    elem = (b.coord x l).1;
+    allowed = coord_member K Q p q k D (module_of Alg) n b x hx l c_in;
+    residue = sym (red-at x l c_in);
+  }
+
+  expands : (x : V) (c : ℕ) → c < n
+      → at o x.0 c ≡ sum_of o n (λ l. o.mul (b.coord x l).0 (entry o rows l c))
+  unfolding B tuple_algebra
+  expands x c c_in = ap (λ (y : V). at o y.0 c) (b.expand x) ∙ row-sum o L n rows ind.shape n (b.coord x) c c_in
+
+  -- a combination with weights that have residues
+  module _ (x : V) (weights : List E) (residues : List R) (hw : IsTuple o n weights) (hr : IsTuple r n residues)
+      (combines : (c : ℕ) → c < n → at o x.0 c ≡ sum_of o n (λ l. o.mul (at o weights l) (entry o rows l c)))
+      (each : (l : ℕ) → l < n → HasResidue o L P p q r N D (at o weights l) (at r residues l)) where
+    abbrev c : ℕ → Elem o
+    c l = (at o weights l, at-elem o L weights hw.of_elements l)
+
+    coord_c : (l : ℕ) → l < n → b.coord x l ≡ c l
+    coord_c = coordinates x c combines
+
+    pub comes_in : BL x
+    comes_in = member_by_coord K Q p q k D (module_of Alg) n b x
+        (λ l l_in. subst Q (sym (coord_c l l_in)) (each l l_in).allowed)
+
+    pub comes_to : (red x).0 ≡ residues
+    comes_to = IsTuple-ext r n (red x).0 residues (IsTuple-of r N n (red x)) hr (λ l l_in.
+        let h = each l l_in in
+        red-at x l l_in
+        ∙ ap (λ (a : Elem o). (D.res a).0) (coord_c l l_in ∙ Elem-path o (c l) (at o weights l, h.elem) refl)
+        ∙ h.residue)
+
+  -- what comes from a combination of rows: the members of the order whose residues are one
+  module _ (ideal : List (List R)) where
+    pub preimage_of : (x : V) → BL x → rows_of.Combinations r n ideal (red x).0
+        → Preimage o L P p q r N D A rows ideal x.0
+    preimage_of x hx h =
+        let c : ℕ → E = λ l. (b.coord x l).0 in (
+          IsTuple-of o L n x,
+          record {
+            weights = table n c;
+            tuple = IsTuple-table o n c (λ l _. (b.coord x l).1);
+            combines = λ u u_in. expands x u u_in
+                ∙ sum_of_congr o n (λ l. o.mul (c l) (entry o rows l u))
+                (λ l. o.mul (at o (table n c) l) (entry o rows l u))
+                (λ l l_in. ap (λ a. o.mul a (entry o rows l u)) (sym (at-table o n c l l_in)));
+            residues = (red x).0;
+            each = λ l l_in. subst (λ a. HasResidue o L P p q r N D a (at r (red x).0 l))
+                (sym (at-table o n c l l_in)) (residue_at x hx l l_in);
+            inside = h;
+          },
+        )
+
+    pub of_preimage : (x : V) → Preimage o L P p q r N D A rows ideal x.0
+        → BL x × rows_of.Combinations r n ideal (red x).0
+    of_preimage x h =
+        let f = h.1 in (
+          comes_in x f.weights f.residues f.tuple f.inside.0 f.combines f.each,
+          subst (rows_of.Combinations r n ideal)
+              (sym (comes_to x f.weights f.residues f.tuple f.inside.0 f.combines f.each)) f.inside,
+        )
+
   module _ (ideal : List (List R)) (spans : SpansIdeal r C ideal) where
     abbrev s : ℕ
     s = length ideal
@@ -218,69 +283,14 @@ module _ {E R : Type 0} (o : Ops E) (L : FieldLaws o) (P : E → Type 0) (p q : 
     unfolding tuple_algebra
     in_span x h = to_span r N n ideal spans.shape x h
 
-    -- residues of the coordinates
-    residue_at : (x : V) (hx : BL x) (l : ℕ) → l < n
-        → HasResidue o L P p q r N D (b.coord x l).0 (at r (red x).0 l)
-    residue_at x hx l c_in = record {
-      elem = (b.coord x l).1;
-      allowed = coord_member K Q p q k D (module_of Alg) n b x hx l c_in;
-      residue = sym (red-at x l c_in);
-    }
-
-    expands : (x : V) (c : ℕ) → c < n
-        → at o x.0 c ≡ sum_of o n (λ l. o.mul (b.coord x l).0 (entry o rows l c))
-    unfolding B tuple_algebra
-    expands x c c_in = ap (λ (y : V). at o y.0 c) (b.expand x) ∙ row-sum o L n rows ind.shape n (b.coord x) c c_in
-
     pub up_to : (x : V) → Up x → Preimage o L P p q r N D A rows ideal x.0
-    up_to x h =
-        let c : ℕ → E = λ l. (b.coord x l).0 in (
-          IsTuple-of o L n x,
-          record {
-            weights = table n c;
-            tuple = IsTuple-table o n c (λ l _. (b.coord x l).1);
-            combines = λ u u_in. expands x u u_in
-                ∙ sum_of_congr o n (λ l. o.mul (c l) (entry o rows l u))
-                (λ l. o.mul (at o (table n c) l) (entry o rows l u))
-                (λ l l_in. ap (λ a. o.mul a (entry o rows l u)) (sym (at-table o n c l l_in)));
-            residues = (red x).0;
-            each = λ l l_in. subst (λ a. HasResidue o L P p q r N D a (at r (red x).0 l))
-                (sym (at-table o n c l l_in)) (residue_at x h.0 l l_in);
-            inside = (
-              IsTuple-of r N n (red x),
-              list_span r N C tab.shape.of_elements associative laws.one.0 residue_one ideal spans (red x) h.1,
-            );
-          },
-        )
-
-    -- a combination with weights that have residues
-    module _ (x : V) (weights : List E) (residues : List R) (hw : IsTuple o n weights) (hr : IsTuple r n residues)
-        (combines : (c : ℕ) → c < n → at o x.0 c ≡ sum_of o n (λ l. o.mul (at o weights l) (entry o rows l c)))
-        (each : (l : ℕ) → l < n → HasResidue o L P p q r N D (at o weights l) (at r residues l)) where
-      abbrev c : ℕ → Elem o
-      c l = (at o weights l, at-elem o L weights hw.of_elements l)
-
-      coord_c : (l : ℕ) → l < n → b.coord x l ≡ c l
-      coord_c = coordinates x c combines
-
-      comes_in : BL x
-      comes_in = member_by_coord K Q p q k D (module_of Alg) n b x
-          (λ l l_in. subst Q (sym (coord_c l l_in)) (each l l_in).allowed)
-
-      comes_to : (red x).0 ≡ residues
-      comes_to = IsTuple-ext r n (red x).0 residues (IsTuple-of r N n (red x)) hr (λ l l_in.
-          let h = each l l_in in
-          red-at x l l_in
-          ∙ ap (λ (a : Elem o). (D.res a).0) (coord_c l l_in ∙ Elem-path o (c l) (at o weights l, h.elem) refl)
-          ∙ h.residue)
+    up_to x h = preimage_of ideal x h.0 (
+      IsTuple-of r N n (red x),
+      list_span r N C tab.shape.of_elements associative laws.one.0 residue_one ideal spans (red x) h.1,
+    )
 
     pub up_from : (x : V) → Preimage o L P p q r N D A rows ideal x.0 → Up x
-    up_from x h =
-        let f = h.1 in (
-          comes_in x f.weights f.residues f.tuple f.inside.0 f.combines f.each,
-          in_span (red x) (subst (rows_of.InSpan r n ideal)
-              (sym (comes_to x f.weights f.residues f.tuple f.inside.0 f.combines f.each)) f.inside.1),
-        )
+    up_from x h = let f = of_preimage ideal x h in (f.0, in_span (red x) f.1.1)
 
     module _ (lifts lifted multiples : List (List E)) (res : AreResidueRows o L P p q r N D n lifts ideal)
         (combs : AreCombinations o L P p q r N D A rows lifts lifted)

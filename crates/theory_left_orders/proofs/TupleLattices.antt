@@ -1,5 +1,5 @@
 -- Lattices of tuples, as lists, and those of the rows as vectors; independent tuples as a basis.
-use Rattle.std.specs.Prelude.{◌≡◌, ℕ, ◌+◌, ◌-◌, ◌<◌, ◌≤◌, List, [], ◌++◌, length, get_or}
+use Rattle.std.specs.Prelude.{◌≡◌, ◌↔◌, ℕ, ◌+◌, ◌-◌, ◌<◌, ◌≤◌, List, [], ◌++◌, length, get_or}
 use Rattle.std.proofs.Common.{sym, ◌∙◌, ap, ap₂, subst, arith, length-append, ⊎_elim}
 use Rattle.std.proofs.lemmas.Bool.{cases_lt}
 use Rattle.std.proofs.lemmas.List.{get_or_append_left, get_or-append-add}
@@ -18,7 +18,7 @@ use Rattle.theory_spaces.proofs.Linear.LatticeSpans.{span-member, span_trans}
 use Rattle.theory_spaces.specs.Tuples.{IsTuple, Tuple}
 use Rattle.theory_spaces.proofs.Linear.Families.{join, join-below, join-above}
 use Rattle.theory_spaces.proofs.Linear.Modules.{comb_congr_right}
-use Rattle.theory_spaces.proofs.Linear.Spaces.{coords_of, full_span, basis_of}
+use Rattle.theory_spaces.proofs.Linear.Spaces.{coords_of, full_span, basis_of, Basis-coord}
 use Rattle.theory_spaces.proofs.Tuples.Tables.{space_basis, space_expand, unit}
 use Rattle.theory_spaces.proofs.Tuples.Tuples.{at-table, IsTuple-table, IsTuple-ext, Tuple-path, tuples, tuple_space}
 use Rattle.theory_tables.specs.Matrix.{entry, IsMatrix}
@@ -166,3 +166,30 @@ module _ {E : Type 0} (o : Ops E) (L : FieldLaws o) (m : ℕ) where
 
     abbrev pub rows_basis : Basis M m
     rows_basis = basis_of M m (row o L m rows h.shape) vectors span_all
+
+    -- the weights of the members of their lattice
+    module _ (P : E → Type 0) where
+      abbrev In : Tuple o m → Type 0
+      In = LatticeOver M (λ c. P c.0) m (row o L m rows h.shape)
+
+      -- they are allowed
+      pub weights_allowed : (x : Tuple o m) (c : ℕ → Elem o) → x ≡ comb M m c (row o L m rows h.shape) → In x → (l : ℕ)
+          → l < m → P (c l).0
+      weights_allowed x c e s l l_in =
+          let B = rows_basis in
+          let Q : Elem o → Type 0 = λ z. P z.0 in
+          subst Q (sym (ap (λ y. B.coord y l) s.combines ∙ Basis-coord M m B s.weights l l_in)
+          ∙ ap (λ y. B.coord y l) e ∙ Basis-coord M m B c l l_in) (s.passes l l_in)
+
+    -- a combination of them is in their lattice exactly where its weights are allowed
+    pub lattice_by_weights : (P : E → Type 0) (x : List E) → IsTuple o m x → (c : ℕ → Elem o)
+        → ((j : ℕ) → j < m → at o x j ≡ sum_of o m (λ i. o.mul (c i).0 (entry o rows i j)))
+        → TupleLattice o P m rows x ↔ ((l : ℕ) → l < m → P (c l).0)
+    lattice_by_weights P x hx c e =
+        let y = as_tuple o L m x hx in
+        let S : ℕ → Type 0 = λ n. LatticeOver M (λ z. P z.0) n (row o L m rows h.shape) y in
+        let combined : y ≡ comb M m c (row o L m rows h.shape) = is_comb rows h.shape y m c e in (
+          λ t. weights_allowed P y c combined (subst S h.count (to_lattice rows h.shape P y t.1)),
+          λ g. from_lattice rows h.shape P y
+              (subst S (sym h.count) record { weights = c; passes = g; combines = combined }),
+        )

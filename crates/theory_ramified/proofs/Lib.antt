@@ -1,3 +1,8 @@
 pub mod TableSets
 pub mod TableLattices
 pub mod Conditions
+pub mod PreimageRows
+pub mod RowConditions
+pub mod InfinityConditions
+pub mod Members
+pub mod MemberConditions

@@ -133,7 +133,7 @@ module _ {E : Type 0} (o : Ops E) (L : FieldLaws o) (T : Structure E)
       gives = ap (λ (z : V). z.0) h.gives ∙ total-is h.size h.term;
     }
 
-    power_tuple : (k : ℕ) → Within (sets.Power S J k) (IsTuple o m)
+    pub power_tuple : (k : ℕ) → Within (sets.Power S J k) (IsTuple o m)
     power_tuple zero a h = wJ a h
     power_tuple (suc k) a h = subst (IsTuple o m) (sym h.gives) (total_tuple h.size h.term (λ i l.
         let w = h.each i l in

@@ -1,2 +1,5 @@
 pub mod Conditions
 pub mod ConditionLaws
+pub mod RowConditions
+pub mod InfinityConditions
+pub mod MemberConditions
