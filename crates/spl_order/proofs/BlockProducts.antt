@@ -12,7 +12,8 @@ use Rattle.theory_fractions.specs.FractionOps.{fraction_ops}
 use Rattle.theory_fractions.specs.CommonDenominator.{as_fraction}
 use Rattle.spl_numerators.specs.Sums.{fraction_at}
 use Rattle.spl_order.specs.Values.{HasRow}
-use Rattle.spl_order.specs.Coordinates.{block_item, row_products, scaled_coordinate, AreScaledCoordinates}
+use Rattle.spl_order.specs.Coordinates.{block_item, row_products, scaled_coordinate}
+use Rattle.spl_order.specs.Coordinates.{AreRowProducts, AreScaledCoordinates}
 
 -- ---- places
 
@@ -91,61 +92,79 @@ module _ {E : Type 0} (o : Ops E) (L : FieldLaws o) where
       (ap (λ z. z * n + l) (place-row h w t i j i_in j_in))
       (ap₂ (λ x y. x * (n * w) + y + l * w) (place-block h w t i j i_in j_in) (place-column h w t i j i_in j_in) ∙ e))
 
-  -- ---- the coordinates, by three products
+  -- ---- the products of rows, by two products, and the coordinates, by a third one
 
-  module _ (n : ℕ) (rows columns constants lefts products items : List (List E))
-      (A : HasRow o (block_item o L rows constants n n (n * n)) (1 * (n * (n * n))) lefts)
-      (B : HasRow o (block_item o L rows lefts n n n) (n * (n * n)) products)
-      (C : HasRow o (block_item o L products columns (n * n) n n) (1 * (n * n * n)) items) where
+  cube-lt : (n i j l : ℕ) → i < n → j < n → l < n → (i * n + j) * n + l < n * n * n
+  cube-lt n i j l i_in j_in l_in = pair-lt (n * n) n (i * n + j) l (pair-lt n n i j i_in j_in) l_in
+
+  module _ (n : ℕ) (lefts rights constants sums products : List (List E))
+      (A : HasRow o (block_item o L lefts constants n n (n * n)) (1 * (n * (n * n))) sums)
+      (B : HasRow o (block_item o L rights sums n n n) (n * (n * n)) products) where
     abbrev x : ℕ → ℕ → Pair E
-    x i a = fraction_at o L rows (i * n + a)
+    x i a = fraction_at o L lefts (i * n + a)
 
-    abbrev y : ℕ → ℕ → Pair E
-    y t l = fraction_at o L columns (t * n + l)
+    abbrev z : ℕ → ℕ → Pair E
+    z j b = fraction_at o L rights (j * n + b)
 
     abbrev c : ℕ → ℕ → ℕ → Pair E
     c a b t = fraction_at o L constants ((a * n + b) * n + t)
 
-    cube-lt : (i j l : ℕ) → i < n → j < n → l < n → (i * n + j) * n + l < n * n * n
-    cube-lt i j l i_in j_in l_in = pair-lt (n * n) n (i * n + j) l (pair-lt n n i j i_in j_in) l_in
-
     left_value : (i b t : ℕ) → i < n → b < n → t < n
-        → fraction_at o L lefts ((i * n + b) * n + t) ≡ sum_of k n (λ a. k.mul (x i a) (c a b t))
+        → fraction_at o L sums ((i * n + b) * n + t) ≡ sum_of k n (λ a. k.mul (x i a) (c a b t))
     left_value i b t i_in b_in t_in =
         let u : b * n + t < n * n = pair-lt n n b t b_in t_in in
         let e : (0 * n + i) * (n * n) + (b * n + t) ≡ (i * n + b) * n + t = omega arith in
-        let s : (i * n + b) * n + t < 1 * (n * (n * n)) = omega (arith, cube-lt i b t i_in b_in t_in) in
+        let s : (i * n + b) * n + t < 1 * (n * (n * n)) = omega (arith, cube-lt n i b t i_in b_in t_in) in
         A.values ((i * n + b) * n + t) s
-        ∙ ap (block_item o L rows constants n n (n * n)) (sym e)
-        ∙ block_item-at rows constants n n (n * n) 0 i (b * n + t) i_in u
+        ∙ ap (block_item o L lefts constants n n (n * n)) (sym e)
+        ∙ block_item-at lefts constants n n (n * n) 0 i (b * n + t) i_in u
         ∙ sum_of_congr k n (λ l. k.mul (x i l) (fraction_at o L constants ((0 * n + l) * (n * n) + (b * n + t))))
         (λ a. k.mul (x i a) (c a b t))
         (λ a _. let f : (0 * n + a) * (n * n) + (b * n + t) ≡ (a * n + b) * n + t = omega arith in
         ap (λ z. k.mul (x i a) (fraction_at o L constants z)) f)
 
     product_value : (i j t : ℕ) → i < n → j < n → t < n
-        → fraction_at o L products ((i * n + j) * n + t) ≡ row_products k n x y c i j t
+        → fraction_at o L products ((i * n + j) * n + t) ≡ row_products k n x z c i j t
     product_value i j t i_in j_in t_in =
-        let s : (i * n + j) * n + t < n * (n * n) = omega (arith, cube-lt i j t i_in j_in t_in) in
+        let s : (i * n + j) * n + t < n * (n * n) = omega (arith, cube-lt n i j t i_in j_in t_in) in
         B.values ((i * n + j) * n + t) s
-        ∙ block_item-at rows lefts n n n i j t j_in t_in
-        ∙ sum_of_congr k n (λ b. k.mul (x j b) (fraction_at o L lefts ((i * n + b) * n + t)))
-        (λ b. k.mul (x j b) (sum_of k n (λ a. k.mul (x i a) (c a b t))))
-        (λ b b_in. ap (k.mul (x j b)) (left_value i b t i_in b_in t_in))
+        ∙ block_item-at rights sums n n n i j t j_in t_in
+        ∙ sum_of_congr k n (λ b. k.mul (z j b) (fraction_at o L sums ((i * n + b) * n + t)))
+        (λ b. k.mul (z j b) (sum_of k n (λ a. k.mul (x i a) (c a b t))))
+        (λ b b_in. ap (k.mul (z j b)) (left_value i b t i_in b_in t_in))
+
+    pub two_products : AreRowProducts o L n lefts rights constants products
+    two_products = record {
+      count = B.count ∙ omega arith;
+      polynomials = λ p l. B.polynomials p (omega (arith, l));
+      values = product_value;
+    }
+
+  module _ (n : ℕ) (rows columns constants products items : List (List E))
+      (B : AreRowProducts o L n rows rows constants products)
+      (C : HasRow o (block_item o L products columns (n * n) n n) (1 * (n * n * n)) items) where
+    abbrev row_value : ℕ → ℕ → Pair E
+    row_value i a = fraction_at o L rows (i * n + a)
+
+    abbrev column_value : ℕ → ℕ → Pair E
+    column_value t l = fraction_at o L columns (t * n + l)
+
+    abbrev constant_value : ℕ → ℕ → ℕ → Pair E
+    constant_value a b t = fraction_at o L constants ((a * n + b) * n + t)
 
     item_value : (i j l : ℕ) → i < n → j < n → l < n
-        → as_fraction o (get_or items ((i * n + j) * n + l) []) ≡ scaled_coordinate k n x y c i j l
+        → as_fraction o (get_or items ((i * n + j) * n + l) []) ≡ scaled_coordinate k n row_value column_value constant_value i j l
     item_value i j l i_in j_in l_in =
-        let s : (i * n + j) * n + l < 1 * (n * n * n) = omega (arith, cube-lt i j l i_in j_in l_in) in
+        let s : (i * n + j) * n + l < 1 * (n * n * n) = omega (arith, cube-lt n i j l i_in j_in l_in) in
         let e : (0 * (n * n) + (i * n + j)) * n + l ≡ (i * n + j) * n + l = omega arith in
         C.values ((i * n + j) * n + l) s
         ∙ ap (block_item o L products columns (n * n) n n) (sym e)
         ∙ block_item-at products columns (n * n) n n 0 (i * n + j) l (pair-lt n n i j i_in j_in) l_in
         ∙ sum_of_congr k n
         (λ t. k.mul (fraction_at o L products ((i * n + j) * n + t)) (fraction_at o L columns ((0 * n + t) * n + l)))
-        (λ t. k.mul (row_products k n x y c i j t) (y t l))
+        (λ t. k.mul (row_products k n row_value row_value constant_value i j t) (column_value t l))
         (λ t t_in. let f : (0 * n + t) * n + l ≡ t * n + l = omega arith in
-        ap₂ (λ u z. k.mul u (fraction_at o L columns z)) (product_value i j t i_in j_in t_in) f)
+        ap₂ (λ u z. k.mul u (fraction_at o L columns z)) (B.values i j t i_in j_in t_in) f)
 
     pub three_products : AreScaledCoordinates o L n rows columns constants items
     three_products = record {

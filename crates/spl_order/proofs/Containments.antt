@@ -1,5 +1,6 @@
 -- Rows over one denominator as rows over another, and whether the lattice of a basis lies in that of another.
-use Rattle.std.specs.Prelude.{◌≡◌, ◌≢◌, ◌<◌, ◌↔◌, ℕ, List, [], length, get_or, map, Option, None, Some, is_some, IfSome, IsTrue, false}
+use Rattle.std.specs.Prelude.{◌≡◌, ◌≢◌, ◌<◌, ◌↔◌, ℕ, List, [], length, get_or, map, Option, None, Some, is_some}
+use Rattle.std.specs.Prelude.{IfSome, IsTrue, false}
 use Rattle.std.specs.List.{All}
 use Rattle.std.proofs.Common.{refl, sym, ◌∙◌, ap, subst, arith, ext_get_or}
 use Rattle.std.proofs.lemmas.Bool.{both_ways}
@@ -22,7 +23,8 @@ use Rattle.theory_rows.specs.Rows.{IsPolynomialRow, IsPolynomialMatrix, IsRowCom
 use Rattle.theory_tables.specs.Matrix.{width_of}
 use Rattle.theory_bases.specs.TupleLattices.{TupleLattice, SameTupleLattice}
 use Rattle.theory_bases.specs.Bases.{BasisForm, IsBasis, IsPolynomialFraction, fraction_over, tuples_of}
-use Rattle.theory_bases.proofs.FractionsOver.{M, over-elem, mul-over, over_of_multiple, divided-mul, mul-divided, inverse}
+use Rattle.theory_bases.proofs.FractionsOver.{M, over-elem, mul-over, over_of_multiple, divided-mul, mul-divided}
+use Rattle.theory_bases.proofs.FractionsOver.{inverse}
 use Rattle.theory_bases.proofs.FractionsOver.{inverse-elem, count-tuples}
 use Rattle.theory_bases.proofs.PolynomialDivisors.{fraction_product, product_of_fractions, divides_of_fractions}
 use Rattle.theory_bases.proofs.TupleRows.{lattice_of_row, row_of_lattice, same_tuples}
@@ -30,7 +32,7 @@ use Rattle.theory_bases.proofs.PolynomialWeights.{polynomials_are_subring}
 use Rattle.spl_order.specs.Values.{HasRow, multiple_over}
 use Rattle.spl_order.proofs.InverseRows.{square-width}
 use Rattle.spl_order.proofs.ExactQuotients.{quotient_times}
-use Rattle.spl_order.proofs.Values.{row_is}
+use Rattle.spl_order.proofs.Values.{row_is, row_unique}
 use Rattle.spl_order.proofs.LatticeMembers.{lattice_member, lattice_within}
 
 module _ {E : Type 0} (o : Ops E) (L : FieldLaws o) where
@@ -145,11 +147,6 @@ module _ {E : Type 0} (o : Ops E) (L : FieldLaws o) where
         y_is j l = let j_in : j < length y = omega (arith, l, hy.width) in
             record { over = hy.over j [] j_in; trimmed = hy.trimmed j [] j_in }
 
-    row_same : (y z : List (List E)) → HasRow o value w y → HasRow o value w z → y ≡ z
-    row_same y z a b = ext_get_or [] y z (a.count ∙ sym b.count) (λ j l.
-        let j_in : j < w = omega (arith, l, a.count) in
-        ap (λ (p : Pair E). p.0) (a.values j j_in ∙ sym (b.values j j_in)))
-
     module _ (rows : List (List (List E))) (hr : IsPolynomialMatrix o w rows) where
       abbrev Lat : Type 0
       Lat = TupleLattice k (IsPolynomialFraction o) w
@@ -171,7 +168,7 @@ module _ {E : Type 0} (o : Ops E) (L : FieldLaws o) where
 
       pub no_row_outside : (y : List (List E)) → HasRow o value w y → (InRowLattice o rows y → ⊥) → Lat → ⊥
       no_row_outside y hy f h = let r = found h in
-          f (subst (InRowLattice o rows) (row_same r.0 y r.1 hy) r.2)
+          f (subst (InRowLattice o rows) (row_unique o value w r.0 y r.1 hy) r.2)
 
       -- what a search for the coordinates of the row tells
       pub member_tells : (y : List (List E)) → HasRow o value w y → (r : Option (List (List E)))

@@ -1,11 +1,11 @@
 -- The residue of a fraction by a program's residue field.
-use Rattle.std.specs.Prelude.{◌≡◌, ◌≢◌, ℕ, List, []}
+use Rattle.std.specs.Prelude.{◌≡◌, ◌≢◌, ℕ, List}
 use Rattle.std.proofs.Common.{sym, ◌∙◌, subst}
 use Rattle.std.specs.List.{All}
-use Rattle.theory_rings.specs.Ops.{Ops, IsElem, FieldLaws}
+use Rattle.theory_rings.specs.Ops.{Ops, IsElem}
 use Rattle.theory_rings.specs.Sum.{at}
 use Rattle.theory_fractions.specs.PolynomialLists.{IsOver}
-use Rattle.theory_fractions.specs.Fraction.{Pair, IsLowestTerms}
+use Rattle.theory_fractions.specs.Fraction.{Pair}
 use Rattle.theory_fractions.specs.FractionOps.{fraction_ops}
 use Rattle.theory_fractions.proofs.ElementClauses.{lowest_of_elem}
 use Rattle.theory_remainders.specs.Irreducible.{IsIrreducible}

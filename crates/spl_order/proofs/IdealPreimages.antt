@@ -1,49 +1,39 @@
 -- The preimage of an ideal of an order modulo a place: the combinations of the order's tuples by the ideal's rows, as
 -- polynomials, and the place's polynomial times these tuples, as rows of polynomials over the order's denominator.
-use Rattle.std.specs.Prelude.{◌≡◌, ◌≢◌, ◌<◌, ◌+◌, ℕ, List, [], ◌++◌, length, get_or, map}
-use Rattle.std.proofs.Common.{refl, sym, ◌∙◌, ap, ap₂, subst, arith, length-append, ⊎_elim}
-use Rattle.std.proofs.lemmas.Bool.{cases_lt}
-use Rattle.std.proofs.lemmas.List.{map-append, length-map, get_or-append-add, get_or_default, get_or-map}
+use Rattle.std.specs.Prelude.{◌≡◌, ◌≢◌, ◌<◌, ℕ, List, [], ◌++◌, length, get_or, map}
+use Rattle.std.proofs.Common.{refl, sym, ◌∙◌, ap, ap₂, subst, arith}
+use Rattle.std.proofs.lemmas.List.{length-map, get_or_default, get_or-map}
 use Rattle.std.proofs.lemmas.List.Elements.{All-append, All-from_get_or, All-map}
-use Rattle.theory_rings.specs.Ring.{FieldOn}
 use Rattle.theory_rings.specs.Ops.{Ops, IsElem, FieldLaws}
 use Rattle.theory_rings.specs.Elements.{Elem, elements}
 use Rattle.theory_rings.specs.Sum.{at, sum_of, table}
 use Rattle.theory_rings.specs.Polynomial.{IsTrimmed}
 use Rattle.theory_rings.proofs.Rings.Elements.{sum_of-elem, sum_of_congr}
 use Rattle.theory_rings.proofs.Sums.Lists.{length-table, get_or-table, All-table}
-use Rattle.theory_rings.proofs.Rings.Fields.{inv_mul_cancel_left}
-use Rattle.theory_spaces.specs.Linear as linear
-use Rattle.theory_spaces.specs.Tuples.{IsTuple, Tuple, tuple_scale}
-use Rattle.theory_spaces.proofs.Linear.Modules.{InSpan-scale, InSpan-member}
-use Rattle.theory_spaces.proofs.Tuples.Tuples.{tuples, IsTuple-table, IsTuple-ext, at-table, tuples-scale}
+use Rattle.theory_spaces.specs.Tuples.{IsTuple}
+use Rattle.theory_spaces.proofs.Tuples.Tuples.{IsTuple-table, at-table}
 use Rattle.theory_tables.specs.Matrix.{entry, IsMatrix}
-use Rattle.theory_tables.specs.Subspace.{InSpan}
 use Rattle.theory_tables.specs.Structure.{Structure, IsOver, IsAssociative}
 use Rattle.theory_tables.specs.Algebras.{SpansIdeal}
-use Rattle.theory_tables.proofs.Algebras.Bridge.{row, row-is, from_span, IsTuple-of}
-use Rattle.theory_tables.proofs.Rows.Spans.{InSpan_trans}
 use Rattle.theory_tables.proofs.Rows.Sums.{sum_of-mul}
 use Rattle.theory_fractions.specs.PolynomialLists.{IsOver as IsListOver, IsPolynomialList}
 use Rattle.theory_fractions.specs.Fraction.{Pair}
 use Rattle.theory_fractions.specs.FractionOps.{fraction_ops, polynomial_of}
 use Rattle.theory_fractions.specs.CommonDenominator.{as_fraction}
 use Rattle.theory_fractions.proofs.CommonDenominators.{nonzero_of_monic}
-use Rattle.theory_fractions.proofs.ElementClauses.{ne_zero}
 use Rattle.theory_fractions.proofs.PolynomialFractions.{as_fraction-elem}
 use Rattle.theory_remainders.specs.RemainderLaws.{IsRemainder, IsRemainderOf}
 use Rattle.theory_remainders.specs.RemainderOps.{remainder_ops}
 use Rattle.theory_remainders.proofs.RemainderField.{monic}
-use Rattle.theory_remainders.proofs.RemainderValues.{of_elem, zero_is, remainder_of_eq}
+use Rattle.theory_remainders.proofs.RemainderValues.{of_elem, remainder_of_eq}
 use Rattle.theory_fractions.proofs.ListPolynomials.{has_polynomial_of}
 use Rattle.theory_places.specs.Places.{Finite}
 use Rattle.theory_places.specs.FractionPlaces.{IsIntegralAt, IsMonicIrreducible, fractions}
 use Rattle.theory_rows.specs.Rows.{IsPolynomialRow, IsPolynomialMatrix}
 use Rattle.theory_rows.proofs.LiftedRows.{matrix-over, matrix-trimmed}
 use Rattle.theory_bases.specs.TupleLattices.{SpanOrder, SameTupleLattice}
-use Rattle.theory_bases.specs.Bases.{BasisForm, IsBasis, IsPolynomialFraction, fraction_over, tuples_of}
-use Rattle.theory_bases.proofs.FractionsOver.{M, inverse, inverse-elem, over_rows-matrix, entry-tuples, count-tuples}
-use Rattle.theory_bases.proofs.SpanningRows.{spans_of_count}
+use Rattle.theory_bases.specs.Bases.{BasisForm, IsBasis, IsPolynomialFraction, tuples_of}
+use Rattle.theory_bases.proofs.FractionsOver.{M, inverse, inverse-elem, entry-tuples, count-tuples}
 use Rattle.theory_left_orders.specs.FractionResidues.{HasResidues, ResidueRingsBy}
 use Rattle.theory_left_orders.specs.ResidueRings.{ResidueRingOn}
 use Rattle.theory_left_orders.specs.TupleResidues.{HasResidue, AreResidueRows}

@@ -20,7 +20,9 @@ pub mod ResidueValues
 pub mod ProductCoordinates
 pub mod CoordinateSums
 pub mod BlockProducts
+pub mod ProductEntries
 pub mod ProductItems
+pub mod ProductRows
 pub mod ResidueTables
 pub mod IdealPreimages
 pub mod LiftedIdeals
@@ -34,3 +36,9 @@ pub mod LeftOrderBases
 pub mod LatticeMembers
 pub mod Containments
 pub mod ContainedRows
+pub mod PlaceParts
+pub mod CoordinateColumns
+pub mod MemberTests
+pub mod WithinAt
+pub mod CoordinateResidues
+pub mod ImageRows

@@ -1,19 +1,16 @@
 -- The preimage of an ideal of an order modulo a place, for the residue fields of a program.
-use Rattle.std.specs.Prelude.{◌≡◌, ◌++◌, ℕ, List, [], length}
-use Rattle.std.proofs.Common.{refl, sym, subst}
-use Rattle.std.proofs.lemmas.List.Elements.{All-get_or}
+use Rattle.std.specs.Prelude.{◌≡◌, ◌++◌, ℕ, List, []}
+use Rattle.std.proofs.Common.{refl, subst}
 use Rattle.theory_rings.specs.Ops.{Ops, FieldLaws}
-use Rattle.theory_spaces.specs.Tuples.{IsTuple}
-use Rattle.theory_tables.specs.Matrix.{IsMatrix, width_of}
-use Rattle.theory_tables.specs.Subspace.{InSpan}
-use Rattle.theory_tables.specs.Structure.{Structure, IsOver, IsAssociative}
+use Rattle.theory_tables.specs.Matrix.{IsMatrix}
+use Rattle.theory_tables.specs.Structure.{Structure}
 use Rattle.theory_tables.specs.Algebras.{SpansIdeal}
 use Rattle.theory_fractions.specs.Fraction.{Pair}
 use Rattle.theory_fractions.specs.FractionOps.{fraction_ops}
 use Rattle.theory_remainders.specs.RemainderOps.{remainder_ops}
 use Rattle.theory_remainders.proofs.RemainderField.{monic}
 use Rattle.theory_places.specs.FractionPlaces.{IsMonicIrreducible}
-use Rattle.theory_rows.specs.Rows.{IsPolynomialRow, IsPolynomialMatrix}
+use Rattle.theory_rows.specs.Rows.{IsPolynomialMatrix}
 use Rattle.theory_bases.specs.TupleLattices.{SameTupleLattice}
 use Rattle.theory_bases.specs.Bases.{BasisForm, IsBasis, IsPolynomialFraction, tuples_of}
 use Rattle.spl_field.specs.declared.small.SmallField.{SmallField}
@@ -21,7 +18,7 @@ use Rattle.spl_field.specs.SmallField.{small_ops, small_laws}
 use Rattle.spl_residue.specs.declared.field.ResidueField.{ResidueField}
 use Rattle.spl_residue.specs.Residue.{field_of, polynomial_of, residue_ops}
 use Rattle.spl_order.specs.Lifts.{combined_tuples, multiple_tuples}
-use Rattle.spl_order.specs.Residues.{AreProductResidues, IsResidueAlgebra, LiftsIdeal}
+use Rattle.spl_order.specs.Residues.{AreProductResidues, LiftsIdeal}
 use Rattle.spl_order.proofs.ResidueValues.{same_remainders}
 use Rattle.spl_order.proofs.IdealPreimages.{weights_matrix, preimages}
 

@@ -1,14 +1,13 @@
 -- The coordinates of the products of an order's tuples, and the residue tables that they make.
-use Rattle.std.specs.Prelude.{◌≡◌, ◌<◌, ℕ, List, [], length, get_or}
-use Rattle.std.proofs.Common.{sym, ◌∙◌, ap, subst, arith}
+use Rattle.std.specs.Prelude.{◌<◌, ℕ, List, [], length, get_or}
+use Rattle.std.proofs.Common.{◌∙◌, ap, subst, arith}
 use Rattle.theory_rings.specs.Ring.{FieldOn}
 use Rattle.theory_rings.specs.Ops.{Ops, FieldLaws}
 use Rattle.theory_rings.specs.Elements.{Elem, elements}
-use Rattle.theory_rings.specs.Sum.{at}
 use Rattle.theory_spaces.specs.Module.{ModuleOn}
 use Rattle.theory_spaces.specs.Linear.{Basis}
 use Rattle.theory_spaces.specs.Lattice.{LatticeOver}
-use Rattle.theory_spaces.specs.Tuples.{Tuple, IsTuple}
+use Rattle.theory_spaces.specs.Tuples.{Tuple}
 use Rattle.theory_spaces.proofs.Linear.Spaces.{Basis-coord}
 use Rattle.theory_spaces.proofs.Linear.LatticeSpans.{span-member}
 use Rattle.theory_spaces.proofs.Tuples.Tuples.{tuples}

@@ -1,17 +1,12 @@
 -- The coordinates of the products of a basis of tuples, from the numerators of the constants and of the basis and an
 -- inverse of the latter.
-use Rattle.std.specs.Prelude.{◌≡◌, ◌≢◌, ◌<◌, ◌+◌, ◌*◌, ◌/◌, ◌%◌, ℕ, Bool, true, false, List, [], length, get_or}
+use Rattle.std.specs.Prelude.{◌≡◌, ◌≢◌, ◌<◌, ◌+◌, ◌*◌, ◌/◌, ◌%◌, ℕ, Bool, true, false, List, [], get_or}
 use Rattle.std.specs.Prelude.{cond, nat_eq}
-use Rattle.std.proofs.Common.{refl, sym, ◌∙◌, ap, ap₂, subst, arith, ⊎_elim}
-use Rattle.std.proofs.lemmas.Bool.{cases_lt}
-use Rattle.std.proofs.lemmas.List.{get_or_past}
-use Rattle.std.proofs.lemmas.List.Elements.{All-nil}
-use Rattle.std.proofs.lemmas.Nat.{div-mul-add, mod-mul-add}
+use Rattle.std.proofs.Common.{refl, sym, ◌∙◌, ap, ap₂, arith}
 use Rattle.theory_rings.specs.Ops.{Ops, IsElem, FieldLaws}
 use Rattle.theory_rings.specs.Sum.{at, sum_of}
-use Rattle.theory_rings.proofs.Rings.Elements.{sum_of_congr, at-elem}
+use Rattle.theory_rings.proofs.Rings.Elements.{sum_of_congr}
 use Rattle.theory_spaces.specs.Tuples.{constant}
-use Rattle.theory_spaces.proofs.Matrices.PairIndex.{pair-lt}
 use Rattle.theory_spaces.proofs.Tuples.Tuples.{at-table}
 use Rattle.theory_tables.specs.Matrix.{entry}
 use Rattle.theory_tables.specs.Structure.{Structure, IsOver, product_of}
@@ -23,36 +18,25 @@ use Rattle.theory_fractions.proofs.CommonDenominators.{nonzero_of_monic}
 use Rattle.theory_fractions.proofs.ElementClauses.{zero_is, ne_zero}
 use Rattle.theory_fractions.proofs.PolynomialFractions.{as_fraction-elem}
 use Rattle.theory_bases.specs.Bases.{BasisForm, IsBasis, fraction_over, tuples_of}
-use Rattle.theory_bases.proofs.FractionsOver.{M, entry-tuples, count-tuples, mul-divided, over-elem}
+use Rattle.theory_bases.proofs.FractionsOver.{M, over-elem}
 use Rattle.theory_bases.proofs.IndependentRows.{rows_independent}
 use Rattle.theory_rows.specs.Rows.{RowsAreIndependent}
 use Rattle.spl_numerators.specs.Numerators.{AreNumerators}
 use Rattle.spl_numerators.specs.Sums.{fraction_at}
 use Rattle.spl_order.specs.Values.{HasRow, fraction_entry, IsScaledInverse}
 use Rattle.spl_order.specs.Coordinates.{scaled_coordinate, AreScaledCoordinates, AreCoordinatesOver}
+use Rattle.spl_order.proofs.ProductEntries.{polynomial_at, flat-elem, flat_entry, tuple_entry}
+use Rattle.spl_order.proofs.ProductEntries.{numerator-elem, denominator_nonzero, constant_entry}
 use Rattle.spl_order.proofs.CoordinateSums as sums
 
 module _ {E : Type 0} (o : Ops E) (L : FieldLaws o) where
-  -- an item of a list of polynomials, or 0
-  pub polynomial_at : (xs : List (List E)) → ((p : ℕ) → p < length xs → IsPolynomialList o (get_or xs p []))
-      → (p : ℕ) → IsPolynomialList o (get_or xs p [])
-  polynomial_at xs h p = ⊎_elim
-      (λ (l : p < length xs). h p l)
-      (λ l. subst (IsPolynomialList o) (sym (get_or_past xs p [] (omega (arith, l))))
-      (record { over = All-nil (IsElem o); trimmed = tt }))
-      (cases_lt p (length xs))
-
   unit_or_zero : (b : Bool) (s : List E)
       → as_fraction o (cond b s []) ≡ cond b (as_fraction o s) (let k : Ops (Pair E) = fraction_ops o L in k.zero)
   unit_or_zero true s = refl
   unit_or_zero false s = sym (zero_is o L)
 
 module _ {E : Type 0} (o : Ops E) (L : FieldLaws o) (n : ℕ) (b : BasisForm E) (B : IsBasis o L n b) where
-  -- a basis has as many rows as columns
-  pub square_count : length b.numerators ≡ n
-  square_count = sym (count-tuples o L b) ∙ (let i = B.independent in i.count)
-
-  -- and its rows are independent over the polynomials
+  -- the rows of a basis are independent over the polynomials
   pub numerators_free : RowsAreIndependent o b.numerators
   numerators_free = rows_independent o L n b B.polynomial
       (nonzero_of_monic o L b.denominator (let l = B.least in l.monic)) B.rows
@@ -97,44 +81,29 @@ module _ {E : Type 0} (o : Ops E) (L : FieldLaws o) (A : Structure (Pair E)) (ov
   abbrev fs : Pair E
   fs = as_fraction o s
 
-  at-elements : (xs : List (List E)) → ((p : ℕ) → p < length xs → IsPolynomialList o (get_or xs p [])) → (p : ℕ)
-      → IsElem k (fraction_at o L xs p)
-  at-elements xs h p = as_fraction-elem o L (get_or xs p []) (polynomial_at o L xs h p)
-
   hx : (i a : ℕ) → IsElem k (x i a)
-  hx i a = at-elements rows (λ p l. R.polynomials p (omega (arith, l, R.count))) (i * n + a)
+  hx = flat-elem o L n b.numerators rows R
 
   hy : (i a : ℕ) → IsElem k (y i a)
-  hy i a = at-elements columns (λ p l. C.polynomials p (omega (arith, l, C.count))) (i * n + a)
+  hy = flat-elem o L n inverse columns C
 
   hc : (a b t : ℕ) → IsElem k (c a b t)
-  hc a b t = let h = G.multiples in
-      at-elements entries (λ p l. h.polynomials p (omega (arith, l, h.count))) ((a * n + b) * n + t)
+  hc a b t = numerator-elem o L A over g entries G ((a * n + b) * n + t)
 
   g-list : IsPolynomialList o g
   g-list = G.over
 
   g-ne : g ≢ []
-  g-ne = nonzero_of_monic o L g (let h = G.common in h.monic)
+  g-ne = denominator_nonzero o L A over g entries G
 
   d-ne : d ≢ []
   d-ne = nonzero_of_monic o L d (let l = B.least in l.monic)
 
-  rows-count : length b.numerators ≡ n
-  rows-count = square_count o L n b B
-
-  x-is : (i a : ℕ) → i < n → a < n → x i a ≡ fraction_entry o b.numerators i a
-  x-is i a i_in a_in = R.values (i * n + a) (pair-lt n n i a i_in a_in)
-      ∙ ap₂ (fraction_entry o b.numerators) (div-mul-add i n a a_in) (mod-mul-add i n a a_in)
-
-  y-is : (i a : ℕ) → i < n → a < n → y i a ≡ fraction_entry o inverse i a
-  y-is i a i_in a_in = C.values (i * n + a) (pair-lt n n i a i_in a_in)
-      ∙ ap₂ (fraction_entry o inverse) (div-mul-add i n a a_in) (mod-mul-add i n a a_in)
-
   left : (i j : ℕ) → i < n → j < n → sum_of k n (λ l. k.mul (y i l) (x l j)) ≡ cond (nat_eq j i) fs k.zero
   left i j i_in j_in = sum_of_congr k n (λ l. k.mul (y i l) (x l j))
       (λ l. k.mul (fraction_entry o inverse i l) (fraction_entry o b.numerators l j))
-      (λ l l_in. ap₂ k.mul (y-is i l i_in l_in) (x-is l j l_in j_in))
+      (λ l l_in. ap₂ k.mul (flat_entry o L n inverse columns C i l i_in l_in)
+      (flat_entry o L n b.numerators rows R l j l_in j_in))
       ∙ I.left i j i_in j_in ∙ unit_or_zero o L (nat_eq j i) s
 
   hg : IsElem k fg
@@ -155,22 +124,12 @@ module _ {E : Type 0} (o : Ops E) (L : FieldLaws o) (A : Structure (Pair E)) (ov
   ns : fs ≢ k.zero
   ns = ne_zero o L fs I.nonzero
 
-  -- an entry of the tuples
   tuple-is : (i a : ℕ) → i < n → a < n → entry k T i a ≡ k.mul (x i a) (k.inv fd)
-  tuple-is i a i_in a_in = entry-tuples o L n b B.rows i a (omega (arith, i_in, rows-count)) a_in
-      ∙ ap (λ z. k.mul z (k.inv fd)) (sym (x-is i a i_in a_in))
+  tuple-is = tuple_entry o L n b B rows R
 
-  -- a constant
   constant-is : (a b t : ℕ) → a < n → b < n → t < n
       → constant k n A.constants a b t ≡ k.mul (c a b t) (k.inv fg)
-  constant-is a b t a_in b_in t_in =
-      let p = (a * n + b) * n + t in
-      let z = at k A.constants p in
-      let hz : IsElem k z = at-elem k laws A.constants over.of_elements p in
-      let h = G.multiples in
-      sym (mul-divided o L g g-list g-ne z hz)
-      ∙ ap (λ u. k.mul u (k.inv fg)) (laws.mul_comm z fg hz hg
-      ∙ sym (h.multiple p (pair-lt (n * n) n (a * n + b) t (pair-lt n n a b a_in b_in) t_in)))
+  constant-is = constant_entry o L A over g entries G
 
   module _ (scale : List E) (h-scale : IsPolynomialList o scale)
       (scale-is : as_fraction o scale ≡ k.mul (k.mul fg fd) fs) (items : List (List E))

@@ -11,7 +11,6 @@ use Rattle.theory_rings.specs.Polynomial.{Poly}
 use Rattle.theory_rings.specs.Division.{Divides}
 use Rattle.theory_rings.specs.Fraction.{IsLowest, IsValue}
 use Rattle.theory_rings.proofs.Rings.LawsProof.{laws_unique}
-use Rattle.theory_rings.proofs.Rings.RingLaws.{zero-mul}
 use Rattle.theory_rings.proofs.Polynomials.Bezout.{field_polynomials}
 use Rattle.theory_rings.proofs.Fractions.Lowest.{rational_functions, is_rational_functions}
 use Rattle.theory_lattices.specs.RationalFunctions.{Rational}

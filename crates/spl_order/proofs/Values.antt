@@ -1,6 +1,6 @@
 -- How rows and matrices of polynomials with given values grow.
 use Rattle.std.specs.Prelude.{◌≡◌, ℕ, ◌+◌, ◌<◌, List, [], ◌∷◌, ◌++◌, length, get_or}
-use Rattle.std.proofs.Common.{sym, ◌∙◌, ap, subst, arith, length-append}
+use Rattle.std.proofs.Common.{sym, ◌∙◌, ap, subst, arith, ext_get_or, length-append}
 use Rattle.std.specs.List.{All}
 use Rattle.std.proofs.lemmas.List.{get_or_default}
 use Rattle.std.proofs.lemmas.List.Elements.{All-from_get_or}
@@ -51,6 +51,12 @@ module _ {E : Type 0} (o : Ops E) where
     trimmed = All-from_get_or (IsTrimmed o.zero) row []
         (λ j l. let p = h.polynomials j (omega (arith, l, h.count)) in p.trimmed);
   }
+
+  -- the values say what the polynomials are
+  pub row_unique : (value : ℕ → Pair E) (w : ℕ) (a b : List (List E)) → HasRow o value w a → HasRow o value w b → a ≡ b
+  row_unique value w a b ha hb = ext_get_or [] a b (ha.count ∙ sym hb.count) (λ j l.
+      let j_in : j < w = omega (arith, l, ha.count) in
+      ap (λ (p : Pair E). p.0) (ha.values j j_in ∙ sym (hb.values j j_in)))
 
   pub matrix_is : (value : ℕ → ℕ → Pair E) (h w : ℕ) (rows : List (List (List E))) → HasMatrix o value h w rows
       → IsPolynomialMatrix o w rows

@@ -1,8 +1,8 @@
 -- The coordinates of the products of a basis of tuples in this basis, as polynomials over one denominator.
-use Rattle.std.specs.Prelude.{◌≡◌, ◌<◌, ◌+◌, ◌*◌, ◌/◌, ◌%◌, ℕ, List, [], length, get_or}
+use Rattle.std.specs.Prelude.{◌≡◌, ◌<◌, ◌+◌, ◌*◌, ◌/◌, ◌%◌, ℕ, List, [], length, get_or, map, take, drop}
 use Rattle.theory_rings.specs.Ops.{Ops, FieldLaws}
 use Rattle.theory_rings.specs.Sum.{sum_of}
-use Rattle.theory_tables.specs.Structure.{Structure}
+use Rattle.theory_tables.specs.Structure.{Structure, product_of}
 use Rattle.theory_fractions.specs.PolynomialLists.{IsPolynomialList}
 use Rattle.theory_fractions.specs.Fraction.{Pair}
 use Rattle.theory_fractions.specs.FractionOps.{fraction_ops}
@@ -11,20 +11,35 @@ use Rattle.theory_bases.specs.Bases.{fraction_over}
 use Rattle.theory_left_orders.specs.TupleResidues.{AreProductCoordinates}
 use Rattle.spl_numerators.specs.Sums.{fraction_at, sum_of_products}
 
-module _ {E : Type 0} (o : Ops E) (n : ℕ) (x y : ℕ → ℕ → E) (c : ℕ → ℕ → ℕ → E) where
-  -- entry t of the product of the rows i and j of x, by the structure constants c
-  abbrev pub row_products : ℕ → ℕ → ℕ → E
-  row_products i j t = sum_of o n (λ b. o.mul (x j b) (sum_of o n (λ a. o.mul (x i a) (c a b t))))
+-- the row i, where n items stand in each row of a list
+abbrev pub row_at : {X : Type 0} → ℕ → List X → ℕ → List X
+row_at n items i = take n (drop (i * n) items)
 
-  -- entry l of this product times the matrix y
+module _ {E : Type 0} (o : Ops E) (n : ℕ) (x z : ℕ → ℕ → E) (c : ℕ → ℕ → ℕ → E) where
+  -- entry t of the product of the row i of x and the row j of z, by the structure constants c
+  abbrev pub row_products : ℕ → ℕ → ℕ → E
+  row_products i j t = sum_of o n (λ b. o.mul (z j b) (sum_of o n (λ a. o.mul (x i a) (c a b t))))
+
+module _ {E : Type 0} (o : Ops E) (n : ℕ) (x y : ℕ → ℕ → E) (c : ℕ → ℕ → ℕ → E) where
+  -- entry l of the product of the rows i and j of x times the matrix y
   abbrev pub scaled_coordinate : ℕ → ℕ → ℕ → E
-  scaled_coordinate i j l = sum_of o n (λ t. o.mul (row_products i j t) (y t l))
+  scaled_coordinate i j l = sum_of o n (λ t. o.mul (row_products o n x x c i j t) (y t l))
 
 module _ {E : Type 0} (o : Ops E) (L : FieldLaws o) where
   -- where a is an h by n matrix and b has n by w matrices, one after the other, each row by row: the item p of the
   -- products of a and each of these
   abbrev pub block_item : (a b : List (List E)) → (h n w p : ℕ) → Pair E
   block_item a b h n w p = sum_of_products o L a b n ((p / w % h) * n) ((p / (h * w)) * (n * w) + p % w) w
+
+  -- n³ polynomials, that of i, j and t at (i·n + j)·n + t: entry t of the product of row i of n rows and row j of
+  -- others, by lists of n² and n³ polynomials
+  pub record AreRowProducts (n : ℕ) (lefts rights constants items : List (List E)) : Type 0 where
+    pub count : length items ≡ n * n * n
+    pub polynomials : (p : ℕ) → p < n * n * n → IsPolynomialList o (get_or items p [])
+    pub values : (i j t : ℕ) → i < n → j < n → t < n
+        → fraction_at o L items ((i * n + j) * n + t) ≡ row_products (fraction_ops o L) n
+        (λ i a. fraction_at o L lefts (i * n + a)) (λ j b. fraction_at o L rights (j * n + b))
+        (λ a b t. fraction_at o L constants ((a * n + b) * n + t)) i j t
 
   -- n³ polynomials, that of i, j and l at (i·n + j)·n + l: the scaled coordinates by lists of n² and n³ polynomials
   pub record AreScaledCoordinates (n : ℕ) (rows columns constants items : List (List E)) : Type 0 where
@@ -45,3 +60,18 @@ module _ {E : Type 0} (o : Ops E) (L : FieldLaws o) where
     pub polynomials : (p : ℕ) → p < A.dim * A.dim * A.dim → IsPolynomialList o (get_or items p [])
     pub coordinates : AreProductCoordinates (fraction_ops o L) A tuples
         (λ i j l. fraction_over o L scale (get_or items ((i * A.dim + j) * A.dim + l) []))
+
+  -- the tuple of the row i over scale
+  abbrev pub tuple_at : List E → ℕ → List (List E) → ℕ → List (Pair E)
+  tuple_at scale n items i = map (fraction_over o L scale) (row_at n items i)
+
+  -- the polynomials over scale, which is not 0, are the products of tuples: that of i and j is the row i·n + j
+  pub record AreProductsOver (A : Structure (Pair E)) (lefts rights : List (List (Pair E))) (scale : List E)
+      (items : List (List E)) : Type 0 where
+    pub polynomial : IsPolynomialList o scale
+    pub nonzero : scale ≡ [] → ⊥
+    pub count : length items ≡ A.dim * A.dim * A.dim
+    pub polynomials : (p : ℕ) → p < A.dim * A.dim * A.dim → IsPolynomialList o (get_or items p [])
+    pub products : (i j : ℕ) → i < A.dim → j < A.dim
+        → product_of (fraction_ops o L) A (get_or lefts i []) (get_or rights j [])
+        ≡ tuple_at scale A.dim items (i * A.dim + j)

@@ -9,7 +9,8 @@ ghost use Rattle.theory_tables.specs.Structure.{IsOver};
 ghost use Rattle.theory_bases.specs.Bases.{IsBasis, tuples_of};
 ghost use Rattle.spl_numerators.specs.Numerators.{AreNumerators};
 ghost use Rattle.spl_order.specs.Values.{HasRow, fraction_entry};
-ghost use Rattle.spl_order.specs.Coordinates.{block_item, AreScaledCoordinates, AreCoordinatesOver};
+ghost use Rattle.spl_order.specs.Coordinates.{block_item, AreRowProducts, AreProductsOver};
+ghost use Rattle.spl_order.specs.Coordinates.{AreScaledCoordinates, AreCoordinatesOver};
 
 use crate::basis::Basis;
 use crate::inverse::inverse_rows;
@@ -32,7 +33,12 @@ pub(crate) struct Coordinates {
 }
 
 /// The entries of the rows, which have w columns, one row after the other.
-fn flat(alloc: Global, f: &SmallField, rows: &[PolyRow], w: usize) -> Result<PolyRow, NoMemory>
+pub(crate) fn flat(
+    alloc: Global,
+    f: &SmallField,
+    rows: &[PolyRow],
+    w: usize,
+) -> Result<PolyRow, NoMemory>
     requires rows { IsPolynomialMatrix (small_ops f.now) w rows.now }
     requires fits { length rows.now * w < 2 ^ 64 }
     ensures { IfOk result (HasRow (small_ops f.now)
@@ -106,6 +112,32 @@ fn block_products(
     Ok(items)
 }
 
+/// The products of n rows and n others, by the constants.
+fn products_of_rows(
+    alloc: Global,
+    f: &SmallField,
+    n: usize,
+    lefts: &[Poly],
+    rights: &[Poly],
+    constants: &[Poly],
+) -> Result<PolyRow, NoMemory>
+    requires fits { n * n * n < 2 ^ 64 }
+    requires positive { 1 ≤ n }
+    requires lefts_count { length lefts.now ≡ n * n }
+    requires rights_count { length rights.now ≡ n * n }
+    requires constants_count { length constants.now ≡ n * n * n }
+    requires lefts { (p : ℕ) → p < length lefts.now → IsPolynomialList (small_ops f.now) (get_or lefts.now p []) }
+    requires rights { (p : ℕ) → p < length rights.now → IsPolynomialList (small_ops f.now) (get_or rights.now p []) }
+    requires constants { (p : ℕ) → p < length constants.now
+        → IsPolynomialList (small_ops f.now) (get_or constants.now p []) }
+    ensures { IfOk result (AreRowProducts (small_ops f.now) (small_laws f.now) n lefts.now rights.now
+        constants.now) }
+{
+    let sums = block_products(alloc, f, lefts, constants, n, n, n * n, 1)?;
+    let products = block_products(alloc, f, rights, sums.as_slice(), n, n, n, n)?;
+    Ok(products)
+}
+
 /// The scaled coordinates of the products of n rows, by the constants and n columns.
 fn scaled_coordinates(
     alloc: Global,
@@ -128,10 +160,8 @@ fn scaled_coordinates(
     ensures { IfOk result (AreScaledCoordinates (small_ops f.now) (small_laws f.now) n rows.now columns.now
         constants.now) }
 {
-    let m = n * n;
-    let lefts = block_products(alloc, f, rows, constants, n, n, m, 1)?;
-    let products = block_products(alloc, f, rows, lefts.as_slice(), n, n, n, n)?;
-    let items = block_products(alloc, f, products.as_slice(), columns, m, n, n, 1)?;
+    let products = products_of_rows(alloc, f, n, rows, rows, constants)?;
+    let items = block_products(alloc, f, products.as_slice(), columns, n * n, n, n, 1)?;
     Ok(items)
 }
 
@@ -163,6 +193,41 @@ pub(crate) fn product_coordinates(
         n,
         rows.as_slice(),
         columns.as_slice(),
+        numerators.entries.as_slice(),
+    )?;
+    Ok(Coordinates { scale, items })
+}
+
+/// The products of the tuples of two bases, where the constants are those polynomials over one denominator.
+pub(crate) fn products_over(
+    alloc: Global,
+    f: &SmallField,
+    a: &Algebra<Fractions>,
+    numerators: &Numerators,
+    left: &Basis,
+    right: &Basis,
+) -> Result<Coordinates, NoMemory>
+    requires over { IsOver (fractions_over f.now) a.now }
+    requires numerators { AreNumerators (small_ops f.now) (small_laws f.now) numerators.now.denominator a.now
+        numerators.now.entries }
+    requires left { IsBasis (small_ops f.now) (small_laws f.now) a.now.dim left.now }
+    requires right { IsBasis (small_ops f.now) (small_laws f.now) a.now.dim right.now }
+    ensures { IfOk result (λ r. AreProductsOver (small_ops f.now) (small_laws f.now) a.now
+        (tuples_of (small_ops f.now) (small_laws f.now) left.now)
+        (tuples_of (small_ops f.now) (small_laws f.now) right.now) r.scale r.items) }
+{
+    let _ = a.constants();
+    let n = a.dim();
+    let denominator = left.denominator().mul(alloc, f, right.denominator())?;
+    let scale = denominator.mul(alloc, f, &numerators.denominator)?;
+    let lefts = flat(alloc, f, left.numerators().as_slice(), n)?;
+    let rights = flat(alloc, f, right.numerators().as_slice(), n)?;
+    let items = products_of_rows(
+        alloc,
+        f,
+        n,
+        lefts.as_slice(),
+        rights.as_slice(),
         numerators.entries.as_slice(),
     )?;
     Ok(Coordinates { scale, items })

@@ -7,18 +7,22 @@
 
 pub mod bad_places;
 pub mod basis;
+mod columns;
 mod coordinates;
 mod copies;
 mod denominators;
 pub mod forms;
 mod fractions;
+pub mod images;
 mod inverse;
 mod lattice_bases;
 pub mod left_order;
 pub mod lift_ideal;
 mod lifts;
 mod matrices;
+mod members_at;
 mod numerators;
+mod place_parts;
 pub mod powers;
 mod product_matrices;
 pub mod reduction;
@@ -27,3 +31,4 @@ pub mod start;
 pub mod swap;
 mod units;
 pub mod within;
+pub mod within_at;

@@ -52,7 +52,7 @@ fn dot(
 }
 
 /// The combination of the rows, which have w entries, by the items of a row.
-fn product_row(
+pub(crate) fn product_row(
     alloc: Global,
     f: &SmallField,
     row: &[Poly],

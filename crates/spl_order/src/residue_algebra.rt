@@ -27,7 +27,7 @@ use spl_residue::field::ResidueField;
 use std::alloc::Global;
 
 /// The residues of the polynomials over the denominator, which are integral.
-fn residues_over(
+pub(crate) fn residues_over(
     alloc: Global,
     f: &Fractions,
     k: &ResidueField,

@@ -1,26 +1,18 @@
 -- The conditions on the tuples of an order and its radical at a ramified place, in the order in which they are checked,
 -- and the first of them that fails. (Reiner, Maximal Orders, section 39.)
-use Rattle.std.specs.Prelude.{◌≡◌, ◌⊎◌, List, [], ◌∷◌, Option, None, Some, ℕ}
+use Rattle.std.specs.Prelude.{◌≡◌, ◌⊎◌, List, [], ◌∷◌, Option, None, Some}
 use Rattle.theory_rings.specs.Ops.{Ops, FieldLaws}
 use Rattle.theory_tables.specs.Structure.{Structure, IsAssociative}
 use Rattle.theory_tables.specs.Algebras.{HasIdentity}
 use Rattle.theory_fractions.specs.Fraction.{Pair}
 use Rattle.theory_fractions.specs.FractionOps.{fraction_ops}
-use Rattle.theory_places.specs.Places as places
 use Rattle.theory_places.specs.Places.{PlaceOf}
 use Rattle.theory_places.specs.FractionPlaces.{IsPlace}
 use Rattle.theory_bases.specs.TupleLattices.{AreIndependentTuples}
 use Rattle.theory_ramified.specs.Conditions.{HoldsIdentity, IsClosed, IsInside, AbsorbsProducts, HoldsMultiple}
 use Rattle.theory_ramified.specs.Conditions.{SomePowerFalls, IsSimpleOver, IsLeftOrder, IsNotMultiple}
-use Rattle.spl_fraction.specs.declared.place.Place.{Place}
-use Rattle.spl_fraction.specs.declared.place.Place.TheVariants.{Finite, Infinity}
 use Rattle.spl_ramified.specs.declared.fault.RamifiedFault.{RamifiedFault}
 use Rattle.spl_ramified.specs.declared.fault.RamifiedFault.TheVariants as faults
-
--- the place as one of the rational functions
-abbrev pub place_of : Place → PlaceOf (List ℕ)
-place_of (Finite p) = places.Finite p
-place_of Infinity = places.Infinite
 
 -- a condition, and the fault by which its failure is told
 pub record Condition : Type 1 where

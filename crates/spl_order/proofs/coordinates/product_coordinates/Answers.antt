@@ -7,7 +7,8 @@ use Rattle.theory_fractions.proofs.PolynomialFractions.{as_fraction-mul}
 use Rattle.theory_rows.specs.Rows.{IsPolynomialMatrix, RowsAreIndependent}
 use Rattle.spl_order.specs.Values.{HasRow, IsScaledInverse, fraction_entry}
 use Rattle.spl_order.specs.Coordinates.{AreScaledCoordinates}
-use Rattle.spl_order.proofs.ProductItems.{numerators_free, square_count, coordinates_over}
+use Rattle.spl_order.proofs.ProductEntries.{square_count}
+use Rattle.spl_order.proofs.ProductItems.{numerators_free, coordinates_over}
 use Rattle.spl_order.proofs.coordinates.product_coordinates.Goals as goal
 
 pub inverse_rows-requires-clause-rows : goal.inverse_rows-requires-clause-rows

@@ -10,13 +10,9 @@ returns c =
     let o = small_ops c.args.f.now in
     let L = small_laws c.args.f.now in
     let n = c.args.n in
-    let rows = c.args.rows.now in
     let columns = c.args.columns.now in
-    let lefts = c.in_ok-lefts.lefts in
     let products = c.in_ok-products.products in
     let items = c.in_ok-items.items in
-    three_products o L n rows columns c.args.constants.now lefts products items c.in_ok-lefts.ensures
-    (subst (λ x. HasRow o (block_item o L rows x n n n) (n * (n * n)) products) c.as_slice.ensures
-    c.in_ok-products.ensures)
-    (subst (λ x. HasRow o (block_item o L x columns (n * n) n n) (1 * (n * n * n)) items) c.as_slice-2.ensures
+    three_products o L n c.args.rows.now columns c.args.constants.now products items c.in_ok-products.ensures
+    (subst (λ x. HasRow o (block_item o L x columns (n * n) n n) (1 * (n * n * n)) items) c.as_slice.ensures
     c.in_ok-items.ensures)

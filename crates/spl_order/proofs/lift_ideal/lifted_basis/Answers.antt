@@ -1,4 +1,4 @@
-use Rattle.std.proofs.Common.{◌++◌, [], subst, sym, ap, ◌∙◌, All}
+use Rattle.std.proofs.Common.{◌++◌, subst, sym, ◌∙◌, All}
 use Rattle.theory_rings.specs.Ops.{IsElem}
 use Rattle.spl_field.specs.SmallField.{small_ops, small_laws}
 use Rattle.spl_residue.specs.Residue.{polynomial_of, residue_ops}

@@ -1,11 +1,10 @@
-use Rattle.std.proofs.Common.{◌<◌, ◌+◌, [], get_or, length, ◌∙◌, ap, subst, sym, arith}
+use Rattle.std.proofs.Common.{[], ◌∙◌, ap, subst, sym}
 use Rattle.std.proofs.lemmas.List.{get_or_default}
 use Rattle.theory_rings.specs.Ops.{IsElem}
 use Rattle.spl_field.specs.SmallField.{small_ops, small_laws}
 use Rattle.spl_fraction.specs.Fractions.{field_of}
 use Rattle.spl_fraction.specs.FractionsOver.{fractions_over}
 use Rattle.spl_residue.specs.Residue.{polynomial_of, residue_ops}
-use Rattle.theory_fractions.specs.PolynomialLists.{IsPolynomialList}
 use Rattle.theory_places.specs.Places.{Finite}
 use Rattle.theory_places.specs.FractionPlaces.{IsIntegralAt}
 use Rattle.theory_reductions.specs.Reductions.{IsResidueOf}
