@@ -42,3 +42,6 @@ pub mod MemberTests
 pub mod WithinAt
 pub mod CoordinateResidues
 pub mod ImageRows
+pub mod TestLoops
+pub mod ProductTests
+pub mod InfiniteOrders

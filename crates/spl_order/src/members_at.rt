@@ -1,8 +1,10 @@
 // Whether tuples are in the lattice of a basis at a finite place.
 ghost use Rattle.std.specs.Prelude.{◌≡◌, ◌≢◌, ◌↔◌, ℕ, List, [], length, map, IfOk, IsTrue};
 ghost use Rattle.spl_field.specs.SmallField.{small_ops, small_laws};
+ghost use Rattle.spl_fraction.specs.Fractions.{field_of};
 ghost use Rattle.spl_fraction.specs.FractionsOver.{fractions_over};
 ghost use Rattle.theory_fractions.specs.PolynomialLists.{IsPolynomialList};
+ghost use Rattle.theory_spaces.specs.Tuples.{IsTuple};
 ghost use Rattle.theory_places.specs.Places.{Finite};
 ghost use Rattle.theory_places.specs.FractionPlaces.{IsIntegralAt, IsMonicIrreducible};
 ghost use Rattle.theory_rows.specs.Rows.{IsPolynomialRow, IsPolynomialMatrix};
@@ -16,7 +18,10 @@ use crate::matrices::product_row;
 use crate::place_parts::{divides_all, place_part};
 use spl_field::field::NoMemory;
 use spl_field::small::SmallField;
+use spl_fraction::field::Fractions;
+use spl_fraction::fraction::Fraction;
 use spl_lattice::matrix::PolyMatrix;
+use spl_numerators::numerators::multiples_of;
 use spl_poly::poly::Poly;
 use std::alloc::Global;
 
@@ -78,5 +83,27 @@ pub(crate) fn passes(
 {
     let items = product_row(alloc, f, row, test.columns.as_slice(), n)?;
     let passed = divides_all(alloc, f, &test.part, items.as_slice())?;
+    Ok(passed)
+}
+
+/// Whether a tuple of fractions is in the lattice of a basis at a finite place. The one fault is want of memory.
+pub fn holds_at(
+    alloc: Global,
+    f: &Fractions,
+    order: &Basis,
+    v: &[Fraction],
+    place: &Poly,
+) -> Result<bool, NoMemory>
+    requires order { IsBasis (small_ops (field_of f.now)) (small_laws (field_of f.now)) (length v.now) order.now }
+    requires v { IsTuple (fractions_over (field_of f.now)) (length v.now) v.now }
+    requires place { IsMonicIrreducible (small_ops (field_of f.now)) place.now }
+    ensures { IfOk result (λ r. IsTrue r ↔ TupleLattice (fractions_over (field_of f.now))
+        (IsIntegralAt (small_ops (field_of f.now)) (Finite place.now)) (length v.now)
+        (tuples_of (small_ops (field_of f.now)) (small_laws (field_of f.now)) order.now) v.now) }
+{
+    let denominator = f.common_denominator(alloc, v)?;
+    let row = multiples_of(alloc, f.field(), &denominator, v)?;
+    let test = member_test(alloc, f.field(), order, v.len(), &denominator, place)?;
+    let passed = passes(alloc, f.field(), &test, v.len(), row.as_slice())?;
     Ok(passed)
 }
