@@ -14,7 +14,7 @@ ghost use Rattle.theory_bases.specs.TupleLattices.{TupleLattice, SpanOrder};
 ghost use Rattle.theory_bases.specs.Bases.{IsBasis, tuples_of};
 ghost use Rattle.spl_order.specs.Coordinates.{row_at};
 ghost use Rattle.spl_order.specs.Members.{HasDividedProduct};
-ghost use Rattle.spl_order.specs.Places.{place_of};
+ghost use Rattle.spl_fraction.specs.Place.{place_of};
 
 use crate::basis::Basis;
 use crate::coordinates::products_over;

@@ -4,7 +4,7 @@ ghost use Rattle.spl_field.specs.SmallField.{small_ops};
 ghost use Rattle.theory_fractions.specs.PolynomialLists as polynomials;
 ghost use Rattle.theory_places.specs.FractionPlaces.{IsPlace, IsMonicIrreducible};
 ghost use Rattle.spl_fraction.specs.declared.place.Place.TheVariants.{Finite};
-ghost use Rattle.spl_order.specs.Places.{place_of};
+ghost use Rattle.spl_fraction.specs.Place.{place_of};
 
 use spl_field::field::NoMemory;
 use spl_field::small::SmallField;

@@ -5,7 +5,7 @@ use Rattle.spl_fraction.specs.FractionsOver.{fractions_over}
 use Rattle.theory_places.specs.FractionPlaces.{IsIntegralAt}
 use Rattle.theory_bases.specs.TupleLattices.{SpanOrder}
 use Rattle.theory_bases.specs.Bases.{tuples_of}
-use Rattle.spl_order.specs.Places.{place_of}
+use Rattle.spl_fraction.specs.Place.{place_of}
 use Rattle.spl_order.proofs.orders_at.is_order_at.Goals as goal
 
 pub returns-in-Finite : goal.returns-in-Finite
