@@ -33,7 +33,7 @@ module _ (f : SmallField) where
   abbrev P : CommRingOn (Poly (field f).cring)
   P = ring f
 
-  has-product : (xs : Powers) → AreFactors o xs
+  pub has-product : (xs : Powers) → AreFactors o xs
       → HasCoefficients o L (product_of_powers f xs) (product_coefficients o xs)
   has-product [] t = has-one o L
   has-product (y ∷ ys) t =

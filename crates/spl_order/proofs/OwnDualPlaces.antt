@@ -69,7 +69,7 @@ module _ {E : Type 0} (o : Ops E) (L : FieldLaws o) (A : Structure (Pair E)) (ov
         (gram_in k laws (IsPolynomialFraction o) (polynomials_are_subring o L) A over assoc rows free closed i j i_in
         j_in)
 
-    own_dual : (Divides o m d → ⊥) → IsTraceDualOfItself k A IsLoc rows
+    pub own_dual : (Divides o m d → ⊥) → IsTraceDualOfItself k A IsLoc rows
     own_dual n =
         let I = D.is_inverse in
         own_dual_of_inverse k laws IsLoc subring A over assoc rows free D.inverse I gram_loc (λ i j i_in j_in.

@@ -20,8 +20,8 @@ use spl_fraction::fraction::Fraction;
 use spl_fraction::tuples::{Tuple, Tuples};
 use std::alloc::Global;
 
-/// The fractions with 1/x put for x.
-fn swapped_tuple(alloc: Global, f: &Fractions, items: &[Fraction]) -> Result<Tuple, NoMemory>
+/// The fractions with 1/x put for x. The one fault is want of memory.
+pub fn swapped_tuple(alloc: Global, f: &Fractions, items: &[Fraction]) -> Result<Tuple, NoMemory>
     requires { All (IsElem (fractions_over (field_of f.now))) items.now }
     ensures elems { IfOk result (All (IsElem (fractions_over (field_of f.now)))) }
     ensures value { IfOk result (AllZip (IsSwapped (small_ops (field_of f.now))) items.now) }
@@ -33,8 +33,8 @@ fn swapped_tuple(alloc: Global, f: &Fractions, items: &[Fraction]) -> Result<Tup
     Ok(tuple)
 }
 
-/// The tuples with 1/x put for x.
-fn swapped_tuples(alloc: Global, f: &Fractions, rows: &[Tuple]) -> Result<Tuples, NoMemory>
+/// The tuples with 1/x put for x. The one fault is want of memory.
+pub fn swapped_tuples(alloc: Global, f: &Fractions, rows: &[Tuple]) -> Result<Tuples, NoMemory>
     requires { All (All (IsElem (fractions_over (field_of f.now)))) rows.now }
     ensures elems { IfOk result (All (All (IsElem (fractions_over (field_of f.now))))) }
     ensures value { IfOk result (AllZip (AllZip (IsSwapped (small_ops (field_of f.now)))) rows.now) }

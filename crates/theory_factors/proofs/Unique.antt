@@ -25,11 +25,11 @@ module _ {K : Type 0} (F : FieldOn K) where
   P = field_polynomials F
 
   -- an irreducible polynomial does not divide 1
-  not_divides_one : (g : Poly R) → IsIrreducible R P g → Divides P g P.one → ⊥
+  pub not_divides_one : (g : Poly R) → IsIrreducible R P g → Divides P g P.one → ⊥
   not_divides_one g i d = omega (arith, degree_of_divides_one F g d, i.positive)
 
   -- one that divides a power divides what it is a power of
-  divides_of_power : (g f : Poly R) → IsIrreducible R P g → (n : ℕ) → Divides P g (power P.ring f n) → Divides P g f
+  pub divides_of_power : (g f : Poly R) → IsIrreducible R P g → (n : ℕ) → Divides P g (power P.ring f n) → Divides P g f
   divides_of_power g f i zero d = absurd (not_divides_one g i d)
   divides_of_power g f i (suc n) d = ⊎_elim
       (λ (h : Divides P g f). h)
@@ -37,7 +37,7 @@ module _ {K : Type 0} (F : FieldOn K) where
       (irreducible_prime F g i f (power P.ring f n) d)
 
   -- monic irreducible polynomials one of which divides the other are one
-  same_of_divides : (g f : Poly R) → IsMonic R g → IsMonic R f → IsIrreducible R P g → IsIrreducible R P f
+  pub same_of_divides : (g f : Poly R) → IsMonic R g → IsMonic R f → IsIrreducible R P g → IsIrreducible R P f
       → Divides P g f → g ≡ f
   same_of_divides g f mg mf ig jf d = ⊎_elim
       (λ (e : Divides P f g). monic_eq_of_divides F g f mg mf d e)
