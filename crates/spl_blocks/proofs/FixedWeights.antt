@@ -1,7 +1,7 @@
 -- The weights that solve the equations of z^q = z for a basis of the centre, over a field of q elements, are as many as
--- the solutions of z^q = z in the centre have dimensions.
+-- the solutions of z^q = z in the centre have dimensions. The weights that solve those of z^q = 0.
 use Rattle.std.specs.Prelude.{◌≡◌, ◌↔◌, ◌<◌, ◌^◌, ℕ, List, [], length, get_or}
-use Rattle.std.proofs.Common.{refl, sym, ◌∙◌, ap, ap₂, subst}
+use Rattle.std.proofs.Common.{refl, sym, ◌∙◌, ap, ap₂, subst, arith}
 use Rattle.theory_rings.specs.Ring.{FieldOn}
 use Rattle.theory_rings.specs.Ops.{Ops, IsElem, FieldLaws}
 use Rattle.theory_rings.specs.Elements.{Elem}
@@ -31,11 +31,11 @@ use Rattle.theory_blocks.proofs.Commutative.FixedPoints.{size_pos}
 use Rattle.theory_blocks.proofs.Ideals.Centres.{centre_submodule}
 use Rattle.spl_algebra.specs.Subspaces.{SpansCentre}
 use Rattle.spl_blocks.specs.Blocks.{IsUnital}
-use Rattle.spl_blocks.specs.Fixed.{less_self, power_equations}
+use Rattle.spl_blocks.specs.Fixed.{power_in, less_self, coordinate_equations, power_equations, nilpotent_equations}
 use Rattle.spl_blocks.specs.Splits.{combination_of}
 use Rattle.spl_blocks.proofs.Tables.{V, K, A, A_is, M, A_basis, V-path, power-is, family, family-is, to_rows, from_rows}
 use Rattle.spl_blocks.proofs.Tables.{rows_independent, to_centre, from_centre}
-use Rattle.spl_blocks.proofs.FixedSpace.{less, fixed_iff}
+use Rattle.spl_blocks.proofs.FixedSpace.{less, power-comb, fixed_iff}
 
 module _ {E : Type 0} (o : Ops E) (L : FieldLaws o) (T : Structure E) (u : IsUnital o T) (N : Enumerated (Elem o))
     (p e : ℕ) (prime : IsPrime p) (char : times (K o L T u).monoid p (K o L T u).one ≡ (K o L T u).zero)
@@ -79,10 +79,10 @@ module _ {E : Type 0} (o : Ops E) (L : FieldLaws o) (T : Structure E) (u : IsUni
     abbrev eqs : List (List E)
     eqs = power_equations o T q centre
 
-    abbrev Y : ModuleOn F.ring (Tuple o r)
+    abbrev pub Y : ModuleOn F.ring (Tuple o r)
     Y = tuples o L r
 
-    abbrev S : SpaceOn Y r
+    abbrev pub S : SpaceOn Y r
     S = tuple_space o L r
 
     coord-is : (w : Tuple o r) (i : ℕ) → (S.coord w i).0 ≡ at o w.0 i
@@ -93,36 +93,53 @@ module _ {E : Type 0} (o : Ops E) (L : FieldLaws o) (T : Structure E) (u : IsUni
     abbrev pub G : Tuple o r → V o L T u
     G w = comb X r (S.coord w) z
 
-    equation-is : (w : Tuple o r) (j : ℕ) → j < m
-        → sum_of o r (λ i. o.mul (entry o eqs j i) (at o w.0 i)) ≡ at o (comb X r (S.coord w) y).0 j
-    unfolding tuple_algebra
-    equation-is w j l =
-        sum_of_congr o r (λ i. o.mul (entry o eqs j i) (at o w.0 i)) (λ i. o.mul (S.coord w i).0 (at o (y i).0 j))
-        (λ i g.
-        let a = at o (y i).0 j in
-        let is : entry o eqs j i ≡ a = entry_table o L m r
-        (λ j i. at o (less_self o T q (get_or centre i [])) j) j i l g
-        ∙ ap (λ xs. at o xs j) (sym (y-is i g)) in
-        ap₂ o.mul is (sym (coord-is w i))
-        ∙ L.mul_comm a (S.coord w i).0 (at-elem o L (y i).0 (let h = IsTuple-of o L m (y i) in h.of_elements) j)
-        (S.coord w i).1)
-        ∙ sym (comb-at o L m r (S.coord w) y j l)
-
     zero_at : (j : ℕ) → j < m → at o B.zero.0 j ≡ o.zero
     unfolding tuple_algebra
     zero_at j l = zero-at o L m j l
 
+    -- the equations of the vectors y by their coordinates
+    module _ (g : ℕ → List E) (y : ℕ → V o L T u) (y-is : (i : ℕ) → i < r → (y i).0 ≡ g i) where
+      equation-is : (w : Tuple o r) (j : ℕ) → j < m
+          → sum_of o r (λ i. o.mul (entry o (coordinate_equations o T r g) j i) (at o w.0 i))
+          ≡ at o (comb X r (S.coord w) y).0 j
+      unfolding tuple_algebra
+      equation-is w j l =
+          sum_of_congr o r (λ i. o.mul (entry o (coordinate_equations o T r g) j i) (at o w.0 i))
+          (λ i. o.mul (S.coord w i).0 (at o (y i).0 j))
+          (λ i h.
+          let a = at o (y i).0 j in
+          let is : entry o (coordinate_equations o T r g) j i ≡ a = entry_table o L m r (λ j i. at o (g i) j) j i l h
+          ∙ ap (λ xs. at o xs j) (sym (y-is i h)) in
+          ap₂ o.mul is (sym (coord-is w i))
+          ∙ L.mul_comm a (S.coord w i).0 (at-elem o L (y i).0 (let h = IsTuple-of o L m (y i) in h.of_elements) j)
+          (S.coord w i).1)
+          ∙ sym (comb-at o L m r (S.coord w) y j l)
+
+      solved_iff : (w : Tuple o r) → IsKilled o m r (coordinate_equations o T r g) w.0
+          ↔ (comb X r (S.coord w) y ≡ B.zero)
+      solved_iff w = let x = comb X r (S.coord w) y in (
+        λ k. V-path o L T u x B.zero (IsTuple-ext o m x.0 B.zero.0 (IsTuple-of o L m x) (IsTuple-of o L m B.zero)
+            (λ j l. sym (equation-is w j l) ∙ k j l ∙ sym (zero_at j l))),
+        λ h j l. equation-is w j l ∙ ap (λ (v : V o L T u). at o v.0 j) h ∙ zero_at j l,
+      )
+
     pub killed_iff : (w : Tuple o r) → IsKilled o m r eqs w.0 ↔ IsFixed B.ring q (G w)
     killed_iff w =
-        let c = S.coord w in
-        let x = comb X r c y in
-        let f = fixed_iff F N B m (A_basis o L T u) p e prime char size z r central c in (
-          λ k. f.1 (V-path o L T u x B.zero (IsTuple-ext o m x.0 B.zero.0 (IsTuple-of o L m x) (IsTuple-of o L m B.zero)
-              (λ j l. sym (equation-is w j l) ∙ k j l ∙ sym (zero_at j l)))),
-          λ h j l. equation-is w j l ∙ ap (λ (v : V o L T u). at o v.0 j) (f.0 h) ∙ zero_at j l,
-        )
+        let s = solved_iff (λ i. less_self o T q (get_or centre i [])) y y-is w in
+        let f = fixed_iff F N B m (A_basis o L T u) p e prime char size z r central (S.coord w) in
+        (λ k. f.1 (s.0 k), λ h. s.1 (f.0 h))
 
-    G_linear : IsLinear Y X G
+    -- the weights that solve the equations of z^q = 0
+    pub nilpotent_iff : (w : Tuple o r) → IsKilled o m r (nilpotent_equations o T q centre) w.0
+        ↔ (power B.ring (G w) q ≡ B.zero)
+    nilpotent_iff w =
+        let s = solved_iff (λ i. power_in o T (get_or centre i []) q) (λ i. power B.ring (z i) q)
+        (λ i l. power-is o L T u (z i) q (size_pos F N B)
+        ∙ ap (λ a. power_in o T a q) (family-is o L T u centre shape i l)) w in
+        let e = power-comb F N B m (A_basis o L T u) p e prime char size z r central r (omega arith) (S.coord w) in
+        (λ k. e ∙ s.0 k, λ h. s.1 (sym e ∙ h))
+
+    pub G_linear : IsLinear Y X G
     G_linear = record {
       map-add = λ v w. comb_congr X r (S.coord (Y.◌⊕◌ v w)) (λ i. F.◌⊕◌ (S.coord v i) (S.coord w i)) z (S.coord-add v w)
           ∙ comb-add X r (S.coord v) (S.coord w) z;
@@ -140,6 +157,12 @@ module _ {E : Type 0} (o : Ops E) (L : FieldLaws o) (T : Structure E) (u : IsUni
 
     pub G_central : (w : Tuple o r) → Centre B (G w)
     G_central w = comb_in X (Centre B) (centre_submodule B) r (S.coord w) z central
+
+    -- the weights of a combination that is 0 are 0
+    pub G_faithful : IsReducedBasis o m centre → (w : Tuple o r) → G w ≡ X.zero → w ≡ Y.zero
+    G_faithful basis w null =
+        let h = rows_independent o L T u centre shape (reduced_basis_is_independent o L m centre basis) in
+        S.ext w Y.zero (λ i l. h.only_zero (S.coord w) null i l ∙ sym (S.coord-zero i l))
 
     module _ (weights : List (List E)) (wshape : IsMatrix o r weights) (wmembers : SpansKernel o m r eqs weights) where
       abbrev s : ℕ
@@ -182,9 +205,6 @@ module _ {E : Type 0} (o : Ops E) (L : FieldLaws o) (T : Structure E) (u : IsUni
           }
 
       module _ (basis : IsReducedBasis o m centre) (wbasis : IsReducedBasis o r weights) where
-        z_independent : Independent X r z
-        z_independent = rows_independent o L T u centre shape (reduced_basis_is_independent o L m centre basis)
-
         W_independent : Independent Y s W
         W_independent = to_independent o L r weights wshape (reduced_basis_is_independent o L r weights wbasis)
 
@@ -195,8 +215,7 @@ module _ {E : Type 0} (o : Ops E) (L : FieldLaws o) (T : Structure E) (u : IsUni
             only_zero = λ c h t l.
                 let v = comb Y s c W in
                 let null : G v ≡ X.zero = map-comb Y X G G_linear s c W ∙ h in
-                W_independent.only_zero c (S.ext v Y.zero
-                (λ i g. z_independent.only_zero (S.coord v) null i g ∙ sym (S.coord-zero i g))) t l;
+                W_independent.only_zero c (G_faithful basis v null) t l;
           };
           inside = λ t l. (G_central (W t), W_fixed t l);
           spans = λ x h. solutions_spanned x h.0 h.1;

@@ -21,3 +21,5 @@ pub mod RefinedLists
 pub mod MaximalResidue
 pub mod Ranks
 pub mod FieldCentres
+pub mod ReducedCentres
+pub mod RankResidue

@@ -28,12 +28,13 @@ use Rattle.theory_tables.proofs.Algebras.Bridge.{row, row-at, to_span, from_span
 use Rattle.theory_tables.proofs.Algebras.Bridge.{IsTuple-of, as_tuple, vec-is, coord-is}
 use Rattle.theory_blocks.specs.Centre.{Centre, CentreIsField}
 use Rattle.theory_blocks.specs.TwoSidedRank.{two_sided, TwoSidedRank, map_row}
+use Rattle.theory_blocks.proofs.Ideals.Centres.{centre_field}
 use Rattle.theory_blocks.proofs.TwoSided.TwoSidedRank.{simple_by_rank}
 use Rattle.theory_blocks.proofs.TwoSided.TwoSidedRows.{rank_by_rows, image_basis}
 use Rattle.spl_matrix.proofs.ReducedBases.{reduced_basis_is_independent}
 use Rattle.spl_algebra.specs.Subspaces.{SpansCentre}
 use Rattle.spl_algebra.specs.TwoSided.{map_coordinate, map_coordinates, two_sided_maps, IsTwoSidedRank}
-use Rattle.spl_blocks.specs.Blocks.{IsUnital}
+use Rattle.spl_blocks.specs.Blocks.{IsUnital, IsSimple}
 use Rattle.spl_blocks.specs.Ranks.{HasFieldCentre, SimpleByTwoSidedRank}
 use Rattle.spl_blocks.proofs.Tables.{A, A_basis, A_is, V-path, one_of, simple_up, simple_down, to_centre}
 use Rattle.spl_blocks.proofs.Tables.{from_centre, from_is_central, central_of}
@@ -245,6 +246,12 @@ module _ {E : Type 0} (o : Ops E) (L : FieldLaws o) (T : Structure E) (u : IsUni
         V-path o L T u (B.◌⊗◌ x y) B.one
             (is.product-is x y ∙ q.2 ∙ sym (one_of o L T u u.identity.one u.identity.is_one)),
       )
+
+-- the centre of a simple algebra is a field
+pub simple_has_field_centre : {E : Type 0} (o : Ops E) (L : FieldLaws o) (T : Structure E) → IsUnital o T → IsSimple o T
+    → HasFieldCentre o T
+simple_has_field_centre o L T u i =
+    field_up o L T u (centre_field (A o L T u) T.dim (A_basis o L T u) (simple_down o L T u i))
 
 pub simple_by_two_sided_rank : {E : Type 0} (o : Ops E) (L : FieldLaws o) → SimpleByTwoSidedRank o
 simple_by_two_sided_rank o L T u positive centre c members r h =

@@ -121,6 +121,24 @@ pub(crate) fn columns_of<F: Field>(
     Ok(out)
 }
 
+/// The weights of the combinations of the rows that are 0.
+pub(crate) fn relations<F: Field>(
+    alloc: Global,
+    f: &F,
+    w: usize,
+    rows: &[Vector<F>],
+) -> Result<Subspace<F>, NoMemory>
+    requires shape { IsMatrix (F.ops f.now) w rows.now }
+    requires positive { 1 ≤ w }
+    ensures basis { IfOk result (IsSubspace (F.ops f.now)) }
+    ensures width { IfOk result (λ s. s.width ≡ length rows.now) }
+    ensures members { IfOk result (λ s. SpansKernel (F.ops f.now) w (length rows.now)
+        (table w (λ j. table (length rows.now) (λ i. entry (F.ops f.now) rows.now i j))) s.rows) }
+{
+    let columns = columns_of(alloc, f, w, rows)?;
+    columns.kernel(alloc, f)
+}
+
 /// The weights of the combinations of the elements, which commute, that solve z^(q^d) = z, where the field has q^d
 /// elements.
 pub(crate) fn fixed_weights<F: Field>(
@@ -140,6 +158,5 @@ pub(crate) fn fixed_weights<F: Field>(
         (power_equations (F.ops f.now) a.now (q ^ d) rows.now) s.rows) }
 {
     let images = less_selves(alloc, f, a, q, d, rows)?;
-    let columns = columns_of(alloc, f, a.dim(), images.as_slice())?;
-    columns.kernel(alloc, f)
+    relations(alloc, f, a.dim(), images.as_slice())
 }

@@ -1,5 +1,7 @@
 // Powers of the elements of an algebra.
-ghost use Rattle.std.specs.Prelude.{◌≡◌, ◌^◌, ◌<◌, ◌≤◌, IfOk};
+ghost use Rattle.std.specs.Prelude.{◌≡◌, ◌^◌, ◌<◌, ◌≤◌, [], IfOk, length, get_or};
+ghost use Rattle.theory_rings.specs.Sum.{table};
+ghost use Rattle.theory_tables.specs.Matrix.{IsMatrix};
 ghost use Rattle.theory_tables.specs.Structure.{IsElement};
 ghost use Rattle.spl_blocks.specs.Blocks.{IsUnital};
 ghost use Rattle.spl_blocks.specs.Fixed.{power_in};
@@ -7,6 +9,7 @@ ghost use Rattle.spl_blocks.specs.Fixed.{power_in};
 use spl_algebra::algebra::Algebra;
 use spl_field::field::{Field, NoMemory};
 use spl_field::list::Vector;
+use spl_matrix::matrix::Matrix;
 use std::alloc::Global;
 
 /// The power z^e, by halves of e.
@@ -54,4 +57,27 @@ pub(crate) fn iterated_power<F: Field>(
         x = power(alloc, f, a, &x, q)?;
     }
     Ok(x)
+}
+
+/// z^(q^d) for each of the elements z.
+pub(crate) fn powers_of<F: Field>(
+    alloc: Global,
+    f: &F,
+    a: &Algebra<F>,
+    q: usize,
+    d: usize,
+    rows: &[Vector<F>],
+) -> Result<Matrix<F>, NoMemory>
+    requires unital { IsUnital (F.ops f.now) a.now }
+    requires shape { IsMatrix (F.ops f.now) a.now.dim rows.now }
+    requires positive { 1 ≤ q }
+    ensures shape { IfOk result (IsMatrix (F.ops f.now) a.now.dim) }
+    ensures value { IfOk result (λ r. r ≡ table (length rows.now) (λ i.
+        power_in (F.ops f.now) a.now (get_or rows.now i []) (q ^ d))) }
+{
+    let mut out = Matrix::new(alloc);
+    for i in 0..rows.len() {
+        out.push(iterated_power(alloc, f, a, &rows[i], q, d)?)?;
+    }
+    Ok(out)
 }
