@@ -3,3 +3,8 @@ pub mod Bounds
 pub mod Growth
 pub mod States
 pub mod Overorders
+pub mod FactorDivisors
+pub mod StartLattices
+pub mod PlaceSteps
+pub mod SwappedGrowth
+pub mod InfinitePlace

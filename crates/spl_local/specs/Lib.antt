@@ -1,2 +1,3 @@
 pub mod PulledBack
 pub mod Growth
+pub mod Everywhere
