@@ -1,2 +1,4 @@
 pub mod SemisimpleAlgebras
 pub mod PowerSteps
+pub mod PlaceIdeals
+pub mod IntegralFractions

@@ -2,10 +2,15 @@
 ghost use Rattle.std.specs.Prelude.{IfOk, IfSome};
 ghost use Rattle.spl_field.specs.SmallField.{small_ops, small_laws};
 ghost use Rattle.spl_fraction.specs.Fractions.{field_of};
+ghost use Rattle.theory_places.specs.FractionPlaces.{IsMonicIrreducible};
 ghost use Rattle.theory_bases.specs.Bases.{IsBasis};
 
+use spl_field::field::NoMemory;
 use spl_fraction::field::Fractions;
 use spl_order::basis::Basis;
+use spl_order::within::is_within;
+use spl_order::within_at::is_within_at;
+use spl_poly::poly::Poly;
 use spl_words::fault::Fault;
 use spl_words::{lists, show};
 use std::alloc::Global;
@@ -52,4 +57,36 @@ pub(crate) fn show_tuples(
     let _ = n;
     let tuples = basis.tuples(alloc, k)?;
     show::rows(alloc, out, k, tuples.as_slice())
+}
+
+/// Whether two bases of n tuples have the same lattice over the polynomials.
+pub(crate) fn is_same(
+    alloc: Global,
+    k: &Fractions,
+    n: usize,
+    a: &Basis,
+    b: &Basis,
+) -> Result<bool, NoMemory>
+    requires a { IsBasis (small_ops (field_of k.now)) (small_laws (field_of k.now)) n a.now }
+    requires b { IsBasis (small_ops (field_of k.now)) (small_laws (field_of k.now)) n b.now }
+{
+    let _ = n;
+    Ok(is_within(alloc, k, a, b)? && is_within(alloc, k, b, a)?)
+}
+
+/// Whether two bases of n tuples have the same lattice at a finite place.
+pub(crate) fn is_same_at(
+    alloc: Global,
+    k: &Fractions,
+    n: usize,
+    a: &Basis,
+    b: &Basis,
+    place: &Poly,
+) -> Result<bool, NoMemory>
+    requires a { IsBasis (small_ops (field_of k.now)) (small_laws (field_of k.now)) n a.now }
+    requires b { IsBasis (small_ops (field_of k.now)) (small_laws (field_of k.now)) n b.now }
+    requires place { IsMonicIrreducible (small_ops (field_of k.now)) place.now }
+{
+    let _ = n;
+    Ok(is_within_at(alloc, k, a, b, place)? && is_within_at(alloc, k, b, a, place)?)
 }

@@ -1,8 +1,8 @@
 // Calls on orders in algebras over the rational functions, and on bases of their lattices.
 
-use crate::{bases, central};
+use crate::{bases, central, orders_at};
 use spl_fraction::field::Fractions;
-use spl_order::{forms, start, swap, within};
+use spl_order::{bad_places, forms, start, swap, within};
 use spl_words::fault::Fault;
 use spl_words::{algebras, lists, show};
 use std::alloc::Global;
@@ -55,8 +55,7 @@ fn start_order(
     let expected = bases::basis(alloc, k, a.algebra.dim(), n)?;
     show::truth(
         out,
-        within::is_within(alloc, k, &order, &expected)?
-            && within::is_within(alloc, k, &expected, &order)?,
+        bases::is_same(alloc, k, a.algebra.dim(), &order, &expected)?,
     )
 }
 
@@ -72,6 +71,14 @@ fn dual(
     let basis = bases::basis(alloc, k, a.algebra.dim(), m)?;
     let dual = forms::dual(alloc, k, &a.algebra, &basis)?;
     bases::show_tuples(alloc, k, a.algebra.dim(), &dual, out)
+}
+
+/// `bad_places A`, where A has a nondegenerate trace form: the polynomial of the finite places at which the first order
+/// is not its own dual.
+fn bad(alloc: Global, k: &Fractions, algebra: &str, out: &mut Vec<u8>) -> Result<(), Fault> {
+    let a = central::nondegenerate(alloc, k, algebra)?;
+    let order = start::start_order(alloc, k, &a.algebra, &a.one)?;
+    show::poly_of(out, bad_places::bad_places(alloc, k, &a.algebra, &order))
 }
 
 /// `swap_algebra A`: the products of the basis elements of the algebra in which 1/x stands for x.
@@ -107,8 +114,9 @@ pub fn call(
         ("is_within", [m, n]) => is_within(alloc, k, m, n, out),
         ("start_order", [algebra, n]) => start_order(alloc, k, algebra, n, out),
         ("dual", [algebra, m]) => dual(alloc, k, algebra, m, out),
+        ("bad_places", [algebra]) => bad(alloc, k, algebra, out),
         ("swap_algebra", [algebra]) => swap_algebra(alloc, k, algebra, out),
         ("swap_order", [m]) => swap_order(alloc, k, m, out),
-        _ => Err(Fault::BadLine),
+        _ => orders_at::call(alloc, k, call, words, out),
     }
 }

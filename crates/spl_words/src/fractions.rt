@@ -1,4 +1,9 @@
 // Calls on fractions and places.
+ghost use Rattle.std.specs.Prelude.{IfOk};
+ghost use Rattle.spl_field.specs.SmallField.{small_ops};
+ghost use Rattle.spl_fraction.specs.Fractions.{field_of};
+ghost use Rattle.spl_fraction.specs.Valuation.{IsPlaceOver};
+
 use crate::fault::Fault;
 use crate::{args, lists, show};
 use spl_fraction::field::Fractions;
@@ -50,6 +55,42 @@ fn place(alloc: Global, word: &str) -> Result<Place, Fault> {
     })
 }
 
+/// `infinity`, or a polynomial over the field of degree at least 1.
+fn place_over(alloc: Global, k: &Fractions, word: &str) -> Result<Place, Fault>
+    ensures { IfOk result (IsPlaceOver (small_ops (field_of k.now))) }
+{
+    if word == "infinity" {
+        return Ok(Place::Infinity);
+    }
+    let poly = args::poly(alloc, k.field(), word)?;
+    if poly.as_slice().len() < 2 {
+        return Err(Fault::BadLine);
+    }
+    Ok(Place::Finite { poly })
+}
+
+/// `valuation F PLACE`; `none` of 0.
+fn valuation(
+    alloc: Global,
+    k: &Fractions,
+    word: &str,
+    place: &str,
+    out: &mut Vec<u8>,
+) -> Result<(), Fault> {
+    let a = args::fraction(alloc, k, word)?;
+    let place = place_over(alloc, k, place)?;
+    match k.valuation(alloc, &a, &place)? {
+        Some(n) => show::word(out, format!(in alloc; "{n}")?.as_str()),
+        None => show::word(out, "none"),
+    }
+}
+
+/// `swap_infinity F`: the fraction with 1/x put for x.
+fn swap(alloc: Global, k: &Fractions, word: &str, out: &mut Vec<u8>) -> Result<(), Fault> {
+    let a = args::fraction(alloc, k, word)?;
+    show::element_of(alloc, out, k, k.swap_infinity(alloc, &a))
+}
+
 /// `order_of_places P Q`
 fn order(alloc: Global, p: &str, q: &str, out: &mut Vec<u8>) -> Result<(), Fault> {
     let p = place(alloc, p)?;
@@ -70,6 +111,8 @@ pub fn call(
         ("read_fraction", [word]) => read(alloc, k, word, out),
         ("parts", [word]) => parts(alloc, k, word, out),
         ("common_denominator", [l]) => denominator(alloc, k, l, out),
+        ("valuation", [word, place]) => valuation(alloc, k, word, place, out),
+        ("swap_infinity", [word]) => swap(alloc, k, word, out),
         ("order_of_places", [p, q]) => order(alloc, p, q, out),
         _ => Err(Fault::BadLine),
     }
