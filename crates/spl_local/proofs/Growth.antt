@@ -31,7 +31,7 @@ use Rattle.spl_fraction.specs.FractionsOver.{fractions_over}
 use Rattle.spl_order.specs.LeftOrders.{SpansIdealOver, SpansLeftOrder}
 use Rattle.spl_order.specs.Residues.{AreProductResidues, ArePreimages, IsResidueAlgebra, LiftsIdeal}
 use Rattle.spl_order.proofs.ProductCoordinates.{table_of_polynomials}
-use Rattle.spl_order.proofs.ResidueValues.{same_remainders}
+use Rattle.spl_order.proofs.ResidueOperations.{over_remainders}
 use Rattle.spl_local.specs.Growth.{small_tuples}
 
 module _ {E : Type 0} (o : Ops E) (L : FieldLaws o) (m : List E) (s : IsMonicIrreducible o m)
@@ -119,35 +119,16 @@ module _ {E : Type 0} (o : Ops E) (L : FieldLaws o) (m : List E) (s : IsMonicIrr
 module _ (f : SmallField) (m : List ℕ) (s : IsMonicIrreducible (small_ops f) m) (M : FieldLaws (fractions_over f))
     (A : Structure (Pair ℕ)) (order : BasisForm ℕ) (k : ResidueField) (B : Structure (List ℕ))
     (C : IsResidueAlgebra f A (small_tuples f order) m k B) where
-  operations_are : residue_ops k ≡ residues (small_ops f) (small_laws f) M m s
-  operations_are =
-      let F = C.field in
-      same_remainders (small_ops (field_of k)) (small_ops f) (small_laws (field_of k)) (small_laws f)
-      (polynomial_of k) m k.irreducible s.irreducible F.operations F.polynomial
-
-  pub over_remainders : (P : Ops (List ℕ) → Structure (List ℕ) → Type 0) → P (residue_ops k) B
-      → P (residues (small_ops f) (small_laws f) M m s) (record { dim = A.dim; constants = B.constants })
-  over_remainders P h =
-      subst (λ (r : Ops (List ℕ)). P r (record { dim = A.dim; constants = B.constants })) operations_are
-      (subst (λ n. P (residue_ops k) (record { dim = n; constants = B.constants })) C.dim h)
-
-  pub from_remainders : (P : Ops (List ℕ) → Structure (List ℕ) → Type 0)
-      → P (residues (small_ops f) (small_laws f) M m s) (record { dim = A.dim; constants = B.constants })
-      → P (residue_ops k) B
-  from_remainders P h =
-      subst (λ n. P (residue_ops k) (record { dim = n; constants = B.constants })) (sym C.dim)
-      (subst (λ (r : Ops (List ℕ)). P r (record { dim = A.dim; constants = B.constants })) (sym operations_are) h)
-
   pub products_are : AreProductResidues (small_ops f) (small_laws f) m (residues (small_ops f) (small_laws f) M m s) A
       (small_tuples f order) B.constants
-  products_are = over_remainders
+  products_are = over_remainders f A (small_tuples f order) m s k B C
       (λ r D. AreProductResidues (small_ops f) (small_laws f) m r A (small_tuples f order) D.constants) C.products
 
   pub shape_is : (rows : List (List (List ℕ))) → SpansIdeal (residue_ops k) B rows
       → IsMatrix (residues (small_ops f) (small_laws f) M m s) A.dim rows
   shape_is rows h =
       let i : SpansIdeal (residues (small_ops f) (small_laws f) M m s) (record { dim = A.dim; constants = B.constants })
-      rows = over_remainders (λ r D. SpansIdeal r D rows) h in i.shape
+      rows = over_remainders f A (small_tuples f order) m s k B C (λ r D. SpansIdeal r D rows) h in i.shape
 
   pub preimages_are : IsOver (fractions_over f) A → IsAssociative (fractions_over f) A → (rows : List (List (List ℕ)))
       (out : BasisForm ℕ) → LiftsIdeal f order k B rows out

@@ -30,22 +30,13 @@ use Rattle.spl_fraction.specs.FractionsOver.{fractions_over, fractions_laws}
 use Rattle.spl_blocks.specs.Blocks.{AreMaximalIdeals, rows_at}
 use Rattle.spl_blocks.proofs.Residues.{small_prime, small_char}
 use Rattle.spl_order.specs.Residues.{ArePreimages, IsResidueAlgebra, LiftsIdeal}
+use Rattle.spl_order.proofs.ImageRows.{no_rows}
 use Rattle.spl_order.proofs.ProductCoordinates.{table_of_polynomials}
+use Rattle.spl_order.proofs.ResidueOperations.{over_remainders}
 use Rattle.spl_local.specs.declared.settle.State.{State}
 use Rattle.spl_local.specs.declared.settle.State.TheVariants.{Unimodular, Ramified}
 use Rattle.spl_local.specs.Growth.{small_tuples, DoesNotGrowBy, IsState, IsStateBy}
-use Rattle.spl_local.proofs.Growth.{over_remainders, products_are, preimages_are}
-
--- a reduced basis of zero rows has none
-pub no_rows : {E : Type 0} (o : Ops E) (L : FieldLaws o) (w : ℕ) (rows : List (List E)) → IsReducedBasis o w rows
-    → ((r : ℕ) → r < length rows → get_or rows r [] ≡ tuple_zero o w) → rows ≡ []
-no_rows o L w [] B z = refl
-no_rows o L w (x ∷ xs) B z =
-    let R = B.reduced in
-    let p = get_or B.pivots 0 0 in
-    let some : 0 < length B.pivots = omega (arith, B.each) in
-    absurd (L.one-nonzero (sym (R.unit 0 0 some (omega arith)) ∙ ap (λ r. at o r p) (z 0 (omega arith))
-    ∙ at-table o w (λ _. o.zero) p (R.below 0 some)))
+use Rattle.spl_local.proofs.Growth.{products_are, preimages_are}
 
 -- the maximal ideals are ideals
 pub ideals_are : {E : Type 0} (o : Ops E) (B : Structure E) (items : List (Rows E)) → AreMaximalIdeals o B items
@@ -94,7 +85,7 @@ module _ (f : SmallField) (A : Structure (Pair ℕ)) (over : IsOver (fractions_o
   basis_here = subst (λ n. IsBasis o L n preimage) C.dim basis
 
   reduced_here : IsReducedBasis r A.dim radical.rows
-  reduced_here = over_remainders f m s M A order k B C (λ r D. IsReducedBasis r D.dim radical.rows)
+  reduced_here = over_remainders f A T m s k B C (λ r D. IsReducedBasis r D.dim radical.rows)
       (subst (λ n. IsReducedBasis (residue_ops k) n radical.rows) width sub)
 
   modulo : IsOrderModulo o L M m s N R A T B.constants
@@ -105,7 +96,7 @@ module _ (f : SmallField) (A : Structure (Pair ℕ)) (over : IsOver (fractions_o
 
   nothing_grows : NothingGrowsBy o L M m s N R A T B.constants (length items) (rows_at r D items)
   nothing_grows =
-      let G' = over_remainders f m s M A order k B C (λ r D. AreMaximalIdeals r D items) G in
+      let G' = over_remainders f A T m s k B C (λ r D. AreMaximalIdeals r D items) G in
       record {
         complete = λ a shape maximal. G'.complete a (record { shape = shape; maximal = maximal });
         each = λ i l. none i (record { width = A.dim; rows = [] }) l M s N R;
@@ -117,7 +108,7 @@ module _ (f : SmallField) (A : Structure (Pair ℕ)) (over : IsOver (fractions_o
       preimages_are f m s M A order k B C over assoc radical.rows preimage lifts in
       let p = h.polynomials M N R O in
       record {
-        radical = over_remainders f m s M A order k B C (λ r D. SpansRadical r D radical.rows) J;
+        radical = over_remainders f A T m s k B C (λ r D. SpansRadical r D radical.rows) J;
         independent = basis_here.independent;
         preimage = p.lattice;
       }

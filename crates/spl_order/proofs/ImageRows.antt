@@ -1,18 +1,18 @@
 -- The image of a lattice inside an order at a place, as the rows over the residue field that theorems speak of.
-use Rattle.std.specs.Prelude.{◌≡◌, ◌<◌, ℕ, List, [], length, get_or}
-use Rattle.std.proofs.Common.{sym, ◌∙◌, ap, subst, arith}
+use Rattle.std.specs.Prelude.{◌≡◌, ◌<◌, ℕ, List, [], ◌∷◌, length, get_or}
+use Rattle.std.proofs.Common.{refl, sym, ◌∙◌, ap, subst, arith}
 use Rattle.std.proofs.lemmas.List.Elements.{All-get_or}
 use Rattle.theory_rings.specs.Ops.{Ops, FieldLaws}
 use Rattle.theory_rings.specs.Elements.{Elem}
-use Rattle.theory_rings.specs.Sum.{table}
+use Rattle.theory_rings.specs.Sum.{at, table}
 use Rattle.theory_rings.proofs.Rings.Elements.{sum_of_congr}
 use Rattle.theory_rings.proofs.Sums.Lists.{length-table, get_or-table, All-table}
 use Rattle.theory_spaces.specs.Sets.{Within}
-use Rattle.theory_spaces.specs.Tuples.{IsTuple}
-use Rattle.theory_spaces.proofs.Tuples.Tuples.{IsTuple-table}
+use Rattle.theory_spaces.specs.Tuples.{IsTuple, tuple_zero}
+use Rattle.theory_spaces.proofs.Tuples.Tuples.{IsTuple-table, at-table}
 use Rattle.theory_tables.specs.Matrix.{entry, IsMatrix}
 use Rattle.theory_tables.specs.Structure.{Structure}
-use Rattle.theory_tables.specs.Subspace.{SameSpan}
+use Rattle.theory_tables.specs.Subspace.{SameSpan, IsReducedBasis}
 use Rattle.theory_fractions.specs.Fraction.{Pair}
 use Rattle.theory_fractions.specs.FractionOps.{fraction_ops}
 use Rattle.theory_remainders.specs.RemainderOps.{remainder_ops}
@@ -26,6 +26,17 @@ use Rattle.theory_left_orders.specs.TupleIdeals.{AreCombinations, Preimage}
 use Rattle.theory_left_orders.proofs.TupleLattices.{lattice_by_weights}
 use Rattle.spl_order.specs.Images.{AreCoordinateResidues}
 use Rattle.spl_order.proofs.LatticeMembers.{lattice_member}
+
+-- a reduced basis of zero rows has none
+pub no_rows : {E : Type 0} (o : Ops E) (L : FieldLaws o) (w : ℕ) (rows : List (List E)) → IsReducedBasis o w rows
+    → ((r : ℕ) → r < length rows → get_or rows r [] ≡ tuple_zero o w) → rows ≡ []
+no_rows o L w [] B z = refl
+no_rows o L w (x ∷ xs) B z =
+    let R = B.reduced in
+    let p = get_or B.pivots 0 0 in
+    let some : 0 < length B.pivots = omega (arith, B.each) in
+    absurd (L.one-nonzero (sym (R.unit 0 0 some (omega arith)) ∙ ap (λ r. at o r p) (z 0 (omega arith))
+    ∙ at-table o w (λ _. o.zero) p (R.below 0 some)))
 
 module _ {E : Type 0} (o : Ops E) (L : FieldLaws o) (M : FieldLaws (fraction_ops o L)) (m : List E)
     (s : IsMonicIrreducible o m) (N : FieldLaws (remainder_ops o L m (monic o L m s.irreducible)))

@@ -45,3 +45,4 @@ pub mod ImageRows
 pub mod TestLoops
 pub mod ProductTests
 pub mod InfiniteOrders
+pub mod ResidueOperations

@@ -86,6 +86,11 @@ module _ {E : Type 0} (o : Ops E) (L : FieldLaws o) (A : Structure (Pair E)) (pl
         not_multiple = p.0;
       }
 
+  -- of a ramified place all hold
+  pub none_of_claim : (M : FieldLaws (fraction_ops o L)) → IsOver (fraction_ops o L) A
+      → IsPlace o place × RamifiedAtPlace o L M A place os js → IsFirstFault list None
+  none_of_claim M over c = all_to ((conditions_are_ramified o L M A over place os js).1 c)
+
   pub claim_by_faults : (M : FieldLaws (fraction_ops o L)) → IsOver (fraction_ops o L) A
       → (r : Option RamifiedFault) → IsFirstFault list r
       → (r ≡ None) ↔ (IsPlace o place × RamifiedAtPlace o L M A place os js)
@@ -95,5 +100,5 @@ module _ {E : Type 0} (o : Ops E) (L : FieldLaws o) (A : Structure (Pair E)) (pl
   )
   claim_by_faults M over (Some fault) h = (
     λ e. absurd (none-some fault (sym e)),
-    λ c. absurd (not_all list fault h (all_to ((conditions_are_ramified o L M A over place os js).1 c))),
+    λ c. absurd (not_all list fault h (none_of_claim M over c)),
   )
