@@ -8,6 +8,7 @@ use spl_centre::centre::{centre_fault, identity_or_refutation, trace_ideal};
 use spl_cli::report::refusal_line;
 use spl_engine::decide::decide;
 use spl_evidence::evidence::Evidence;
+use spl_fraction::place::Place;
 use spl_table::reader::{read_front, read_table};
 use spl_table::refusal::{Refusal, TableFault};
 use spl_table::table::Table;
@@ -79,6 +80,15 @@ fn faults(alloc: Global, table: &Table, out: &mut Vec<u8>) -> Result<(), Fault> 
     }
 }
 
+/// A ramified place.
+fn ramified(out: &mut Vec<u8>, place: &Place) -> Result<(), Fault> {
+    show::word(out, "ramified")?;
+    match place {
+        Place::Finite { poly } => show::polynomial(out, poly),
+        Place::Infinity => show::word(out, "infinity"),
+    }
+}
+
 /// The kind of the evidence, and how much of it there is.
 fn evidence(out: &mut Vec<u8>, evidence: &Evidence) -> Result<(), Fault> {
     match evidence {
@@ -106,11 +116,20 @@ fn evidence(out: &mut Vec<u8>, evidence: &Evidence) -> Result<(), Fault> {
             show::count(out, maps.len())?;
             show::count(out, units.len())
         }
+        Evidence::Ramified {
+            place,
+            order,
+            radical,
+        } => {
+            ramified(out, place)?;
+            show::count(out, order.len())?;
+            show::count(out, radical.len())
+        }
     }
 }
 
-/// `decide T`: the kind of the evidence, with the triple, the numbers of multipliers, the length of the tuple or the
-/// number of the tuples; `none` where there is none.
+/// `decide T`: the kind of the evidence, with the triple, the numbers of multipliers, the length of the tuple, the number
+/// of the tuples, or the place and the numbers of the tuples of the order and its radical; `none` where there is none.
 fn decision(alloc: Global, table: &Table, out: &mut Vec<u8>) -> Result<(), Fault> {
     match decide(alloc, table)? {
         Some(found) => evidence(out, &found),

@@ -1,8 +1,11 @@
 pub mod BasisProducts
 pub mod Counts
+pub mod FaultNumbers
 pub mod Maps
 pub mod MultiplierLists
+pub mod PlacePolynomials
 pub mod Places
+pub mod SameConditions
 pub mod SideSpans
 pub mod Tests
 pub mod Verdicts

@@ -9,5 +9,6 @@ pub mod check;
 mod ideal;
 mod kinds;
 mod multipliers;
+mod ramified;
 mod split;
 pub mod verdict;

@@ -1,5 +1,5 @@
 -- What `decide` and `check` answer to an input.
-use Rattle.std.specs.Prelude.{◌≡◌, ℕ, ◌+◌, ◌*◌, ◌≤◌, List, [], ◌++◌, length, drop, codes, Some}
+use Rattle.std.specs.Prelude.{◌≡◌, ℕ, ◌+◌, ◌≤◌, List, ◌++◌, length, drop, codes, Some}
 use Rattle.std.proofs.Common.{inl, inr, sym, ◌∙◌, ap, subst}
 use Rattle.std.proofs.Math.Seq.{drop-append_seam}
 use Rattle.spl_table.specs.Front.{IsFrontOf}
@@ -20,7 +20,7 @@ use Rattle.spl_evidence.specs.declared.refusal.EvidenceRefusal.{EvidenceRefusal}
 use Rattle.spl_check.specs.Verdict.{FailsFirst, conditions}
 use Rattle.spl_evidence.specs.declared.evidence.Evidence.{Evidence}
 use Rattle.spl_evidence.proofs.Fits.{fits_of_claim}
-use Rattle.spl_engine.specs.Kind.{IsEvidence, HasNoFault}
+use Rattle.spl_engine.specs.Kind.{IsEvidence, HasUnimodularOrders}
 use Rattle.spl_cli.specs.declared.status.Status.{Status}
 use Rattle.spl_cli.specs.declared.status.Status.TheVariants.{Done, No, Refused}
 use Rattle.spl_cli.specs.declared.words.Form.TheVariants.{Decide, Check}
@@ -42,10 +42,10 @@ module _ (words : List (List ℕ)) (input : List ℕ) (sink sink' : SinkState) (
       }
 
   -- a table without a fault is refused at its last line
-  pub Answers-undecided : (refusal : Refusal) → HasNoFault (ops_of front.table) (algebra_of front.table)
+  pub Answers-undecided : (refusal : Refusal) → HasUnimodularOrders (field_of front.table) (algebra_of front.table)
       → refusal.line ≡ front.lines → refusal.kind ≡ NotBuilt → bytes ≡ refusal_text refusal
       → Finishes Refused bytes sink sink' status → Answers words input sink sink' status
-  Answers-undecided refusal no_fault line kind report finishes = record {
+  Answers-undecided refusal unimodular line kind report finishes = record {
     ends = inr (
       Refused,
       bytes,
@@ -57,7 +57,7 @@ module _ (words : List (List ℕ)) (input : List ℕ) (sink sink' : SinkState) (
           cause = inr (record {
             table = front.table;
             stands = stands;
-            no_fault = no_fault;
+            unimodular = unimodular;
             line = line ∙ read.lines;
             kind = kind;
           });
@@ -159,7 +159,7 @@ module _ (words : List (List ℕ)) (input : List ℕ) (sink sink' : SinkState) (
       (e : Evidence) (text : List ℕ) (behind : text ≡ drop read.used input)
       (is_evidence : IsEvidenceText (ops_of read.table) (degree_of read.table) text e) where
     -- `yes`
-    pub Answers-yes : Claim (ops_of read.table) (algebra_of read.table) (degree_of read.table) e
+    pub Answers-yes : Claim (field_of read.table) (algebra_of read.table) (degree_of read.table) e
         → bytes ≡ codes "yes\n" → Finishes Done bytes sink sink' status → Answers words input sink sink' status
     Answers-yes claim report finishes = record {
       ends = inr (
@@ -183,7 +183,7 @@ module _ (words : List (List ℕ)) (input : List ℕ) (sink sink' : SinkState) (
 
     -- `no C`
     pub Answers-no : (condition : ℕ)
-        → FailsFirst (conditions (ops_of read.table) (algebra_of read.table) (degree_of read.table) e) condition
+        → FailsFirst (conditions (field_of read.table) (algebra_of read.table) (degree_of read.table) e) condition
         → bytes ≡ no_text condition → Finishes No bytes sink sink' status → Answers words input sink sink' status
     Answers-no condition fails report finishes = record {
       ends = inr (
@@ -211,11 +211,11 @@ module _ (words : List (List ℕ)) (input : List ℕ) (sink sink' : SinkState) (
 -- evidence that was written by the fractions f and the degree n of the table
 module _ (table : Table) (f : Fractions) (n : ℕ) (same_field : f ≡ table.fractions) (same_degree : n ≡ table.degree)
     (e : Evidence)
-    (holds : IsEvidence (ops_of table) (algebra_of table) (degree_of table) e) where
+    (holds : IsEvidence (field_of table) (algebra_of table) (degree_of table) e) where
   -- it fits, as its claim holds
   pub fits_of_evidence : Fits (fractions_over (base_of f)) n e
   fits_of_evidence =
       let Q : Fractions → Type 0 = λ k. Fits (fractions_over (base_of k)) n e in
       let P : ℕ → Type 0 = λ m. Fits (ops_of table) m e in
       subst Q (sym same_field) (subst P (sym same_degree)
-      (fits_of_claim (ops_of table) (algebra_of table) (degree_of table) e table.dim holds.claim))
+      (fits_of_claim (field_of table) (algebra_of table) (degree_of table) e table.dim holds.claim))

@@ -1,5 +1,5 @@
 -- What a run of `decide` or `check` on a told input comes to, and what a run over streams that don't fail.
-use Rattle.std.specs.Prelude.{◌≡◌, ◌⊎◌, ◌↔◌, ℕ, ◌+◌, ◌<◌, ◌≤◌, Bool, IsTrue, List, [], ◌∷◌, ◌++◌, length, take, codes}
+use Rattle.std.specs.Prelude.{◌≡◌, ◌⊎◌, ℕ, ◌+◌, ◌<◌, ◌≤◌, Bool, IsTrue, List, [], ◌∷◌, ◌++◌, length, take, codes}
 use Rattle.std.specs.Prelude.{Option, Some, None, IfSome, refl}
 use Rattle.std.proofs.Common.{inl, inr, ⊎_elim, sym, ◌∙◌, ap, subst, arith, length-append}
 use Rattle.std.proofs.lemmas.Bool.{cases_lt}
@@ -7,11 +7,14 @@ use Rattle.std.proofs.lemmas.List.{length-take-le}
 use Rattle.std.specs.Io.KnownBytes.{Appends}
 use Rattle.theory_rings.specs.Ops.{Ops}
 use Rattle.theory_fractions.specs.Fraction.{Pair}
+use Rattle.theory_tables.specs.Structure.{Structure}
 use Rattle.theory_tables.specs.Algebras.{IsCentralSimple}
+use Rattle.spl_field.specs.declared.small.SmallField.{SmallField}
+use Rattle.spl_fraction.specs.FractionsOver.{fractions_over}
 use Rattle.spl_outside.specs.Faults.{Rose}
 use Rattle.spl_outside.specs.Prefix.{AppendsPart}
 use Rattle.spl_outside.specs.Room.{HasRoom}
-use Rattle.spl_table.specs.Refusal.{whole, front, front_limit, IsTableText, IsRefusal}
+use Rattle.spl_table.specs.Refusal.{whole, IsRefusal}
 use Rattle.spl_table.proofs.OneRefusal.{refusal_unique}
 use Rattle.spl_table.proofs.TextLaws.{table_unique, no_table_fault}
 use Rattle.spl_table.proofs.Agreement.Tables.{tables_agree}
@@ -21,9 +24,10 @@ use Rattle.spl_table.specs.declared.table.Table.{Table}
 use Rattle.spl_table.specs.declared.refusal.Refusal.{Refusal}
 use Rattle.spl_table.specs.declared.refusal.Kind.TheVariants.{TooLong}
 use Rattle.spl_evidence.specs.Claim.{Claim}
-use Rattle.spl_evidence.specs.Refusal.{IsRefusal as IsRefusalOfEvidence}
 use Rattle.spl_evidence.specs.declared.evidence.Evidence.{Evidence}
-use Rattle.spl_evidence.specs.declared.refusal.EvidenceRefusal.{EvidenceRefusal}
+use Rattle.spl_evidence.specs.declared.evidence.Evidence.TheVariants.{Triple, NoIdentity, Central, Ideal, Split, Ramified}
+use Rattle.spl_evidence.specs.Shown.{IsNoMatrixAlgebra}
+use Rattle.spl_engine.specs.Kind.{IsEvidence}
 use Rattle.spl_check.specs.Verdict.{FailsFirst, conditions}
 use Rattle.spl_cli.specs.declared.status.Status.{Status}
 use Rattle.spl_cli.specs.declared.status.Status.TheVariants.{Done, No, Usage, Refused, ReadFault, WriteFault, Memory}
@@ -31,12 +35,12 @@ use Rattle.spl_cli.specs.declared.words.Form.{Form}
 use Rattle.spl_cli.specs.declared.words.Form.TheVariants.{Decide, Check}
 use Rattle.spl_cli.specs.Forms.{form_of}
 use Rattle.spl_cli.specs.Report.{Report, refusal_text, evidence_refusal_text, no_text, Stands, IsDecided, IsUndecided}
-use Rattle.spl_cli.specs.Report.{IsRefused, IsTableAndEvidence, StandsInFront, SaysYes, SaysNo, IsCheckRefused}
+use Rattle.spl_cli.specs.Report.{IsRefused, IsTableAndEvidence, SaysYes, SaysNo, IsCheckRefused}
 use Rattle.spl_cli.specs.Report.{IsDone, IsNo, IsRefusedBy}
-use Rattle.spl_cli.specs.Run.{SourceState, SinkState, IsRun, IsAnswer}
+use Rattle.spl_cli.specs.Run.{IsAnswer}
 use Rattle.spl_cli.specs.Finish.{source_state, sink_state}
 use Rattle.spl_cli.specs.Correct.{RunsWell, DecidesInput, ChecksInput, RunComesTo, OneReport, RunDecides, RunChecks}
-use Rattle.spl_cli.specs.Correct.{RunIsQuiet}
+use Rattle.spl_cli.specs.Correct.{RunIsQuiet, IsOfPlace, IsOpen}
 use Rattle.spl_cli.proofs.SameAnswers.{claim_over, fails_over, fails_claim, yes_or_no, one_condition, read_or_refused}
 use Rattle.spl_cli.proofs.SameAnswers.{one_check_refusal}
 
@@ -53,8 +57,19 @@ told_input : (left : Option (List ℕ)) (input other : List ℕ) → left ≡ So
 told_input None input other e t = absurd (cc)
 told_input (Some xs) input other e t = let same : xs ≡ input = cc in sym t ∙ same
 
--- an input is not both decided and undecided: its tables have the same algebra
-exclusive : (input bytes : List ℕ) (refusal : Refusal) → IsDecided input bytes → IsUndecided input refusal → ⊥
+-- evidence that is no ramified place shows that the algebra is no matrix algebra
+place_or_none : (f : SmallField) (A : Structure (Pair ℕ)) (n : ℕ) (e : Evidence) → IsEvidence f A n e
+    → IsOfPlace e ⊎ IsNoMatrixAlgebra (fractions_over f) A
+place_or_none f A n (Triple i j k) h = inr h.shows
+place_or_none f A n (NoIdentity left right) h = inr h.shows
+place_or_none f A n (Central tuple) h = inr h.shows
+place_or_none f A n (Ideal tuples) h = inr h.shows
+place_or_none f A n (Split maps units) h = absurd h.kind
+place_or_none f A n (Ramified place order radical) h = inl tt
+
+-- an input is not both decided and undecided, but perhaps by a ramified place: its tables have the same algebra
+exclusive : (input bytes : List ℕ) (refusal : Refusal) (d : IsDecided input bytes) → IsUndecided input refusal
+    → (let s = d.shows in IsOfPlace s.evidence)
 exclusive input bytes refusal d u =
     let a = u.stands in
     let b = d.stands in
@@ -63,12 +78,13 @@ exclusive input bytes refusal d u =
     let agree = tables_agree a.text right u.table d.table a.is_table
     (subst (λ (t : TableText). IsTableOf t d.table) same b.is_table) in
     let shows = d.shows in
-    let holds = shows.holds in
-    let none = u.no_fault in
-    let excluded = holds.no_matrix_algebra in
-    excluded.not_central_simple
+    let orders = u.unimodular in
+    let none = orders.no_fault in
+    ⊎_elim (λ (p : IsOfPlace shows.evidence). p)
+    (λ (excluded : IsNoMatrixAlgebra (ops_of d.table) (algebra_of d.table)). absurd (excluded.not_central_simple
     (subst (IsCentralSimple (ops_of d.table)) agree.algebra
-    (subst (λ (o : Ops (Pair ℕ)). IsCentralSimple o (algebra_of u.table)) agree.operations none.central_simple))
+    (subst (λ (o : Ops (Pair ℕ)). IsCentralSimple o (algebra_of u.table)) agree.operations none.central_simple))))
+    (place_or_none (field_of d.table) (algebra_of d.table) (degree_of d.table) shows.evidence shows.holds)
 
 -- a text with a refusal is not one of a table
 no_table : (input : List ℕ) (refusal : Refusal) (table : Table) → IsRefusal whole input refusal → Stands input table
@@ -88,7 +104,8 @@ check_form P Check e h = h
 decides_done : (input bytes : List ℕ) → IsDecided input bytes → DecidesInput input bytes Done
 decides_done input bytes d = record {
   refused = λ f refusal. absurd (no_table input f d.table refusal d.stands);
-  decided = λ t text. inl (refl, d, λ f u. exclusive input bytes f d u);
+  decided = λ t text. inl (refl, d);
+  excluded = λ f u other e. exclusive input other f e u;
 }
 
 decides_refused : (input bytes : List ℕ) → IsRefused input bytes → DecidesInput input bytes Refused
@@ -96,14 +113,15 @@ decides_refused input bytes d = ⊎_elim
     (λ (cause : IsRefusal whole input d.refusal). record {
       refused = λ f refusal. (refl, d.report ∙ ap refusal_text (refusal_unique input whole d.refusal f cause refusal));
       decided = λ t text. absurd (no_table_fault whole input t [] text d.refusal cause);
+      excluded = λ f u other e. exclusive input other f e u;
     })
     (λ (undecided : IsUndecided input d.refusal). record {
       refused = λ f refusal. absurd (no_table input f undecided.table refusal undecided.stands);
       decided = λ t text. inr (
         refl,
         record { refusal = d.refusal; undecided = undecided; report = d.report },
-        λ other e. exclusive input other d.refusal e undecided,
       );
+      excluded = λ f u other e. exclusive input other f e u;
     })
     d.cause
 
@@ -146,7 +164,7 @@ checks_done input bytes y = record {
     refused {other} r = read_or_refused input other y.table y.evidence y.read r
 
     claim : (t : Table) (e : Evidence) → IsTableAndEvidence input t e
-        → Claim (ops_of t) (algebra_of t) (degree_of t) e
+        → Claim (field_of t) (algebra_of t) (degree_of t) e
     claim t e read = claim_over input y.table t y.evidence e y.read read y.claim
 
 checks_no : (input bytes : List ℕ) → SaysNo input bytes → ChecksInput input bytes No
@@ -185,7 +203,7 @@ checks_no input bytes n = record {
     refused {other} r = read_or_refused input other n.table n.evidence n.read r
 
     over : (t : Table) (e : Evidence) → IsTableAndEvidence input t e
-        → FailsFirst (conditions (ops_of t) (algebra_of t) (degree_of t) e) n.condition
+        → FailsFirst (conditions (field_of t) (algebra_of t) (degree_of t) e) n.condition
     over t e read = fails_over input n.table t n.evidence e n.read read n.condition n.fails
 
 checks_refused : (input bytes : List ℕ) → IsCheckRefused input bytes → ChecksInput input bytes Refused
@@ -224,11 +242,16 @@ checks input bytes Memory r = absurd r
 
 -- ---- one report
 
--- a decided input is not refused
-done_or_refused : (input bytes bytes' : List ℕ) → IsDecided input bytes → IsRefused input bytes' → ⊥
+-- a decided input is not refused, but perhaps as undecided
+done_or_refused : (input bytes bytes' : List ℕ) → IsDecided input bytes → IsRefused input bytes' → IsOpen input
 done_or_refused input bytes bytes' d r = ⊎_elim
-    (λ (cause : IsRefusal whole input r.refusal). no_table input r.refusal d.table cause d.stands)
-    (λ (u : IsUndecided input r.refusal). exclusive input bytes r.refusal d u)
+    (λ (cause : IsRefusal whole input r.refusal). absurd (no_table input r.refusal d.table cause d.stands))
+    (λ (u : IsUndecided input r.refusal). record {
+      bytes = bytes;
+      decided = d;
+      refusal = r.refusal;
+      undecided = u;
+    })
     r.cause
 
 -- two undecided tables have one line of `end`
@@ -264,9 +287,15 @@ form_done_no : (input bytes bytes' : List ℕ) (f : Form) → IsDone f input byt
 form_done_no input bytes bytes' Decide d n = n
 form_done_no input bytes bytes' Check d n = yes_or_no input bytes bytes' d n
 
-form_done_refused : (input bytes bytes' : List ℕ) (f : Form) → IsDone f input bytes → IsRefusedBy f input bytes' → ⊥
-form_done_refused input bytes bytes' Decide d r = done_or_refused input bytes bytes' d r
-form_done_refused input bytes bytes' Check d r = read_or_refused input bytes' d.table d.evidence d.read r
+form_done_refused : (input bytes bytes' : List ℕ) (f : Form) → IsDone f input bytes → IsRefusedBy f input bytes'
+    → (f ≡ Decide) × IsOpen input
+form_done_refused input bytes bytes' Decide d r = (refl, done_or_refused input bytes bytes' d r)
+form_done_refused input bytes bytes' Check d r = absurd (read_or_refused input bytes' d.table d.evidence d.read r)
+
+-- the words are those of `decide`, and its input is open
+open_words : (words : List (List ℕ)) (input : List ℕ) (f : Form) → form_of words ≡ Some f
+    → (f ≡ Decide) × IsOpen input → (form_of words ≡ Some Decide) × IsOpen input
+open_words words input f form h = (form ∙ ap Some h.0, h.1)
 
 form_no_refused : (input bytes bytes' : List ℕ) (f : Form) → IsNo f input bytes → IsRefusedBy f input bytes' → ⊥
 form_no_refused input bytes bytes' Decide d r = d
@@ -287,14 +316,14 @@ form_refused input bytes bytes' Decide d e = one_refusal input bytes bytes' d e
 form_refused input bytes bytes' Check d e = one_check_refusal input bytes bytes' d e
 
 pub one_report : OneReport
-one_report words input Usage Usage bytes bytes' r s = (refl, λ _. r.1 ∙ sym s.1)
+one_report words input Usage Usage bytes bytes' r s = inr (refl, λ _. r.1 ∙ sym s.1)
 one_report words input Usage Done bytes bytes' r s = absurd (no_form words s.0 r.0 s.1)
 one_report words input Usage No bytes bytes' r s = absurd (no_form words s.0 r.0 s.1)
 one_report words input Usage Refused bytes bytes' r s = absurd (no_form words s.0 r.0 s.1)
 one_report words input Done Usage bytes bytes' r s = absurd (no_form words r.0 s.0 r.1)
 one_report words input No Usage bytes bytes' r s = absurd (no_form words r.0 s.0 r.1)
 one_report words input Refused Usage bytes bytes' r s = absurd (no_form words r.0 s.0 r.1)
-one_report words input Done Done bytes bytes' r s = (
+one_report words input Done Done bytes bytes' r s = inr (
   refl,
   λ other. form_done input bytes bytes' r.0
       (λ is. other (refl, subst (λ f. form_of words ≡ Some f) is r.1)) r.2
@@ -304,12 +333,12 @@ one_report words input Done No bytes bytes' r s =
     absurd (form_done_no input bytes bytes' r.0 r.2
     (subst (λ f. IsNo f input bytes') (same_form words s.0 r.0 s.1 r.1) s.2))
 one_report words input Done Refused bytes bytes' r s =
-    absurd (form_done_refused input bytes bytes' r.0 r.2
-    (subst (λ f. IsRefusedBy f input bytes') (same_form words s.0 r.0 s.1 r.1) s.2))
+    inl (open_words words input r.0 r.1 (form_done_refused input bytes bytes' r.0 r.2
+    (subst (λ f. IsRefusedBy f input bytes') (same_form words s.0 r.0 s.1 r.1) s.2)))
 one_report words input No Done bytes bytes' r s =
     absurd (form_done_no input bytes' bytes s.0 s.2
     (subst (λ f. IsNo f input bytes) (same_form words r.0 s.0 r.1 s.1) r.2))
-one_report words input No No bytes bytes' r s = (
+one_report words input No No bytes bytes' r s = inr (
   refl,
   λ _. form_no input bytes bytes' r.0 r.2 (subst (λ f. IsNo f input bytes') (same_form words s.0 r.0 s.1 r.1) s.2),
 )
@@ -317,12 +346,12 @@ one_report words input No Refused bytes bytes' r s =
     absurd (form_no_refused input bytes bytes' r.0 r.2
     (subst (λ f. IsRefusedBy f input bytes') (same_form words s.0 r.0 s.1 r.1) s.2))
 one_report words input Refused Done bytes bytes' r s =
-    absurd (form_done_refused input bytes' bytes s.0 s.2
-    (subst (λ f. IsRefusedBy f input bytes) (same_form words r.0 s.0 r.1 s.1) r.2))
+    inl (open_words words input s.0 s.1 (form_done_refused input bytes' bytes s.0 s.2
+    (subst (λ f. IsRefusedBy f input bytes) (same_form words r.0 s.0 r.1 s.1) r.2)))
 one_report words input Refused No bytes bytes' r s =
     absurd (form_no_refused input bytes' bytes s.0 s.2
     (subst (λ f. IsRefusedBy f input bytes) (same_form words r.0 s.0 r.1 s.1) r.2))
-one_report words input Refused Refused bytes bytes' r s = (
+one_report words input Refused Refused bytes bytes' r s = inr (
   refl,
   λ _. form_refused input bytes bytes' r.0 r.2
       (subst (λ f. IsRefusedBy f input bytes') (same_form words s.0 r.0 s.1 r.1) s.2),

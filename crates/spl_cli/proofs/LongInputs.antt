@@ -1,8 +1,7 @@
 -- What an input that is longer than the limit of its form comes to, each longer input comes to.
-use Rattle.std.specs.Prelude.{◌≡◌, ◌≢◌, ◌⊎◌, ℕ, ◌+◌, ◌<◌, ◌≤◌, refl, option_and_then}
-use Rattle.std.specs.Prelude.{List, ◌++◌, length, Option, None, Some}
+use Rattle.std.specs.Prelude.{◌≡◌, ◌⊎◌, ℕ, ◌<◌, ◌≤◌, refl, option_and_then}
+use Rattle.std.specs.Prelude.{List, ◌++◌, length, Some}
 use Rattle.std.proofs.Common.{inl, inr, ⊎_elim, sym, ◌∙◌, ap, subst, arith, length-append}
-use Rattle.std.proofs.lemmas.Bool.{cases_lt}
 use Rattle.spl_table.specs.Refusal.{table_limit, front_limit, whole, IsFirstFault, IsRefusal}
 use Rattle.spl_table.specs.declared.refusal.Refusal.{Refusal}
 use Rattle.spl_table.specs.declared.refusal.Kind.{Kind}
@@ -14,7 +13,7 @@ use Rattle.spl_cli.specs.declared.status.Status.TheVariants.{Done, No, Usage, Re
 use Rattle.spl_cli.specs.declared.words.Form.{Form}
 use Rattle.spl_cli.specs.declared.words.Form.TheVariants.{Decide, Check}
 use Rattle.spl_cli.specs.Forms.{form_of, limit_of_form, limit_of}
-use Rattle.spl_cli.specs.Report.{Report, IsUndecided, IsRefused, IsTooLong, IsTableRefused, IsEvidenceRefused}
+use Rattle.spl_cli.specs.Report.{Report, IsUndecided, IsTooLong, IsTableRefused, IsEvidenceRefused}
 use Rattle.spl_cli.specs.Report.{IsCheckRefused, IsDone, IsNo, IsRefusedBy}
 
 -- a fault of a table text that is too long is one of each longer text

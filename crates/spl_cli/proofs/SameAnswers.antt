@@ -1,32 +1,33 @@
 -- What `check` answers to an input is the same whichever table the text in front is read as: two tables of one text
 -- have the same operations, degree and constants.
-use Rattle.std.specs.Prelude.{◌≡◌, ◌⊎◌, ℕ, ◌+◌, ◌*◌, ◌<◌, ◌≤◌, ◌^◌, List, [], ◌∷◌, length, refl}
+use Rattle.std.specs.Prelude.{◌≡◌, ◌⊎◌, ℕ, ◌+◌, ◌*◌, ◌≤◌, ◌^◌, List, length}
 use Rattle.std.proofs.Common.{inl, inr, ⊎_elim, sym, ◌∙◌, ap, ap₂, subst, arith}
 use Rattle.std.proofs.Math.Nat.{mul-le-mul}
 use Rattle.theory_rings.specs.Ops.{Ops}
 use Rattle.theory_fractions.specs.Fraction.{Pair}
-use Rattle.theory_tables.specs.Structure.{Structure}
-use Rattle.spl_field.specs.SmallField.{size_of as elements_of}
+use Rattle.theory_tables.specs.Structure.{Structure, IsOver}
+use Rattle.spl_field.specs.SmallField.{size_of as elements_of, characteristic, modulus_of}
 use Rattle.spl_field.specs.declared.small.SmallField.{SmallField}
 use Rattle.spl_text.specs.Text.{IsNumber}
 use Rattle.spl_table.specs.TableText.{TableText, line_of_end}
 use Rattle.spl_table.specs.Table.{field_of, degree_of, algebra_of, ops_of, IsTableOf, HasSameAlgebra}
-use Rattle.spl_table.specs.Refusal.{front, IsTableText, IsRefusal}
+use Rattle.spl_table.specs.Refusal.{front, IsRefusal}
 use Rattle.spl_table.specs.declared.table.Table.{Table}
 use Rattle.spl_table.specs.declared.refusal.Refusal.{Refusal}
 use Rattle.spl_table.proofs.OneRefusal.{refusal_unique as table_refusal_unique}
 use Rattle.spl_table.proofs.TextLaws.{table_unique, no_table_fault}
 use Rattle.spl_table.proofs.Agreement.Tables.{tables_agree}
 use Rattle.spl_evidence.specs.Claim.{Claim}
-use Rattle.spl_evidence.specs.Evidence.{Fits, IsEvidenceText}
+use Rattle.spl_evidence.specs.Evidence.{IsEvidenceText}
 use Rattle.spl_evidence.specs.Refusal.{IsRefusal as IsRefusalOfEvidence}
 use Rattle.spl_evidence.specs.declared.evidence.Evidence.{Evidence}
 use Rattle.spl_evidence.specs.declared.refusal.EvidenceRefusal.{EvidenceRefusal}
 use Rattle.spl_evidence.proofs.SameFractions.{refusal_same}
 use Rattle.spl_evidence.proofs.TextLaws.{evidence_unique, not_both, refusal_unique}
-use Rattle.spl_check.specs.Verdict.{FailsFirst, conditions}
-use Rattle.spl_check.specs.declared.verdict.Verdict.TheVariants.{Yes, No}
-use Rattle.spl_check.proofs.Verdicts.{verdict_claim, first_unique}
+use Rattle.spl_check.specs.Verdict.{AllHold, FailsFirst, conditions}
+use Rattle.spl_check.specs.declared.verdict.Verdict.TheVariants.{No}
+use Rattle.spl_check.proofs.SameConditions.{all_same, fails_same}
+use Rattle.spl_check.proofs.Verdicts.{claim_of_all, all_of_claim, verdict_claim, first_unique}
 use Rattle.spl_cli.specs.Report.{StandsInFront, IsTableAndEvidence, SaysYes, SaysNo, IsTooLong, IsTableRefused}
 use Rattle.spl_cli.specs.Report.{IsEvidenceRefused, IsCheckRefused, refusal_text, evidence_refusal_text, no_text}
 
@@ -58,6 +59,16 @@ module _ (input : List ℕ) (T U : Table) (a : StandsInFront input T) (b : Stand
       (subst (λ n. P (ops_of U) (algebra_of U) n a.rest) agree.degree
       (subst (λ (A : Structure (Pair ℕ)). P (ops_of U) A (degree_of T) a.rest) agree.algebra
       (subst (λ (o : Ops (Pair ℕ)). P o (algebra_of T) (degree_of T) a.rest) agree.operations h)))
+
+  -- so does what holds of the field, where it holds of each by the same numbers
+  over_field : (P : SmallField → Structure (Pair ℕ) → ℕ → Type 0)
+      → ((f g : SmallField) (A : Structure (Pair ℕ)) (n : ℕ) → characteristic f ≡ characteristic g
+      → modulus_of f ≡ modulus_of g → P f A n → P g A n)
+      → P (field_of T) (algebra_of T) (degree_of T) → P (field_of U) (algebra_of U) (degree_of U)
+  over_field P same h =
+      subst (P (field_of U) (algebra_of U)) agree.degree
+      (subst (λ (A : Structure (Pair ℕ)). P (field_of U) A (degree_of T)) agree.algebra
+      (same (field_of T) (field_of U) (algebra_of T) (degree_of T) agree.characteristic agree.modulus h))
 
   elements : elements_of (field_of T) ≡ elements_of (field_of U)
   elements =
@@ -98,30 +109,38 @@ module _ (input : List ℕ) (T U : Table) (a : StandsInFront input T) (b : Stand
 table_refused : (input : List ℕ) (U : Table) (b : StandsInFront input U) (r : Refusal) → IsRefusal front input r → ⊥
 table_refused input U b r h = no_table_fault front input b.text b.rest b.is_text r h
 
+pub over_of : (U : Table) → IsOver (ops_of U) (algebra_of U)
+over_of U = record { right_length = U.count; of_elements = U.over }
+
 module _ (input : List ℕ) (T U : Table) (e g : Evidence) (x : IsTableAndEvidence input T e)
     (y : IsTableAndEvidence input U g) where
   same_evidence : e ≡ g
   same_evidence = one_evidence input T U x.stands y.stands e g x.is_evidence y.is_evidence
 
   -- what is claimed of the one table is claimed of the other
-  pub claim_over : Claim (ops_of T) (algebra_of T) (degree_of T) e → Claim (ops_of U) (algebra_of U) (degree_of U) g
+  pub claim_over : Claim (field_of T) (algebra_of T) (degree_of T) e → Claim (field_of U) (algebra_of U) (degree_of U) g
   claim_over h =
-      subst (Claim (ops_of U) (algebra_of U) (degree_of U)) same_evidence
-      (over input T U x.stands y.stands (λ o A n r. Claim o A n e) h)
+      let text = y.is_evidence in
+      claim_of_all (field_of U) (algebra_of U) (over_of U) (degree_of U) g U.dim text.fits
+      (subst (λ (z : Evidence). AllHold (conditions (field_of U) (algebra_of U) (degree_of U) z)) same_evidence
+      (over_field input T U x.stands y.stands (λ f A n. AllHold (conditions f A n e))
+      (λ f g A n p m. all_same f g p m A n e)
+      (all_of_claim (field_of T) (algebra_of T) (over_of T) (degree_of T) e h)))
 
-  pub fails_over : (c : ℕ) → FailsFirst (conditions (ops_of T) (algebra_of T) (degree_of T) e) c
-      → FailsFirst (conditions (ops_of U) (algebra_of U) (degree_of U) g) c
+  pub fails_over : (c : ℕ) → FailsFirst (conditions (field_of T) (algebra_of T) (degree_of T) e) c
+      → FailsFirst (conditions (field_of U) (algebra_of U) (degree_of U) g) c
   fails_over c h =
-      subst (λ (z : Evidence). FailsFirst (conditions (ops_of U) (algebra_of U) (degree_of U) z) c) same_evidence
-      (over input T U x.stands y.stands (λ o A n r. FailsFirst (conditions o A n e) c) h)
+      subst (λ (z : Evidence). FailsFirst (conditions (field_of U) (algebra_of U) (degree_of U) z) c) same_evidence
+      (over_field input T U x.stands y.stands (λ f A n. FailsFirst (conditions f A n e) c)
+      (λ f g A n p m. fails_same f g p m A n e c) h)
 
 -- where a condition fails, the claim does
 pub fails_claim : (input : List ℕ) (U : Table) (g : Evidence) → IsTableAndEvidence input U g → (c : ℕ)
-    → FailsFirst (conditions (ops_of U) (algebra_of U) (degree_of U) g) c
-    → Claim (ops_of U) (algebra_of U) (degree_of U) g → ⊥
+    → FailsFirst (conditions (field_of U) (algebra_of U) (degree_of U) g) c
+    → Claim (field_of U) (algebra_of U) (degree_of U) g → ⊥
 fails_claim input U g y c fails claim =
     let text = y.is_evidence in
-    let yes = (verdict_claim (ops_of U) (algebra_of U) (degree_of U) g U.dim text.fits (No c) fails).1 claim in
+    let yes = (verdict_claim (field_of U) (algebra_of U) (over_of U) (degree_of U) g U.dim text.fits (No c) fails).1 claim in
     absurd (cc)
 
 pub yes_or_no : (input bytes bytes' : List ℕ) → SaysYes input bytes → SaysNo input bytes' → ⊥
@@ -132,7 +151,7 @@ yes_or_no input bytes bytes' y n =
 pub one_condition : (input bytes bytes' : List ℕ) → SaysNo input bytes → SaysNo input bytes' → bytes ≡ bytes'
 one_condition input bytes bytes' n m =
     n.report
-    ∙ ap no_text (first_unique (conditions (ops_of m.table) (algebra_of m.table) (degree_of m.table) m.evidence)
+    ∙ ap no_text (first_unique (conditions (field_of m.table) (algebra_of m.table) (degree_of m.table) m.evidence)
     n.condition m.condition
     (fails_over input n.table m.table n.evidence m.evidence n.read m.read n.condition n.fails) m.fails)
     ∙ sym m.report

@@ -2,7 +2,7 @@
 -- wanting; and over which sources and sinks no fault comes.
 use Rattle.std.specs.Prelude.{◌≡◌, ◌≢◌, ◌⊎◌, ◌↔◌, ℕ, ◌+◌, ◌<◌, ◌≤◌, IsTrue, List, [], ◌∷◌, ◌++◌, length, codes, Some}
 use Rattle.spl_table.specs.TableText.{TableText, line_of_end}
-use Rattle.spl_table.specs.Table.{field_of, degree_of, algebra_of, ops_of}
+use Rattle.spl_table.specs.Table.{field_of, degree_of, algebra_of}
 use Rattle.spl_table.specs.Refusal.{whole, front, front_limit, IsTableText, IsRefusal}
 use Rattle.spl_table.specs.declared.table.Table.{Table}
 use Rattle.spl_table.specs.declared.refusal.Refusal.{Refusal}
@@ -10,6 +10,7 @@ use Rattle.spl_table.specs.declared.refusal.Kind.TheVariants.{TooLong}
 use Rattle.spl_evidence.specs.Claim.{Claim}
 use Rattle.spl_evidence.specs.Refusal.{IsRefusal as IsRefusalOfEvidence}
 use Rattle.spl_evidence.specs.declared.evidence.Evidence.{Evidence}
+use Rattle.spl_evidence.specs.declared.evidence.Evidence.TheVariants.{Ramified}
 use Rattle.spl_evidence.specs.declared.refusal.EvidenceRefusal.{EvidenceRefusal}
 use Rattle.spl_check.specs.Verdict.{FailsFirst, conditions}
 use Rattle.spl_cli.specs.declared.status.Status.{Status}
@@ -32,16 +33,24 @@ pub record IsNotBuilt (input bytes : List ℕ) : Type 0 where
   pub undecided : IsUndecided input refusal
   pub report : bytes ≡ refusal_text refusal
 
+-- the evidence is a ramified place
+abbrev pub IsOfPlace : Evidence → Type 0
+IsOfPlace (Ramified place order radical) = Unit {0}
+IsOfPlace e = ⊥
+
 -- what is written for an input, and the status that goes with it
 pub record DecidesInput (input bytes : List ℕ) (status : Status) : Type 0 where
   -- an input that is no table text is refused with its first fault
   pub refused : (r : Refusal) → IsRefusal whole input r → (status ≡ Refused) × (bytes ≡ refusal_text r)
-  -- for a table text evidence is written: its claim holds, it is of the first kind that fits, the table's algebra isn't
-  -- central simple, and no matrices split it; or no kind fits, and the table's algebra is central simple. No input has
-  -- both
+  -- for a table text evidence is written whose claim holds, of the first kind that fits: a failed law, a central element
+  -- or a proper ideal, and then the algebra isn't central simple, and no matrices split it; or a ramified place, and then
+  -- no matrices of any size ≥ 1 split it. Or else the algebra is central simple, and orders over the polynomials and at
+  -- infinity are their own duals at all places
   pub decided : (t : TableText) → IsTableText whole input t []
-      → ((status ≡ Done) × IsDecided input bytes × ((r : Refusal) → IsUndecided input r → ⊥))
-      ⊎ ((status ≡ Refused) × IsNotBuilt input bytes × ((other : List ℕ) → IsDecided input other → ⊥))
+      → ((status ≡ Done) × IsDecided input bytes) ⊎ ((status ≡ Refused) × IsNotBuilt input bytes)
+  -- no input has both, but perhaps where the evidence is a ramified place
+  pub excluded : (r : Refusal) → IsUndecided input r → (other : List ℕ) (d : IsDecided input other)
+      → (let s = d.shows in IsOfPlace s.evidence)
 
 -- what is written for an input of a table and evidence behind it, and the status that goes with it
 pub record ChecksInput (input bytes : List ℕ) (status : Status) : Type 0 where
@@ -57,13 +66,13 @@ pub record ChecksInput (input bytes : List ℕ) (status : Status) : Type 0 where
       → (status ≡ Refused) × (bytes ≡ evidence_refusal_text r)
   -- for every table and evidence that are accepted: it is done exactly where the claim holds, and says `yes`
   pub done : (t : Table) (e : Evidence) → IsTableAndEvidence input t e
-      → (status ≡ Done) ↔ Claim (ops_of t) (algebra_of t) (degree_of t) e
+      → (status ≡ Done) ↔ Claim (field_of t) (algebra_of t) (degree_of t) e
   pub yes : (t : Table) (e : Evidence) → IsTableAndEvidence input t e → status ≡ Done → bytes ≡ codes "yes\n"
   -- it is No exactly where the claim fails, and says the number of the first condition that fails
   pub fails : (t : Table) (e : Evidence) → IsTableAndEvidence input t e
-      → (status ≡ No) ↔ (Claim (ops_of t) (algebra_of t) (degree_of t) e → ⊥)
+      → (status ≡ No) ↔ (Claim (field_of t) (algebra_of t) (degree_of t) e → ⊥)
   pub no : (t : Table) (e : Evidence) → IsTableAndEvidence input t e → (c : ℕ)
-      → FailsFirst (conditions (ops_of t) (algebra_of t) (degree_of t) e) c → bytes ≡ no_text c
+      → FailsFirst (conditions (field_of t) (algebra_of t) (degree_of t) e) c → bytes ≡ no_text c
 
 -- a run of these words on a told input, into a sink that tells what is written, comes to this
 abbrev pub RunComesTo : List (List ℕ) → (List ℕ → List ℕ → Status → Type 0) → Type 0
@@ -78,11 +87,21 @@ RunDecides = RunComesTo (codes "decide" ∷ []) DecidesInput
 abbrev pub RunChecks : Type 0
 RunChecks = RunComesTo (codes "check" ∷ []) ChecksInput
 
--- words and an input have one status, and one text but for the evidence that `decide` writes
+-- the input is the text of a table that has evidence, and is undecided too: by `excluded` above, of one with a ramified
+-- place and orders that are their own duals at all places
+pub record IsOpen (input : List ℕ) : Type 0 where
+  pub bytes : List ℕ
+  pub decided : IsDecided input bytes
+  pub refusal : Refusal
+  pub undecided : IsUndecided input refusal
+
+-- words and an input have one status, and one text but for the evidence that `decide` writes; that no input of `decide`
+-- is open is not shown yet
 abbrev pub OneReport : Type 0
 OneReport = (words : List (List ℕ)) (input : List ℕ) (status status' : Status) (bytes bytes' : List ℕ)
     → Report words input status bytes → Report words input status' bytes'
-    → (status ≡ status') × (((status ≡ Done) × (form_of words ≡ Some Decide) → ⊥) → bytes ≡ bytes')
+    → ((form_of words ≡ Some Decide) × IsOpen input)
+    ⊎ ((status ≡ status') × (((status ≡ Done) × (form_of words ≡ Some Decide) → ⊥) → bytes ≡ bytes'))
 
 -- some report on the source's input is longer than what is left of the room after the bytes that are there before
 pub record HasLongReport (words : List (List ℕ)) (source : SourceState) (before : List ℕ) (room : ℕ) : Type 0 where

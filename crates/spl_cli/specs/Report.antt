@@ -1,5 +1,5 @@
 -- What a run reports: the status, and all the bytes that are written.
-use Rattle.std.specs.Prelude.{◌≡◌, ◌⊎◌, ℕ, ◌+◌, ◌<◌, ◌≤◌, List, [], ◌++◌, length, codes, decimal, Option, Some, None}
+use Rattle.std.specs.Prelude.{◌≡◌, ◌⊎◌, ℕ, ◌+◌, ◌<◌, ◌≤◌, List, [], ◌++◌, length, codes, decimal, Some, None}
 use Rattle.spl_table.specs.TableText.{TableText, line_of_end}
 use Rattle.spl_table.specs.Table.{field_of, degree_of, algebra_of, ops_of, IsTableOf}
 use Rattle.spl_table.specs.Refusal.{whole, front, front_limit, IsTableText, IsRefusal}
@@ -17,7 +17,7 @@ use Rattle.spl_evidence.specs.declared.refusal.EvidenceRefusal.{EvidenceRefusal}
 use Rattle.spl_evidence.specs.declared.refusal.EvidenceKind.{EvidenceKind}
 use Rattle.spl_evidence.specs.declared.refusal.EvidenceKind.TheVariants.{EvHeader, EvNoEnd, EvForm, EvRange, EvOrder}
 use Rattle.spl_evidence.specs.declared.refusal.EvidenceKind.TheVariants.{EvTerms, EvAfterEnd}
-use Rattle.spl_engine.specs.Kind.{IsEvidence, HasNoFault}
+use Rattle.spl_engine.specs.Kind.{IsEvidence, HasUnimodularOrders}
 use Rattle.spl_check.specs.Verdict.{FailsFirst, conditions}
 use Rattle.spl_cli.specs.declared.status.Status.{Status}
 use Rattle.spl_cli.specs.declared.status.Status.TheVariants.{Done, No, Usage, Refused, ReadFault, WriteFault, Memory}
@@ -75,19 +75,19 @@ pub record Stands (input : List ℕ) (table : Table) : Type 0 where
   pub is_text : IsTableText whole input text []
   pub is_table : IsTableOf text table
 
--- the input is the text of a table whose algebra is central simple, and its trace form nondegenerate. No part that is
--- built decides it
+-- the input is the text of a table whose algebra is central simple, its trace form nondegenerate, and orders over the
+-- polynomials and at infinity are their own duals for it at all places. No part that is built decides it
 pub record IsUndecided (input : List ℕ) (refusal : Refusal) : Type 0 where
   pub table : Table
   pub stands : Stands input table
-  pub no_fault : HasNoFault (ops_of table) (algebra_of table)
+  pub unimodular : HasUnimodularOrders (field_of table) (algebra_of table)
   pub line : refusal.line ≡ line_of_end stands.text
   pub kind : refusal.kind ≡ NotBuilt
 
--- the bytes are the text of evidence that the table's algebra isn't central simple
+-- the bytes are the text of evidence that no matrices split the table's algebra
 pub record ShowsEvidence (table : Table) (bytes : List ℕ) : Type 0 where
   pub evidence : Evidence
-  pub holds : IsEvidence (ops_of table) (algebra_of table) (degree_of table) evidence
+  pub holds : IsEvidence (field_of table) (algebra_of table) (degree_of table) evidence
   pub text : IsEvidenceText (ops_of table) (degree_of table) bytes evidence
 
 -- the input is the text of a table, and the bytes are the text of such evidence
@@ -122,7 +122,7 @@ pub record SaysYes (input bytes : List ℕ) : Type 0 where
   pub table : Table
   pub evidence : Evidence
   pub read : IsTableAndEvidence input table evidence
-  pub claim : Claim (ops_of table) (algebra_of table) (degree_of table) evidence
+  pub claim : Claim (field_of table) (algebra_of table) (degree_of table) evidence
   pub report : bytes ≡ codes "yes\n"
 
 -- `no C`
@@ -135,7 +135,7 @@ pub record SaysNo (input bytes : List ℕ) : Type 0 where
   pub evidence : Evidence
   pub read : IsTableAndEvidence input table evidence
   pub condition : ℕ
-  pub fails : FailsFirst (conditions (ops_of table) (algebra_of table) (degree_of table) evidence) condition
+  pub fails : FailsFirst (conditions (field_of table) (algebra_of table) (degree_of table) evidence) condition
   pub report : bytes ≡ no_text condition
 
 -- the input has too many bytes

@@ -5,8 +5,9 @@ ghost use Rattle.spl_cli.specs.Finish.{source_state, sink_state};
 use spl_outside::outside::{Sink, Source};
 
 /// The main theorem of the program, as far as it is built: for each table text `decide` writes evidence whose claim
-/// holds, or, where the algebra is central simple, that no part decides it yet; an input with a fault is refused with
-/// its first one.
+/// holds, a failed law, a central element, a proper ideal or a ramified place, so that no matrices split the algebra; or,
+/// only where orders are their own duals at all places, that no part decides it yet. An input with a fault is refused
+/// with its first one.
 pub fn run_decides()
     ensures { RunDecides }
 {}
@@ -18,8 +19,9 @@ pub fn run_checks()
     ensures { RunChecks }
 {}
 
-/// Words and an input have one status, and one text but for the evidence that `decide` writes: so no table text is both
-/// decided and undecided, and no claim both holds and fails.
+/// Words and an input have one status, and one text but for the evidence that `decide` writes: so no claim both holds and
+/// fails. One case is left open: a table text for which `decide` may write a ramified place, or that no part decides
+/// it.
 pub fn one_report()
     ensures { OneReport }
 {}

@@ -9,7 +9,7 @@ ghost use Rattle.spl_evidence.specs.declared.evidence.Evidence.{Evidence};
 ghost use Rattle.spl_evidence.specs.declared.refusal.EvidenceRefusal.{EvidenceRefusal};
 ghost use Rattle.spl_evidence.specs.declared.refusal.EvidenceFault.{EvidenceFault};
 ghost use Rattle.spl_check.specs.Verdict.{IsVerdict, conditions};
-ghost use Rattle.spl_engine.specs.Kind.{HasNoFault};
+ghost use Rattle.spl_engine.specs.Kind.{HasUnimodularOrders};
 ghost use Rattle.spl_cli.specs.declared.words.Form.TheVariants.{Decide, Check};
 ghost use Rattle.spl_cli.specs.Run.{IsRun};
 ghost use Rattle.spl_cli.specs.Report.{Report, ShowsEvidence};
@@ -56,7 +56,7 @@ fn finish<K: Sink>(sink: &mut K, bytes: &[u8], answer: Status) -> Status
 
 /// The text of the table's evidence; None where it has none.
 fn evidence_on(alloc: Global, table: &Table) -> Result<Option<Vec<u8>>, NoMemory>
-    ensures { IfOk result (λ r. MatchOption r (HasNoFault (ops_of table.now) (algebra_of table.now))
+    ensures { IfOk result (λ r. MatchOption r (HasUnimodularOrders (field_of table.now) (algebra_of table.now))
         (λ text. ShowsEvidence table.now text.items)) }
 {
     match decide(alloc, table)? {
@@ -108,7 +108,7 @@ fn verdict_on(
     requires { first_line ≤ 4000000000 }
     ensures verdict { IfOk result (λ v. (e : Evidence)
         × IsEvidenceText (ops_of table.now) (degree_of table.now) text.now e
-        × IsVerdict (conditions (ops_of table.now) (algebra_of table.now) (degree_of table.now) e) v) }
+        × IsVerdict (conditions (field_of table.now) (algebra_of table.now) (degree_of table.now) e) v) }
     ensures refused { (refusal : EvidenceRefusal) → result ≡ Err (EvidenceFault.Refused refusal)
         → IsRefusalOfEvidence (field_of table.now) (degree_of table.now) first_line text.now refusal }
 {

@@ -12,16 +12,19 @@ use Rattle.theory_tables.proofs.Algebras.Exclusions.{claims_exclude}
 use Rattle.theory_tables.proofs.Algebras.CentralSimple.{central_simple_by_trace_form}
 use Rattle.spl_evidence.specs.declared.evidence.Evidence.{Evidence}
 use Rattle.spl_evidence.specs.declared.evidence.Evidence.TheVariants.{Triple as TripleEvidence, NoIdentity, Central}
-use Rattle.spl_evidence.specs.declared.evidence.Evidence.TheVariants.{Ideal, Split}
-use Rattle.spl_evidence.specs.Claim.{Claim}
-use Rattle.spl_evidence.specs.Shown.{IsNoMatrixAlgebra}
+use Rattle.spl_evidence.specs.declared.evidence.Evidence.TheVariants.{Ideal, Ramified}
+use Rattle.spl_evidence.specs.Claim.{Claim, RamifiedClaim}
 use Rattle.spl_evidence.proofs.Shown.{claim_shows}
+use Rattle.spl_field.specs.declared.small.SmallField.{SmallField}
+use Rattle.spl_fraction.specs.declared.place.Place.{Place}
+use Rattle.spl_local.specs.Everywhere.{IsFirstRamified, IsUnimodularEverywhere}
+use Rattle.theory_bases.specs.Bases.{BasisForm}
 use Rattle.spl_table.specs.Table.{field_of, degree_of, algebra_of, ops_of}
 use Rattle.spl_table.specs.declared.table.Table.{Table}
 use Rattle.spl_algebra.specs.Triple.{IsFirstFailed}
 use Rattle.spl_algebra.specs.declared.triple.Triple.{Triple}
 use Rattle.spl_centre.specs.TraceIdeal.{IsTraceIdeal}
-use Rattle.spl_engine.specs.Kind.{IsOfKind, IsEvidence, HasNoFault}
+use Rattle.spl_engine.specs.Kind.{IsOfKind, IsEvidence, HasNoFault, HasUnimodularOrders}
 
 module _ (table : Table) where
   abbrev o : Ops (Pair ℕ)
@@ -42,18 +45,13 @@ module _ (table : Table) where
   abbrev n : ℕ
   n = degree_of table
 
-  -- an algebra of whose kind the evidence is, and of which its claim holds, is no matrix algebra
-  excluded : (e : Evidence) → IsOfKind o A e → Claim o A n e → IsNoMatrixAlgebra o A
-  excluded (TripleEvidence i j k) kind c = claim_shows o L A over n table.dim (TripleEvidence i j k) c
-  excluded (NoIdentity left right) kind c = claim_shows o L A over n table.dim (NoIdentity left right) c
-  excluded (Central tuple) kind c = claim_shows o L A over n table.dim (Central tuple) c
-  excluded (Ideal tuples) kind c = claim_shows o L A over n table.dim (Ideal tuples) c
-  excluded (Split maps units) kind c = absurd kind
+  abbrev f : SmallField
+  f = field_of table
 
-  evidence : (e : Evidence) → IsOfKind o A e → Claim o A n e → IsEvidence o A n e
-  evidence e kind claim = record { kind = kind; claim = claim; no_matrix_algebra = excluded e kind claim }
+  evidence : (e : Evidence) → IsOfKind f A e → Claim f A n e → IsEvidence f A n e
+  evidence e kind claim = record { kind = kind; claim = claim; shows = claim_shows f A over n table.dim e claim }
 
-  pub of_triple : (t : Triple) → IsFirstFailed o A t → IsEvidence o A n (TripleEvidence t.i t.j t.k)
+  pub of_triple : (t : Triple) → IsFirstFailed o A t → IsEvidence f A n (TripleEvidence t.i t.j t.k)
   of_triple t h = evidence (TripleEvidence t.i t.j t.k) h record {
     fits = ((h.i_low, h.i_high), (h.j_low, h.j_high), (h.k_low, h.k_high));
     differ = h.fails;
@@ -61,13 +59,13 @@ module _ (table : Table) where
 
   pub of_no_identity : (left right : List (ℕ × ℕ × Pair ℕ)) → IsAssociative o A
       → NoIdentityClaim o A left right
-      → IsEvidence o A n (NoIdentity left right)
+      → IsEvidence f A n (NoIdentity left right)
   of_no_identity left right associative claim =
       evidence (NoIdentity left right) (associative, exclude.no_identity left right claim) claim
 
   pub of_central : (tuple : List (Pair ℕ)) → IsAssociative o A → HasIdentity o A
       → CentralClaim o A tuple
-      → IsEvidence o A n (Central tuple)
+      → IsEvidence f A n (Central tuple)
   of_central tuple associative identity claim =
       evidence (Central tuple) record {
         associative = associative;
@@ -78,7 +76,7 @@ module _ (table : Table) where
 
   pub of_ideal : (tuples : List (List (Pair ℕ))) → IsAssociative o A → HasSmallCentre o A
       → IsTraceIdeal o A tuples
-      → IsEvidence o A n (Ideal tuples)
+      → IsEvidence f A n (Ideal tuples)
   of_ideal tuples associative centre h =
       evidence (Ideal tuples) record {
         associative = associative;
@@ -87,6 +85,16 @@ module _ (table : Table) where
             (central_simple_by_trace_form o L A over associative centre form);
         radical = h.spans;
       } h.claim
+
+  pub of_ramified : (place : Place) (order radical : List (List (Pair ℕ))) → HasNoFault o A
+      → RamifiedClaim f A place order radical × IsFirstRamified f A place
+      → IsEvidence f A n (Ramified place order radical)
+  of_ramified place order radical no_fault h = evidence (Ramified place order radical) (no_fault, h.1) h.0
+
+  pub of_unimodular : (finite infinite : BasisForm ℕ) → HasNoFault o A → IsUnimodularEverywhere f A finite infinite
+      → HasUnimodularOrders f A
+  of_unimodular finite infinite no_fault h =
+      record { no_fault = no_fault; finite = finite; infinite = infinite; unimodular = h }
 
   pub of_none : IsAssociative o A → HasSmallCentre o A → IsNondegenerate o A
       → HasNoFault o A

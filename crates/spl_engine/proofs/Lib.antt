@@ -1,2 +1,3 @@
 mod Findings
 pub mod Degrees
+pub mod RamifiedPlaces

@@ -1,5 +1,6 @@
 pub mod Fits
 pub mod Shown
+mod PlaceTexts
 mod LineTexts
 mod SpacedWords
 mod LineParts

@@ -1,10 +1,10 @@
 -- The line that a word, numbers and fractions make, and that no other part makes one.
-use Rattle.std.proofs.Common.{◌≡◌, ◌≢◌, ◌⊎◌, ℕ, List, [], ◌∷◌, ◌++◌, length, sym, ap, ◌∙◌, inl, inr, arith}
+use Rattle.std.proofs.Common.{◌≡◌, ◌≢◌, ◌⊎◌, ℕ, List, [], ◌∷◌, ◌++◌, length, sym, ap, subst, ◌∙◌, inl, inr, arith}
 use Rattle.std.specs.List.{AllByRecursion}
 use Rattle.std.proofs.lemmas.List.{append_cancel_left}
 use Rattle.spl_text.specs.Text.{IsNumber, FractionText, IsFractionText}
 use Rattle.spl_evidence.specs.Line.{Line, word_text, number_count, fraction_count, numbers_text, fractions_text}
-use Rattle.spl_evidence.specs.Line.{line_text, HasForm}
+use Rattle.spl_evidence.specs.Line.{line_text, HasLists, HasForm}
 use Rattle.spl_evidence.specs.Reading.{EndsWord}
 use Rattle.spl_evidence.specs.declared.word.Word.{Word}
 use Rattle.spl_evidence.proofs.LineTexts.{numbers_and_rest, EndsWord-fractions}
@@ -49,13 +49,24 @@ module _ (m : ℕ) (w : Word) (text rest : List ℕ) (cut : text ≡ word_text w
     no_fractions none l same h e =
         none l.fractions (h.fraction_count ∙ ap (fraction_count m) same) h.fractions (behind_numbers l same h e)
 
+    pub no_lists : ((ts : List FractionText) → AllByRecursion IsFractionText ts → after ≡ fractions_text ts
+        → HasLists w ts → ⊥) → (l : Line) → l.word ≡ w → HasForm m l → text ≢ line_text l
+    no_lists none l same h e =
+        none l.fractions h.fractions (behind_numbers l same h e) (subst (λ v. HasLists v l.fractions) same h.lists)
+
     module _ (ts : List FractionText) (number : length ts ≡ fraction_count m w)
-        (all : AllByRecursion IsFractionText ts) (last : after ≡ fractions_text ts) where
+        (all : AllByRecursion IsFractionText ts) (last : after ≡ fractions_text ts) (lists : HasLists w ts) where
       abbrev pub line_made : Line
       line_made = record { word = w; numbers = ns; fractions = ts }
 
       pub form_made : HasForm m line_made
-      form_made = record { number_count = many; numbers = each; fraction_count = number; fractions = all }
+      form_made = record {
+        number_count = many;
+        numbers = each;
+        fraction_count = number;
+        fractions = all;
+        lists = lists;
+      }
 
       pub text_made : text ≡ line_text line_made
       text_made = cut ∙ ap (λ t. word_text w ++ t) (spelled ∙ ap (λ t. numbers_text ns ++ t) last)

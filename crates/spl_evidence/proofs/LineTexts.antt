@@ -1,5 +1,5 @@
 -- The text of a line: what it lacks, and that it is that of one line.
-use Rattle.std.proofs.Common.{◌≡◌, ℕ, ◌+◌, ◌*◌, ◌<◌, cond, eqb, List, [], ◌∷◌, ◌++◌, length, get_or, refl, sym, ap}
+use Rattle.std.proofs.Common.{◌≡◌, ◌⊎◌, ℕ, ◌+◌, ◌*◌, ◌<◌, cond, eqb, List, [], ◌∷◌, ◌++◌, length, get_or, refl, sym, ap}
 use Rattle.std.proofs.Common.{ap₂, subst, ◌∙◌, inl, inr, arith, append_assoc, append-nil}
 use Rattle.std.specs.Prelude.{codes, decimal}
 use Rattle.std.specs.List.{flat_map, AllByRecursion}
@@ -8,10 +8,14 @@ use Rattle.spl_text.proofs.Words.{Lacks-from_test, Lacks-cons, Lacks-append, Lac
 use Rattle.spl_text.proofs.Words.{number_unique}
 use Rattle.spl_text.proofs.Fractions.{Lacks-fraction_text, fraction_unique}
 use Rattle.spl_evidence.specs.Reading.{EndsWord}
-use Rattle.spl_evidence.specs.Line.{Line, word_text, numbers_text, fractions_text, line_text, HasForm}
+use Rattle.spl_evidence.specs.Line.{Line, word_text, number_count, fraction_count, numbers_text}
+use Rattle.spl_evidence.specs.Line.{fractions_text, line_text, HasForm}
+use Rattle.std.proofs.lemmas.List.{append_cancel_left}
 use Rattle.spl_evidence.specs.declared.word.Word.{Word}
 use Rattle.spl_evidence.specs.declared.word.Word.TheVariants.{Triple, NoIdentity, Central, Ideal, Split, Left, Right}
 use Rattle.spl_evidence.specs.declared.word.Word.TheVariants.{Tuple, Map, Unit as UnitTuple, End}
+use Rattle.spl_evidence.specs.declared.word.Word.TheVariants.{Ramified, RamifiedInfinity, Order, Radical}
+use Rattle.spl_evidence.proofs.PlaceTexts.{no_infinity}
 
 -- ---- words behind one another, a space before each
 
@@ -88,17 +92,79 @@ fractions_unique ts us same p q e =
 
 -- ---- words
 
--- the word by two of its letters
+-- what stands before the first space of a word's text, and what stands from it on
+abbrev front_text : Word → List ℕ
+front_text RamifiedInfinity = codes "ramified"
+front_text Triple = codes "triple"
+front_text NoIdentity = codes "noidentity"
+front_text Central = codes "central"
+front_text Ideal = codes "ideal"
+front_text Split = codes "split"
+front_text Ramified = codes "ramified"
+front_text Left = codes "left"
+front_text Right = codes "right"
+front_text Tuple = codes "tuple"
+front_text Map = codes "map"
+front_text UnitTuple = codes "unit"
+front_text Order = codes "order"
+front_text Radical = codes "radical"
+front_text End = codes "end"
+
+abbrev back_text : Word → List ℕ
+back_text RamifiedInfinity = codes " infinity"
+back_text _ = []
+
+front_and_back : (w : Word) → word_text w ≡ front_text w ++ back_text w
+front_and_back Triple = refl
+front_and_back NoIdentity = refl
+front_and_back Central = refl
+front_and_back Ideal = refl
+front_and_back Split = refl
+front_and_back Ramified = refl
+front_and_back RamifiedInfinity = refl
+front_and_back Left = refl
+front_and_back Right = refl
+front_and_back Tuple = refl
+front_and_back Map = refl
+front_and_back UnitTuple = refl
+front_and_back Order = refl
+front_and_back Radical = refl
+front_and_back End = refl
+
+EndsWord-back : (w : Word) (rest : List ℕ) → EndsWord rest → EndsWord (back_text w ++ rest)
+EndsWord-back RamifiedInfinity rest ends = inr (codes "infinity" ++ rest, refl)
+EndsWord-back Triple rest ends = ends
+EndsWord-back NoIdentity rest ends = ends
+EndsWord-back Central rest ends = ends
+EndsWord-back Ideal rest ends = ends
+EndsWord-back Split rest ends = ends
+EndsWord-back Ramified rest ends = ends
+EndsWord-back Left rest ends = ends
+EndsWord-back Right rest ends = ends
+EndsWord-back Tuple rest ends = ends
+EndsWord-back Map rest ends = ends
+EndsWord-back UnitTuple rest ends = ends
+EndsWord-back Order rest ends = ends
+EndsWord-back Radical rest ends = ends
+EndsWord-back End rest ends = ends
+
+-- the word whose text has no space, by three letters
 abbrev word_with : ℕ → Word
 word_with code =
-    cond (eqb code 344) Triple (cond (eqb code 332) NoIdentity (cond (eqb code 301) Central (cond (eqb code 305) Ideal
-    (cond (eqb code 339) Split (cond (eqb code 310) Left (cond (eqb code 324) Right (cond (eqb code 350) Tuple
-    (cond (eqb code 303) Map (cond (eqb code 337) UnitTuple End)))))))))
+    cond (eqb code 764) Triple (cond (eqb code 752) NoIdentity
+    (cond (eqb code 741) Central (cond (eqb code 709) Ideal (cond (eqb code 771) Split
+    (cond (eqb code 744) Ramified (cond (eqb code 718) Left (cond (eqb code 736) Right
+    (cond (eqb code 798) Tuple (cond (eqb code 751) Map (cond (eqb code 757) UnitTuple
+    (cond (eqb code 739) Order (cond (eqb code 708) Radical End))))))))))))
 
 abbrev code_of : List ℕ → ℕ
-code_of text = get_or text 0 0 + 2 * get_or text 1 0
+code_of text = get_or text 0 0 + 2 * get_or text 1 0 + 4 * get_or text 2 0
 
-word_with-code : (w : Word) → word_with (code_of (word_text w)) ≡ w
+abbrev base : Word → Word
+base RamifiedInfinity = Ramified
+base w = w
+
+word_with-code : (w : Word) → word_with (code_of (front_text w)) ≡ base w
 word_with-code Triple = refl
 word_with-code NoIdentity = refl
 word_with-code Central = refl
@@ -110,11 +176,44 @@ word_with-code Tuple = refl
 word_with-code Map = refl
 word_with-code UnitTuple = refl
 word_with-code End = refl
+word_with-code Ramified = refl
+word_with-code RamifiedInfinity = refl
+word_with-code Order = refl
+word_with-code Radical = refl
 
-word_text_unique : (w v : Word) → word_text w ≡ word_text v → w ≡ v
-word_text_unique w v e = sym (word_with-code w) ∙ ap (λ t. word_with (code_of t)) e ∙ word_with-code v
+is_base : (w : Word) → (w ≡ RamifiedInfinity) ⊎ (base w ≡ w)
+is_base RamifiedInfinity = inl refl
+is_base Triple = inr refl
+is_base NoIdentity = inr refl
+is_base Central = inr refl
+is_base Ideal = inr refl
+is_base Split = inr refl
+is_base Ramified = inr refl
+is_base Left = inr refl
+is_base Right = inr refl
+is_base Tuple = inr refl
+is_base Map = inr refl
+is_base UnitTuple = inr refl
+is_base Order = inr refl
+is_base Radical = inr refl
+is_base End = inr refl
 
-word_lacks_space : (w : Word) → Lacks 32 (word_text w)
+-- two words have one front, if they are one, or of places
+front_text_unique : (w v : Word) → front_text w ≡ front_text v
+    → (w ≡ v) ⊎ ((w ≡ Ramified) × (v ≡ RamifiedInfinity)) ⊎ ((w ≡ RamifiedInfinity) × (v ≡ Ramified))
+front_text_unique w v e = go (is_base w) (is_base v)
+  where
+    same : base w ≡ base v
+    same = sym (word_with-code w) ∙ ap (λ t. word_with (code_of t)) e ∙ word_with-code v
+
+    go : (w ≡ RamifiedInfinity) ⊎ (base w ≡ w) → (v ≡ RamifiedInfinity) ⊎ (base v ≡ v)
+        → (w ≡ v) ⊎ ((w ≡ Ramified) × (v ≡ RamifiedInfinity)) ⊎ ((w ≡ RamifiedInfinity) × (v ≡ Ramified))
+    go (inl p) (inl q) = inl (p ∙ sym q)
+    go (inl p) (inr q) = inr (inr (p, sym q ∙ sym same ∙ ap base p))
+    go (inr p) (inl q) = inr (inl (sym p ∙ same ∙ ap base q, q))
+    go (inr p) (inr q) = inl (sym p ∙ same ∙ q)
+
+word_lacks_space : (w : Word) → Lacks 32 (front_text w)
 word_lacks_space Triple = Lacks-from_test 32 (codes "triple") refl
 word_lacks_space NoIdentity = Lacks-from_test 32 (codes "noidentity") refl
 word_lacks_space Central = Lacks-from_test 32 (codes "central") refl
@@ -126,6 +225,10 @@ word_lacks_space Tuple = Lacks-from_test 32 (codes "tuple") refl
 word_lacks_space Map = Lacks-from_test 32 (codes "map") refl
 word_lacks_space UnitTuple = Lacks-from_test 32 (codes "unit") refl
 word_lacks_space End = Lacks-from_test 32 (codes "end") refl
+word_lacks_space Ramified = Lacks-from_test 32 (codes "ramified") refl
+word_lacks_space RamifiedInfinity = Lacks-from_test 32 (codes "ramified") refl
+word_lacks_space Order = Lacks-from_test 32 (codes "order") refl
+word_lacks_space Radical = Lacks-from_test 32 (codes "radical") refl
 
 word_lacks_newline : (w : Word) → Lacks 10 (word_text w)
 word_lacks_newline Triple = Lacks-from_test 10 (codes "triple") refl
@@ -139,6 +242,10 @@ word_lacks_newline Tuple = Lacks-from_test 10 (codes "tuple") refl
 word_lacks_newline Map = Lacks-from_test 10 (codes "map") refl
 word_lacks_newline UnitTuple = Lacks-from_test 10 (codes "unit") refl
 word_lacks_newline End = Lacks-from_test 10 (codes "end") refl
+word_lacks_newline Ramified = Lacks-from_test 10 (codes "ramified") refl
+word_lacks_newline RamifiedInfinity = Lacks-from_test 10 (codes "ramified infinity") refl
+word_lacks_newline Order = Lacks-from_test 10 (codes "order") refl
+word_lacks_newline Radical = Lacks-from_test 10 (codes "radical") refl
 
 -- ---- lines
 
@@ -174,14 +281,51 @@ module _ (m : ℕ) where
       ap (λ x. record { word = x; numbers = ns; fractions = ts }) a
       ∙ ap₂ (λ y z. record { word = v; numbers = y; fractions = z }) b c
 
-  pub line_text_unique : (l k : Line) → HasForm m l → HasForm m k → line_text l ≡ line_text k → l ≡ k
-  line_text_unique l k h g e =
-      let cut = word_and_rest (word_text l.word) (word_text k.word)
-      (numbers_text l.numbers ++ fractions_text l.fractions) (numbers_text k.numbers ++ fractions_text k.fractions)
-      (word_lacks_space l.word) (word_lacks_space k.word)
+  -- the numbers and the fractions of a line
+  abbrev arguments : Line → List ℕ
+  arguments l = numbers_text l.numbers ++ fractions_text l.fractions
+
+  -- a line from the first space on
+  abbrev from_space : Line → List ℕ
+  from_space l = back_text l.word ++ arguments l
+
+  line_parts : (l : Line) → line_text l ≡ front_text l.word ++ from_space l
+  line_parts l =
+      ap (λ t. t ++ arguments l) (front_and_back l.word)
+      ∙ append_assoc (front_text l.word) (back_text l.word) (arguments l)
+
+  EndsWord-arguments : (l : Line) → EndsWord (from_space l)
+  EndsWord-arguments l =
+      EndsWord-back l.word (arguments l)
       (EndsWord-numbers l.numbers (fractions_text l.fractions) (EndsWord-fractions l.fractions))
-      (EndsWord-numbers k.numbers (fractions_text k.fractions) (EndsWord-fractions k.fractions)) e in
-      let word : l.word ≡ k.word = word_text_unique l.word k.word cut.0 in
-      let over = subst (λ w. HasForm m (record { word = w; numbers = l.numbers; fractions = l.fractions })) word h in
-      let both = arguments_unique k.word l.numbers k.numbers l.fractions k.fractions over g cut.1 in
-      same_parts l.word k.word l.numbers k.numbers l.fractions k.fractions word both.0 both.1
+
+  -- the lines of a finite place and of infinity differ
+  places_differ : (l k : Line) → HasForm m l → l.word ≡ Ramified → k.word ≡ RamifiedInfinity
+      → from_space l ≡ from_space k → ⊥
+  places_differ l k h p q e =
+      let ls : from_space l ≡ arguments l = ap (λ w. back_text w ++ arguments l) p in
+      let ks : from_space k ≡ codes " infinity" ++ arguments k = ap (λ w. back_text w ++ arguments k) q in
+      no_infinity l.numbers l.fractions (arguments k) (h.number_count ∙ ap number_count p)
+      (h.fraction_count ∙ ap (fraction_count m) p) h.fractions
+      (sym ls ∙ e ∙ ks)
+
+  pub line_text_unique : (l k : Line) → HasForm m l → HasForm m k → line_text l ≡ line_text k → l ≡ k
+  line_text_unique l k h g e = go (front_text_unique l.word k.word cut.0)
+    where
+      cut : (front_text l.word ≡ front_text k.word) × (from_space l ≡ from_space k)
+      cut =
+          word_and_rest (front_text l.word) (front_text k.word) (from_space l) (from_space k)
+          (word_lacks_space l.word) (word_lacks_space k.word) (EndsWord-arguments l) (EndsWord-arguments k)
+          (sym (line_parts l) ∙ e ∙ line_parts k)
+
+      go : (l.word ≡ k.word) ⊎ ((l.word ≡ Ramified) × (k.word ≡ RamifiedInfinity))
+          ⊎ ((l.word ≡ RamifiedInfinity) × (k.word ≡ Ramified)) → l ≡ k
+      go (inl word) =
+          let over = subst (λ w. HasForm m (record { word = w; numbers = l.numbers; fractions = l.fractions })) word h in
+          let same : arguments l ≡ arguments k =
+          append_cancel_left (back_text k.word) (arguments l) (arguments k)
+          (ap (λ w. back_text w ++ arguments l) (sym word) ∙ cut.1) in
+          let both = arguments_unique k.word l.numbers k.numbers l.fractions k.fractions over g same in
+          same_parts l.word k.word l.numbers k.numbers l.fractions k.fractions word both.0 both.1
+      go (inr (inl (p, q))) = absurd (places_differ l k h p q cut.1)
+      go (inr (inr (p, q))) = absurd (places_differ k l g q p (sym cut.1))

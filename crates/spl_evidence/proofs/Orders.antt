@@ -10,6 +10,7 @@ use Rattle.spl_evidence.specs.Reading.{IsLineOf}
 use Rattle.spl_evidence.specs.declared.word.Word.{Word}
 use Rattle.spl_evidence.specs.declared.word.Word.TheVariants.{Triple, NoIdentity, Central, Ideal, Split, Left, Right}
 use Rattle.spl_evidence.specs.declared.word.Word.TheVariants.{Tuple, Map, Unit as UnitTuple, End}
+use Rattle.spl_evidence.specs.declared.word.Word.TheVariants.{Ramified, RamifiedInfinity, Order, Radical}
 use Rattle.spl_evidence.specs.declared.word.Before.{Before}
 use Rattle.spl_evidence.specs.declared.line.LineWords.{LineWords}
 
@@ -32,6 +33,10 @@ module _ (n : ℕ) (b : Before) (ns : List ℕ) (ts : List FractionText) where
   same_order Map = (λ h. h, λ h. h)
   same_order UnitTuple = (λ h. h, λ h. h)
   same_order End = (λ h. h, λ h. h)
+  same_order Ramified = (λ h. h, λ h. h)
+  same_order RamifiedInfinity = (λ h. h, λ h. h)
+  same_order Order = (λ h. h, λ h. h)
+  same_order Radical = (λ h. h, λ h. h)
 
 first_low : (ns : List ℕ) (bound : ℕ) → length ns ≡ 2 → AllByRecursion (λ i. (1 ≤ i) × (i ≤ bound)) ns
     → 1 ≤ get_or ns 0 0

@@ -2,6 +2,7 @@
 pub mod Passing
 pub mod LineTerms
 pub mod LineSteps
+pub mod PlaceTerms
 pub mod Standing
 pub mod TupleLoop
 pub mod SplitLoops

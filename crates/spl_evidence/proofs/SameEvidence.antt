@@ -1,8 +1,8 @@
 -- Evidence that fits is told by its lines.
-use Rattle.std.proofs.Common.{◌≡◌, ℕ, suc, ◌+◌, ◌*◌, ◌<◌, List, [], ◌∷◌, ◌++◌, length, get_or, map, None, refl}
+use Rattle.std.proofs.Common.{◌≡◌, ℕ, Bool, true, false, suc, ◌+◌, ◌*◌, ◌<◌, List, [], ◌∷◌, ◌++◌, length, get_or, map, None, refl}
 use Rattle.std.proofs.Common.{sym, ap, ap₂, ◌∙◌, arith}
 use Rattle.std.specs.List.{flat_map, All}
-use Rattle.std.proofs.lemmas.List.{append_cancel_right}
+use Rattle.std.proofs.lemmas.List.{append_cancel_right, length-map}
 use Rattle.std.proofs.lemmas.List.Elements.{All-head, All-tail, All-from_get_or}
 use Rattle.theory_rings.specs.Ops.{Ops, IsElem}
 use Rattle.theory_spaces.specs.Tuples.{IsTuple}
@@ -14,12 +14,20 @@ use Rattle.spl_text.specs.Text.{IsNumber, FractionText}
 use Rattle.spl_fraction.specs.FractionsOver.{fractions_over}
 use Rattle.spl_fraction.specs.CanonicalWords.{words_of}
 use Rattle.spl_evidence.specs.Line.{Line}
-use Rattle.spl_evidence.specs.Evidence.{Fits, tuple_line, multiplier_line, map_line, map_lines, unit_lines, kind_line}
+use Rattle.spl_evidence.specs.Evidence.{PlaceFits, fractions_line, place_line}
+use Rattle.spl_evidence.specs.Evidence.{Fits, multiplier_line, map_line, map_lines, unit_lines, kind_line}
 use Rattle.spl_evidence.specs.Evidence.{body_lines, end_line, lines_of}
 use Rattle.spl_evidence.specs.declared.evidence.Evidence.{Evidence}
 use Rattle.spl_evidence.specs.declared.evidence.Evidence.TheVariants.{Triple, NoIdentity, Central, Ideal, Split}
+use Rattle.spl_evidence.specs.declared.evidence.Evidence.TheVariants.{Ramified}
 use Rattle.spl_evidence.specs.declared.word.Word.{Word}
-use Rattle.spl_evidence.specs.declared.word.Word.TheVariants.{Left, Right, End}
+use Rattle.spl_evidence.specs.declared.word.Word.TheVariants.{Left, Right, Tuple, Order, Radical, End}
+use Rattle.spl_evidence.specs.declared.word.Word.TheVariants.{Triple as TripleWord, NoIdentity as NoIdentityWord}
+use Rattle.spl_evidence.specs.declared.word.Word.TheVariants.{Central as CentralWord, Ideal as IdealWord}
+use Rattle.spl_evidence.specs.declared.word.Word.TheVariants.{Split as SplitWord, Ramified as RamifiedWord}
+use Rattle.spl_evidence.specs.declared.word.Word.TheVariants.{RamifiedInfinity}
+use Rattle.spl_fraction.specs.declared.place.Place.{Place}
+use Rattle.spl_fraction.specs.declared.place.Place.TheVariants.{Finite, Infinity}
 use Rattle.spl_evidence.proofs.RightLines.ElementWords.{words_unique, flat_over}
 
 -- items that are told by what a function gives of them
@@ -81,10 +89,15 @@ module _ (f : SmallField) (n : ℕ) (few : IsNumber (n * n)) where
       → a ≡ b
   words_list_unique a b p q e = map_unique (IsElem K) words_of (words_unique f) a b p q e
 
-  tuple_line_unique : (a b : List (Pair ℕ)) → IsTuple K (n * n) a → IsTuple K (n * n) b
-      → tuple_line a ≡ tuple_line b → a ≡ b
-  tuple_line_unique a b p q e =
+  tuple_line_unique : (w : Word) (a b : List (Pair ℕ)) → IsTuple K (n * n) a → IsTuple K (n * n) b
+      → fractions_line w a ≡ fractions_line w b → a ≡ b
+  tuple_line_unique w a b p q e =
       words_list_unique a b p.of_elements q.of_elements (ap (λ (l : Line). l.fractions) e)
+
+  tuple_lines_unique : (w : Word) (xs ys : List (List (Pair ℕ))) → All (IsTuple K (n * n)) xs
+      → All (IsTuple K (n * n)) ys → map (fractions_line w) xs ≡ map (fractions_line w) ys → xs ≡ ys
+  tuple_lines_unique w xs ys p q e =
+      map_unique (IsTuple K (n * n)) (fractions_line w) (tuple_line_unique w) xs ys p q e
 
   abbrev number_of_line : ℕ → Line → ℕ
   number_of_line i l = get_or l.numbers i 0
@@ -165,7 +178,43 @@ module _ (f : SmallField) (n : ℕ) (few : IsNumber (n * n)) where
         more.1,
       )
 
+  place_unique : (p q : Place) → PlaceFits K p → PlaceFits K q → place_line p ≡ place_line q → p ≡ q
+  place_unique (Finite a) (Finite b) h g e =
+      let words : words_of (a, 1 ∷ []) ≡ words_of (b, 1 ∷ []) = ap fraction_of_line e in
+      let same : ◌≡◌ {A = Pair ℕ} (a, 1 ∷ []) (b, 1 ∷ []) =
+      words_unique f (a, 1 ∷ []) (b, 1 ∷ []) h.0 g.0 words in
+      ap (λ (x : Pair ℕ). Finite x.0) same
+  place_unique (Finite a) Infinity h g e = let words : RamifiedWord ≡ RamifiedInfinity = ap (λ (l : Line). l.word) e in
+      absurd cc
+  place_unique Infinity (Finite b) h g e = let words : RamifiedInfinity ≡ RamifiedWord = ap (λ (l : Line). l.word) e in
+      absurd cc
+  place_unique Infinity Infinity h g e = refl
+
+  rows_of_places_unique : (os os' rs rs' : List (List (Pair ℕ))) → length os ≡ length os' → All (IsTuple K (n * n)) os
+      → All (IsTuple K (n * n)) os' → All (IsTuple K (n * n)) rs → All (IsTuple K (n * n)) rs'
+      → map (fractions_line Order) os ++ map (fractions_line Radical) rs
+      ≡ map (fractions_line Order) os' ++ map (fractions_line Radical) rs' → (os ≡ os') × (rs ≡ rs')
+  rows_of_places_unique os os' rs rs' same p p' q q' e =
+      let cut = cut_unique (map (fractions_line Order) os) (map (fractions_line Order) os')
+      (map (fractions_line Radical) rs) (map (fractions_line Radical) rs')
+      (length-map os (fractions_line Order) ∙ same ∙ sym (length-map os' (fractions_line Order))) e in
+      (tuple_lines_unique Order os os' p p' cut.0, tuple_lines_unique Radical rs rs' q q' cut.1)
+
   -- ---- evidence
+
+  -- the words of places
+  abbrev is_place : Word → Bool
+  is_place RamifiedWord = true
+  is_place RamifiedInfinity = true
+  is_place _ = false
+
+  place_word : (p : Place) → is_place (place_line p).word ≡ true
+  place_word (Finite p) = refl
+  place_word Infinity = refl
+
+  -- a word of another kind is not that of a place
+  no_place : (w : Word) (p : Place) → is_place w ≡ false → w ≡ (place_line p).word → ⊥
+  no_place w p other e = let both : false ≡ true = sym other ∙ ap is_place e ∙ place_word p in absurd cc
 
   squares : (maps : List (List (List (Pair ℕ)))) → length maps ≡ n * n
       → ((k : ℕ) → k < n * n → IsSquare K n (get_or maps k [])) → All (IsSquare K n) maps
@@ -182,15 +231,31 @@ module _ (f : SmallField) (n : ℕ) (few : IsNumber (n * n)) where
       let both = sides_unique l l' r r' (elems_of l h.0) (elems_of l' q.0) (elems_of r h.1) (elems_of r' q.1) same in
       ap₂ (λ (x y : List (ℕ × ℕ × Pair ℕ)). NoIdentity x y) both.0 both.1
   body_unique (Central a) (Central b) h q w kind same =
-      ap (λ (x : List (Pair ℕ)). Central x) (tuple_line_unique a b h q (ap first_line_of same))
+      ap (λ (x : List (Pair ℕ)). Central x) (tuple_line_unique Tuple a b h q (ap first_line_of same))
   body_unique (Ideal ts) (Ideal us) h q w kind same =
       ap (λ (x : List (List (Pair ℕ))). Ideal x)
-      (map_unique (IsTuple K (n * n)) tuple_line tuple_line_unique ts us h.2 q.2 same)
+      (tuple_lines_unique Tuple ts us h.2 q.2 same)
   body_unique (Split ms us) (Split ms' us') h q w kind same =
       let both = split_unique 0 ms ms' (unit_lines n 0 us) (unit_lines n 0 us') (h.map_count ∙ sym q.map_count)
       (squares ms h.map_count h.square) (squares ms' q.map_count q.square) same in
       ap₂ (λ (x : List (List (List (Pair ℕ)))) (y : List (List (Pair ℕ))). Split x y) both.0
       (units_unique 0 us us' h.tuples q.tuples both.1)
+  body_unique (Ramified p os rs) (Ramified p' os' rs') h q w kind same =
+      let both = rows_of_places_unique os os' rs rs' (h.order_count ∙ sym q.order_count) h.order_tuples q.order_tuples
+      h.radical_tuples q.radical_tuples same in
+      let place = place_unique p p' h.place_fits q.place_fits kind in
+      ap (λ (x : Place). Ramified x os rs) place
+      ∙ ap₂ (λ (x y : List (List (Pair ℕ))). Ramified p' x y) both.0 both.1
+  body_unique (Ramified p os rs) (Triple i j k) h q w kind same = absurd (no_place TripleWord p refl (sym w))
+  body_unique (Ramified p os rs) (NoIdentity l r) h q w kind same = absurd (no_place NoIdentityWord p refl (sym w))
+  body_unique (Ramified p os rs) (Central a) h q w kind same = absurd (no_place CentralWord p refl (sym w))
+  body_unique (Ramified p os rs) (Ideal ts) h q w kind same = absurd (no_place IdealWord p refl (sym w))
+  body_unique (Ramified p os rs) (Split ms us) h q w kind same = absurd (no_place SplitWord p refl (sym w))
+  body_unique (Triple i j k) (Ramified p os rs) h q w kind same = absurd (no_place TripleWord p refl w)
+  body_unique (NoIdentity l r) (Ramified p os rs) h q w kind same = absurd (no_place NoIdentityWord p refl w)
+  body_unique (Central a) (Ramified p os rs) h q w kind same = absurd (no_place CentralWord p refl w)
+  body_unique (Ideal ts) (Ramified p os rs) h q w kind same = absurd (no_place IdealWord p refl w)
+  body_unique (Split ms us) (Ramified p os rs) h q w kind same = absurd (no_place SplitWord p refl w)
   body_unique (Triple i j k) (NoIdentity l' r') h q w kind same = absurd cc
   body_unique (Triple i j k) (Central b) h q w kind same = absurd cc
   body_unique (Triple i j k) (Ideal us) h q w kind same = absurd cc

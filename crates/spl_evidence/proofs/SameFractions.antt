@@ -22,7 +22,7 @@ has_terms f g same l h = record {
   canonical =
       subst (λ (K : Ops (Pair ℕ)). AllByRecursion (λ t. (x : Pair ℕ) × IsElem K x × (t ≡ words_of x)) l.fractions) same
       h.canonical;
-  nonzero = h.nonzero;
+  allowed = h.allowed;
 }
 
 module _ (f g : SmallField) (n : ℕ) (size : size_of f ≡ size_of g) (same : fractions_over f ≡ fractions_over g) where

@@ -8,14 +8,18 @@ use Rattle.std.proofs.lemmas.List.{length-take, map-append}
 use Rattle.std.proofs.lemmas.List.Concat.{flat_map-append}
 use Rattle.std.proofs.lemmas.List.Folds.{flat_map-map}
 use Rattle.theory_fractions.specs.Fraction.{Pair}
-use Rattle.spl_text.specs.Text.{line, fraction_text}
+use Rattle.spl_text.specs.Text.{line, fraction_text, coefficients_text}
 use Rattle.spl_fraction.specs.CanonicalWords.{words_of}
+use Rattle.spl_fraction.specs.declared.place.Place.{Place}
+use Rattle.spl_fraction.specs.declared.place.Place.TheVariants.{Finite}
+use Rattle.spl_fraction.proofs.CanonicalTexts.{text_words}
 use Rattle.spl_evidence.specs.Line.{Line, fractions_text, line_text, lines_text}
+use Rattle.spl_evidence.specs.Evidence.{fractions_line, place_line}
 use Rattle.spl_evidence.specs.Evidence.{tuple_line, multiplier_line, map_line, map_lines, unit_line, unit_lines}
 use Rattle.spl_evidence.specs.Evidence.{kind_line, body_lines, end_line, first_line, evidence_text}
 use Rattle.spl_evidence.specs.declared.evidence.Evidence.{Evidence}
-use Rattle.spl_evidence.specs.declared.evidence.Evidence.TheVariants.{NoIdentity, Ideal, Split}
-use Rattle.spl_evidence.specs.declared.word.Word.TheVariants.{Left, Right}
+use Rattle.spl_evidence.specs.declared.evidence.Evidence.TheVariants.{NoIdentity, Ideal, Split, Ramified}
+use Rattle.spl_evidence.specs.declared.word.Word.TheVariants.{Left, Right, Order, Radical}
 
 pub fractions_spelled : (a : List (Pair ℕ))
     → flat_map (λ x. codes " " ++ fraction_text (words_of x)) a ≡ fractions_text (map words_of a)
@@ -109,6 +113,25 @@ pub ideal_spelled : (ts : List (List (Pair ℕ)))
     ++ flat_map (λ a. line (line_text (tuple_line a))) ts
 ideal_spelled ts =
     ap (λ t. line (line_text (kind_line (Ideal ts))) ++ t) (flat_map-map (λ k. line (line_text k)) tuple_line ts)
+
+pub ramified_spelled : (place : Place) (os rs : List (List (Pair ℕ)))
+    → lines_text (kind_line (Ramified place os rs) ∷ body_lines 0 (Ramified place os rs))
+    ≡ line (line_text (place_line place)) ++ (flat_map (λ a. line (line_text (fractions_line Order a))) os
+    ++ flat_map (λ a. line (line_text (fractions_line Radical a))) rs)
+ramified_spelled place os rs =
+    ap (λ t. line (line_text (place_line place)) ++ t)
+    (lines_text-append (map (fractions_line Order) os) (map (fractions_line Radical) rs)
+    ∙ ap₂ (λ s t. s ++ t) (flat_map-map (λ k. line (line_text k)) (fractions_line Order) os)
+    (flat_map-map (λ k. line (line_text k)) (fractions_line Radical) rs))
+
+pub place_spelled : (p : List ℕ)
+    → line (line_text (place_line (Finite p))) ≡ codes "ramified " ++ (coefficients_text p ++ codes "\n")
+place_spelled p =
+    let text : fraction_text (words_of (p, 1 ∷ [])) ≡ coefficients_text p =
+    sym (text_words (p, 1 ∷ [])) ∙ append-nil (coefficients_text p) in
+    let whole : fraction_text (words_of (p, 1 ∷ [])) ++ [] ≡ coefficients_text p =
+    append-nil (fraction_text (words_of (p, 1 ∷ []))) ∙ text in
+    ap (λ t. codes "ramified " ++ (t ++ 10 ∷ [])) whole
 
 pub split_spelled : (n : ℕ) (maps : List (List (List (Pair ℕ)))) (units : List (List (Pair ℕ)))
     → lines_text (kind_line (Split maps units) ∷ body_lines n (Split maps units)) ≡ line (codes "split")

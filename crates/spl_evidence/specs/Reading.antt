@@ -1,13 +1,14 @@
 -- What the parts of the reader answer. Contracts of private functions alone cite it.
-use Rattle.std.specs.Prelude.{◌≡◌, ◌⊎◌, ◌↔◌, ◌+◌, ◌*◌, ◌<◌, ℕ, IsTrue, List, [], ◌∷◌, ◌++◌, length, Option, Some}
+use Rattle.std.specs.Prelude.{◌≡◌, ◌⊎◌, ◌↔◌, ◌+◌, ◌*◌, ◌<◌, ◌≤◌, ℕ, IsTrue, List, [], ◌∷◌, ◌++◌, length, Option, Some}
 use Rattle.std.specs.List.{AllByRecursion}
-use Rattle.spl_text.specs.Text.{lists_of}
+use Rattle.spl_text.specs.Text.{FractionText, lists_of}
 use Rattle.spl_field.specs.SmallField.{size_of}
 use Rattle.spl_field.specs.declared.small.SmallField.{SmallField}
 use Rattle.spl_fraction.specs.FractionsOver.{fractions_over}
-use Rattle.spl_evidence.specs.Line.{Line, HasForm, fractions_text, line_text, lines_text}
+use Rattle.spl_evidence.specs.Line.{Line, HasForm, fraction_count, fractions_text, line_text, lines_text}
 use Rattle.spl_evidence.specs.Evidence.{Fits, kind_line, body_lines, end_line}
-use Rattle.spl_evidence.specs.Refusal.{IsDue, IsInRange, IsInOrder, AreRight, behind_all, IsFaultBehind}
+use Rattle.spl_evidence.specs.Refusal.{due_words, IsDue, IsInRange, IsInOrder, IsAllowed, AreRight, behind_all}
+use Rattle.spl_evidence.specs.Refusal.{IsFaultBehind}
 use Rattle.spl_evidence.specs.declared.evidence.Evidence.{Evidence}
 use Rattle.spl_evidence.specs.declared.word.Word.{Word}
 use Rattle.spl_evidence.specs.declared.word.Before.{Before}
@@ -64,10 +65,27 @@ pub record StandsBehind (kind : Word) (tuples count : ℕ) (before : Option Befo
   pub k : ℕ
   pub is : before ≡ Some (record { kind = kind; tuples = tuples; count = count; last = last; j = j; k = k })
 
+-- so many lines more can be counted
+pub record HasRoomFor (lines : ℕ) (r : Reader) : Type 0 where
+  pub number : r.number + lines ≤ 4294967295
+  pub count : (b : Before) → r.before ≡ Some b → b.count + lines ≤ 4294967295
+
 -- one line more can be counted
 pub record HasRoom (r : Reader) : Type 0 where
   pub number : r.number < 4294967295
   pub count : (b : Before) → r.before ≡ Some b → b.count < 4294967295
+
+-- ---- lines of tuples
+
+-- m fractions follow the word, of which each may be any
+pub record TakesTuple (m : ℕ) (word : Word) : Type 0 where
+  pub count : fraction_count m word ≡ m
+  pub allowed : (ts : List FractionText) → IsAllowed word ts
+
+-- so many lines of this word are due
+abbrev pub AreDue : SmallField → ℕ → Word → ℕ → Option Before → Type 0
+AreDue f n word count before = (lines : List Line) → length lines < count
+    → due_words (n * n) (behind_all f n before lines) ≡ word ∷ []
 
 -- ---- evidence behind the line of its kind
 

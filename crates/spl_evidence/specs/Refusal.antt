@@ -12,10 +12,11 @@ use Rattle.theory_fractions.specs.Fraction.{Pair}
 use Rattle.spl_fraction.specs.FractionsOver.{fractions_over}
 use Rattle.spl_fraction.specs.CanonicalWords.{words_of}
 use Rattle.spl_evidence.specs.Line.{Line, HasForm, line_text, lines_text}
-use Rattle.spl_evidence.specs.Evidence.{first_line}
+use Rattle.spl_evidence.specs.Evidence.{first_line, IsMonicOfPositiveDegree}
 use Rattle.spl_evidence.specs.declared.word.Word.{Word}
 use Rattle.spl_evidence.specs.declared.word.Word.TheVariants.{Triple, NoIdentity, Central, Ideal, Split, Left, Right}
 use Rattle.spl_evidence.specs.declared.word.Word.TheVariants.{Tuple, Map, Unit as UnitTuple, End}
+use Rattle.spl_evidence.specs.declared.word.Word.TheVariants.{Ramified, RamifiedInfinity, Order, Radical}
 use Rattle.spl_evidence.specs.declared.word.Before.{Before}
 use Rattle.spl_evidence.specs.declared.refusal.EvidenceRefusal.{EvidenceRefusal}
 use Rattle.spl_evidence.specs.declared.refusal.EvidenceKind.{EvidenceKind}
@@ -66,14 +67,20 @@ due_sides Left = Left ∷ Right ∷ End ∷ []
 due_sides Right = Right ∷ End ∷ []
 due_sides _ = []
 
+-- the m tuples of an order, then those of its radical, then `end`
+abbrev pub due_at_place : ℕ → ℕ → List Word
+due_at_place m count = up_to count m Order (up_to count (m + m) Radical (end_at count (m + m)))
+
 -- the words of the lines that may come next, over an algebra of dimension m
 abbrev pub due_words : ℕ → Option Before → List Word
-due_words m None = Triple ∷ NoIdentity ∷ Central ∷ Ideal ∷ Split ∷ []
+due_words m None = Triple ∷ NoIdentity ∷ Central ∷ Ideal ∷ Split ∷ Ramified ∷ RamifiedInfinity ∷ []
 due_words m (Some b) = go b.kind
   where
     go : Word → List Word
     go NoIdentity = due_sides b.last
     go Split = up_to b.count m Map (up_to b.count (m + m) UnitTuple (end_at b.count (m + m)))
+    go Ramified = due_at_place m b.count
+    go RamifiedInfinity = due_at_place m b.count
     go _ = up_to b.count b.tuples Tuple (end_at b.count b.tuples)
 
 abbrev pub IsDue : ℕ → Option Before → Word → Type 0
@@ -127,15 +134,16 @@ IsCanonical f t = (x : Pair ℕ) × IsElem (fractions_over f) x × (t ≡ words_
 abbrev pub zero_text : FractionText
 zero_text = record { numerator = 0 ∷ []; denominator = None }
 
--- no multiplier is 0
-abbrev pub IsNonzero : Word → List FractionText → Type 0
-IsNonzero Left ts = ts ≢ zero_text ∷ []
-IsNonzero Right ts = ts ≢ zero_text ∷ []
-IsNonzero _ ts = Unit {0}
+-- no multiplier is 0, and the polynomial of a place is monic and of degree at least 1
+abbrev pub IsAllowed : Word → List FractionText → Type 0
+IsAllowed Left ts = ts ≢ zero_text ∷ []
+IsAllowed Right ts = ts ≢ zero_text ∷ []
+IsAllowed Ramified ts = AllByRecursion (λ t. IsMonicOfPositiveDegree t.numerator) ts
+IsAllowed _ ts = Unit {0}
 
 pub record HasTerms (f : SmallField) (l : Line) : Type 0 where
   pub canonical : AllByRecursion (IsCanonical f) l.fractions
-  pub nonzero : IsNonzero l.word l.fractions
+  pub allowed : IsAllowed l.word l.fractions
 
 -- ---- right lines
 

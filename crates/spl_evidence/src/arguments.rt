@@ -1,5 +1,6 @@
 // The numbers and the fractions behind the word of a line of evidence.
 ghost use Rattle.std.specs.Prelude.{◌≡◌, ◌≢◌, ◌⊎◌, ◌↔◌, ◌<◌, ℕ, List, ◌∷◌, ◌++◌, length, IfOk, IsTrue, MatchOption};
+ghost use Rattle.std.specs.Prelude.{None};
 ghost use Rattle.std.specs.List.{AllByRecursion};
 ghost use Rattle.spl_text.specs.Text.{Lacks, IsNumber, FractionText, IsFractionText, lists_of};
 ghost use Rattle.spl_evidence.specs.Line.{numbers_text, fractions_text};
@@ -88,4 +89,15 @@ pub(crate) fn are_fractions(
         return Ok(None);
     }
     Ok(Some(below))
+}
+
+/// Whether each of the fractions whose text this is has no denominator.
+pub(crate) fn are_lists(text: &[u8]) -> bool
+    ensures { (ts : List FractionText) → AllByRecursion IsFractionText ts → text.now ≡ fractions_text ts
+        → (IsTrue result ↔ AllByRecursion (λ t. t.denominator ≡ None) ts) }
+{
+    match split_once(text, b'/') {
+        None => true,
+        Some(_) => false,
+    }
 }

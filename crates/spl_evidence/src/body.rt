@@ -7,22 +7,27 @@ ghost use Rattle.theory_tables.specs.Claims.{TripleFits};
 ghost use Rattle.theory_tables.specs.Split.{IsSquare};
 ghost use Rattle.spl_fraction.specs.Fractions.{field_of};
 ghost use Rattle.spl_fraction.specs.FractionsOver.{fractions_over};
-ghost use Rattle.spl_evidence.specs.Line.{Line, lines_text};
-ghost use Rattle.spl_evidence.specs.Evidence.{Fits, tuple_line, map_lines, unit_lines, lines_of};
-ghost use Rattle.spl_evidence.specs.Reading.{IfRefused, IsFaultFrom, IsBehindKind, Reads, StandsBehind};
+ghost use Rattle.theory_tables.specs.Matrix.{IsMatrix};
+ghost use Rattle.spl_evidence.specs.Line.{Line, number_count, lines_text};
+ghost use Rattle.spl_evidence.specs.Evidence.{Fits, PlaceFits, fractions_line, map_lines, unit_lines, place_line};
+ghost use Rattle.spl_evidence.specs.Evidence.{end_line, lines_of};
+ghost use Rattle.spl_evidence.specs.Reading.{IfRefused, IsFaultFrom, IsBehindKind, Reads, StandsBehind, HasRoomFor};
+ghost use Rattle.spl_evidence.specs.Reading.{TakesTuple, AreDue};
 ghost use Rattle.spl_evidence.specs.declared.word.Word.TheVariants.{Triple as TripleWord, NoIdentity as NoIdentityWord};
 ghost use Rattle.spl_evidence.specs.declared.word.Word.TheVariants.{Central as CentralWord, Ideal as IdealWord};
 ghost use Rattle.spl_evidence.specs.declared.word.Word.TheVariants.{Split as SplitWord, Left};
+ghost use Rattle.spl_evidence.specs.declared.word.Word.TheVariants.{Order as OrderWord, Radical as RadicalWord};
 
 use crate::due::{is_left, number_at};
 use crate::evidence::Evidence;
 use crate::reader::Reader;
 use crate::refusal::EvidenceFault;
-use crate::steps::{read_end, read_matrix, read_nothing, read_plain, read_side, read_tuple};
+use crate::steps::{read_end, read_kind, read_matrix, read_nothing, read_side, read_tuple};
 use crate::word::Word;
 use spl_field::field::NoMemory;
 use spl_fraction::field::Fractions;
 use spl_fraction::fraction::Fraction;
+use spl_fraction::place::Place;
 use spl_fraction::tuples::Tuples;
 use spl_matrix::lists::{Maps, Multipliers};
 use std::alloc::Global;
@@ -123,24 +128,26 @@ fn read_central(
     Ok(Evidence::Central { tuple })
 }
 
-/// The tuples of an ideal, of which there are so many.
+/// The tuples of so many lines of this word, where no others are due.
 fn read_tuples(
     alloc: Global,
     f: &Fractions,
     n: u32,
     reader: &mut Reader,
+    word: Word,
     count: u32,
 ) -> Result<Tuples, EvidenceFault>
     requires low { 0 < n }
     requires high { n ≤ 5 }
-    requires few { count ≤ 25 }
-    requires number { reader.old.number ≤ 4000000010 }
-    requires stands { StandsBehind IdealWord count 0 reader.old.before }
+    requires room { HasRoomFor count reader.old }
+    requires tuple { TakesTuple (n * n) word }
+    requires no_numbers { number_count word ≡ 0 }
+    requires due { AreDue (field_of f.now) n word count reader.old.before }
     ensures ok { IfOk result (λ xs. (length xs ≡ count) × All (IsTuple (fractions_over (field_of f.now)) (n * n)) xs
-        × Reads (field_of f.now) n reader.old (map tuple_line xs) reader.new
-        × StandsBehind IdealWord count count reader.new.before) }
+        × Reads (field_of f.now) n reader.old (map (fractions_line word) xs) reader.new) }
     ensures fault { IfErr result (λ e. IfRefused e (IsFaultFrom (field_of f.now) n reader.old)) }
 {
+    let _ = word;
     let mut tuples = Tuples::new(alloc);
     for _ in 0..count {
         tuples.push(read_tuple(alloc, f, n, reader)?)?;
@@ -166,7 +173,7 @@ fn read_ideal(
         (record { word = IdealWord; numbers = count ∷ []; fractions = [] }) reader.old.rest.now) }
     ensures fault { IfErr result (λ e. IfRefused e (IsFaultFrom (field_of f.now) n reader.old)) }
 {
-    let tuples = read_tuples(alloc, f, n, reader, count)?;
+    let tuples = read_tuples(alloc, f, n, reader, Word::Tuple, count)?;
     read_end(alloc, f, n, reader)?;
     Ok(Evidence::Ideal { tuples })
 }
@@ -238,6 +245,53 @@ fn read_split(
     Ok(Evidence::Split { maps, units })
 }
 
+/// The tuples of an order and of its radical, behind the line of a place; with them the text ends.
+fn read_order_and_radical(
+    alloc: Global,
+    f: &Fractions,
+    n: u32,
+    reader: &mut Reader,
+) -> Result<(Tuples, Tuples), EvidenceFault>
+    requires low { 0 < n }
+    requires high { n ≤ 5 }
+    requires number { reader.old.number ≤ 4000000010 }
+    requires stands { (place : Place) × StandsBehind (place_line place).word 0 0 reader.old.before }
+    ensures ok { IfOk result (λ x. (length x.0 ≡ n * n) × IsMatrix (fractions_over (field_of f.now)) (n * n) x.0
+        × (length x.1 ≡ n * n) × IsMatrix (fractions_over (field_of f.now)) (n * n) x.1
+        × (reader.old.rest.now ≡ lines_text (map (fractions_line OrderWord) x.0
+        ++ map (fractions_line RadicalWord) x.1 ++ end_line ∷ []))) }
+    ensures fault { IfErr result (λ e. IfRefused e (IsFaultFrom (field_of f.now) n reader.old)) }
+{
+    let order = read_tuples(alloc, f, n, reader, Word::Order, n * n)?;
+    let radical = read_tuples(alloc, f, n, reader, Word::Radical, n * n)?;
+    read_end(alloc, f, n, reader)?;
+    Ok((order, radical))
+}
+
+/// What follows the line of a ramified place.
+fn read_ramified(
+    alloc: Global,
+    f: &Fractions,
+    n: u32,
+    reader: &mut Reader,
+    place: Place,
+) -> Result<Evidence, EvidenceFault>
+    requires low { 0 < n }
+    requires high { n ≤ 5 }
+    requires number { reader.old.number ≤ 4000000010 }
+    requires stands { StandsBehind (place_line place).word 0 0 reader.old.before }
+    requires fits { PlaceFits (fractions_over (field_of f.now)) place }
+    ensures ok { IfOk result (IsBehindKind (field_of f.now) n (place_line place) reader.old.rest.now) }
+    ensures fault { IfErr result (λ e. IfRefused e (IsFaultFrom (field_of f.now) n reader.old)) }
+{
+    let (order, radical) = read_order_and_radical(alloc, f, n, reader)?;
+    Ok(Evidence::Ramified {
+        place,
+        order,
+        radical,
+    })
+}
+
 /// The evidence of the lines behind the first.
 pub(crate) fn read_lines(
     alloc: Global,
@@ -253,7 +307,10 @@ pub(crate) fn read_lines(
         × (reader.old.rest.now ≡ lines_text (lines_of n e))) }
     ensures fault { IfErr result (λ e. IfRefused e (IsFaultFrom (field_of f.now) n reader.old)) }
 {
-    let line = read_plain(alloc, f, n, reader)?;
+    let (line, place) = read_kind(alloc, f, n, reader)?;
+    if let Some(place) = place {
+        return read_ramified(alloc, f, n, reader, place);
+    }
     let word = line.word;
     let numbers = line.numbers.as_slice();
     let i = number_at(numbers, 0);

@@ -4,9 +4,10 @@ ghost use Rattle.std.specs.List.{AllByRecursion};
 ghost use Rattle.theory_tables.specs.Claims.{PairBefore};
 ghost use Rattle.spl_evidence.specs.Line.{Line};
 ghost use Rattle.spl_evidence.specs.Refusal.{greatest, due_sides, due_words, IsInRange, NumbersAreInOrder};
-ghost use Rattle.spl_evidence.specs.Refusal.{up_to, end_at};
+ghost use Rattle.spl_evidence.specs.Refusal.{up_to, end_at, due_at_place};
 ghost use Rattle.spl_evidence.specs.Reading.{IsLineOf};
 ghost use Rattle.spl_evidence.specs.declared.word.Word.TheVariants.{Left, Right, Tuple, Map, Unit as UnitTuple, End};
+ghost use Rattle.spl_evidence.specs.declared.word.Word.TheVariants.{Ramified, RamifiedInfinity};
 
 use crate::arguments::both;
 use crate::line::LineWords;
@@ -24,9 +25,13 @@ fn due_behind_side(last: Word) -> &'static [Word]
         Word::Central => &[],
         Word::Ideal => &[],
         Word::Split => &[],
+        Word::Ramified => &[],
+        Word::RamifiedInfinity => &[],
         Word::Tuple => &[],
         Word::Map => &[],
         Word::Unit => &[],
+        Word::Order => &[],
+        Word::Radical => &[],
         Word::End => &[],
     }
 }
@@ -61,6 +66,24 @@ fn due_in_split(count: u32, m: u32) -> &'static [Word]
     &[]
 }
 
+/// A tuple of an order, where fewer than m stand, and one of its radical, where fewer than m stand behind these; then
+/// the line `end`.
+fn due_at_place(count: u32, m: u32) -> &'static [Word]
+    requires { m ≤ 25 }
+    ensures { result.now ≡ due_at_place m count }
+{
+    if count < m {
+        return &[Word::Order];
+    }
+    if count < m + m {
+        return &[Word::Radical];
+    }
+    if count == m + m {
+        return &[Word::End];
+    }
+    &[]
+}
+
 /// The words of the lines that may come next, over an algebra of dimension m.
 pub(crate) fn due(before: &Option<Before>, m: u32) -> &'static [Word]
     requires { m ≤ 25 }
@@ -73,6 +96,8 @@ pub(crate) fn due(before: &Option<Before>, m: u32) -> &'static [Word]
             Word::Central,
             Word::Ideal,
             Word::Split,
+            Word::Ramified,
+            Word::RamifiedInfinity,
         ],
         Some(before) => due_behind(before, m),
     }
@@ -86,6 +111,8 @@ fn due_behind(before: &Before, m: u32) -> &'static [Word]
     match before.kind {
         Word::NoIdentity => due_behind_side(before.last),
         Word::Split => due_in_split(before.count, m),
+        Word::Ramified => due_at_place(before.count, m),
+        Word::RamifiedInfinity => due_at_place(before.count, m),
         Word::Triple => due_behind_tuples(before.count, before.tuples),
         Word::Central => due_behind_tuples(before.count, before.tuples),
         Word::Ideal => due_behind_tuples(before.count, before.tuples),
@@ -94,6 +121,8 @@ fn due_behind(before: &Before, m: u32) -> &'static [Word]
         Word::Tuple => due_behind_tuples(before.count, before.tuples),
         Word::Map => due_behind_tuples(before.count, before.tuples),
         Word::Unit => due_behind_tuples(before.count, before.tuples),
+        Word::Order => due_behind_tuples(before.count, before.tuples),
+        Word::Radical => due_behind_tuples(before.count, before.tuples),
         Word::End => due_behind_tuples(before.count, before.tuples),
     }
 }
@@ -121,7 +150,11 @@ fn greatest_of(word: Word, n: u32) -> u32
         Word::NoIdentity => 0,
         Word::Central => 0,
         Word::Split => 0,
+        Word::Ramified => 0,
+        Word::RamifiedInfinity => 0,
         Word::Tuple => 0,
+        Word::Order => 0,
+        Word::Radical => 0,
         Word::End => 0,
     }
 }
@@ -166,10 +199,14 @@ pub(crate) fn is_left(word: Word) -> bool
         Word::Central => false,
         Word::Ideal => false,
         Word::Split => false,
+        Word::Ramified => false,
+        Word::RamifiedInfinity => false,
         Word::Right => false,
         Word::Tuple => false,
         Word::Map => false,
         Word::Unit => false,
+        Word::Order => false,
+        Word::Radical => false,
         Word::End => false,
     }
 }
@@ -185,10 +222,14 @@ fn is_right(word: Word) -> bool
         Word::Central => false,
         Word::Ideal => false,
         Word::Split => false,
+        Word::Ramified => false,
+        Word::RamifiedInfinity => false,
         Word::Left => false,
         Word::Tuple => false,
         Word::Map => false,
         Word::Unit => false,
+        Word::Order => false,
+        Word::Radical => false,
         Word::End => false,
     }
 }
@@ -204,11 +245,61 @@ pub(crate) fn is_end(word: Word) -> bool
         Word::Central => false,
         Word::Ideal => false,
         Word::Split => false,
+        Word::Ramified => false,
+        Word::RamifiedInfinity => false,
         Word::Left => false,
         Word::Right => false,
         Word::Tuple => false,
         Word::Map => false,
         Word::Unit => false,
+        Word::Order => false,
+        Word::Radical => false,
+    }
+}
+
+/// Whether it is the word of a place whose polynomial follows.
+pub(crate) fn is_ramified(word: Word) -> bool
+    ensures { IsTrue result ↔ (word ≡ Ramified) }
+{
+    match word {
+        Word::Ramified => true,
+        Word::Triple => false,
+        Word::NoIdentity => false,
+        Word::Central => false,
+        Word::Ideal => false,
+        Word::Split => false,
+        Word::RamifiedInfinity => false,
+        Word::Left => false,
+        Word::Right => false,
+        Word::Tuple => false,
+        Word::Map => false,
+        Word::Unit => false,
+        Word::Order => false,
+        Word::Radical => false,
+        Word::End => false,
+    }
+}
+
+/// Whether it is the word of infinity as a ramified place.
+pub(crate) fn is_infinity(word: Word) -> bool
+    ensures { IsTrue result ↔ (word ≡ RamifiedInfinity) }
+{
+    match word {
+        Word::RamifiedInfinity => true,
+        Word::Triple => false,
+        Word::NoIdentity => false,
+        Word::Central => false,
+        Word::Ideal => false,
+        Word::Split => false,
+        Word::Ramified => false,
+        Word::Left => false,
+        Word::Right => false,
+        Word::Tuple => false,
+        Word::Map => false,
+        Word::Unit => false,
+        Word::Order => false,
+        Word::Radical => false,
+        Word::End => false,
     }
 }
 
@@ -266,7 +357,11 @@ pub(crate) fn is_in_order_behind(
         Word::Central => true,
         Word::Ideal => true,
         Word::Split => true,
+        Word::Ramified => true,
+        Word::RamifiedInfinity => true,
         Word::Tuple => true,
+        Word::Order => true,
+        Word::Radical => true,
         Word::End => true,
     }
 }

@@ -1,9 +1,11 @@
 // Evidence.
 use spl_fraction::field::Fractions;
+use spl_fraction::place::Place;
 use spl_fraction::tuples::{Tuple, Tuples};
 use spl_matrix::lists::{Maps, Multipliers};
 
-/// Why an algebra isn't central simple, or that it is that of all n by n matrices. Basis elements are counted from 1.
+/// Why an algebra isn't central simple, that it is that of all n by n matrices, or why it is no matrix algebra although
+/// it may be central simple. Basis elements are counted from 1.
 #[derive(Drop)]
 pub enum Evidence {
     /// The products (b_i·b_j)·b_k and b_i·(b_j·b_k) differ.
@@ -31,5 +33,11 @@ pub enum Evidence {
     Split {
         maps: Maps<Fractions>,
         units: Tuples,
+    },
+    /// A place at which the algebra is ramified: tuples that span an order there, and tuples that span its radical.
+    Ramified {
+        place: Place,
+        order: Tuples,
+        radical: Tuples,
     },
 }

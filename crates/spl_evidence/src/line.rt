@@ -1,12 +1,14 @@
 // A line of evidence, read as one of those that are due.
 ghost use Rattle.std.specs.Prelude.{◌≡◌, ◌≢◌, ◌↔◌, ◌*◌, ◌<◌, ◌≤◌, ℕ, IfOk, IsTrue, MatchOption, Contains, List};
 ghost use Rattle.std.specs.List.{AllByRecursion};
-ghost use Rattle.spl_text.specs.Text.{lists_of};
-ghost use Rattle.spl_evidence.specs.Line.{Line, HasForm, line_text, number_count, fraction_count};
+ghost use Rattle.spl_text.specs.Text.{FractionText, IsFractionText, lists_of};
+ghost use Rattle.spl_evidence.specs.Line.{Line, HasForm, HasLists, fractions_text, line_text, number_count};
+ghost use Rattle.spl_evidence.specs.Line.{fraction_count};
 ghost use Rattle.spl_evidence.specs.Refusal.{greatest};
 ghost use Rattle.spl_evidence.specs.Reading.{IsLineOf};
 
-use crate::arguments::{are_fractions, numbers_of};
+use crate::arguments::{are_fractions, are_lists, numbers_of};
+use crate::due::is_ramified;
 use crate::word::Word;
 use spl_field::field::NoMemory;
 use spl_text::numbers::Numbers;
@@ -21,6 +23,14 @@ pub struct LineWords<'a> {
     pub numbers: Numbers,
     pub fractions: &'a [u8],
     pub elements: bool,
+}
+
+/// Whether lists stand behind the word where it wants lists, and no quotients of two.
+fn has_lists(word: Word, fractions: &[u8]) -> bool
+    ensures { (ts : List FractionText) → AllByRecursion IsFractionText ts → fractions.now ≡ fractions_text ts
+        → (IsTrue result ↔ HasLists word ts) }
+{
+    !is_ramified(word) || are_lists(fractions)
 }
 
 /// The line of this word that the text spells, over an algebra of dimension m and a field of q elements.
@@ -41,15 +51,18 @@ fn line_of<'a>(
     let Some((numbers, fractions)) = numbers_of(alloc, arguments, word.number_count())? else {
         return Ok(None);
     };
-    match are_fractions(alloc, fractions, word.fraction_count(m), q)? {
-        None => Ok(None),
-        Some(elements) => Ok(Some(LineWords {
-            word,
-            numbers,
-            fractions,
-            elements,
-        })),
+    let Some(elements) = are_fractions(alloc, fractions, word.fraction_count(m), q)? else {
+        return Ok(None);
+    };
+    if !has_lists(word, fractions) {
+        return Ok(None);
     }
+    Ok(Some(LineWords {
+        word,
+        numbers,
+        fractions,
+        elements,
+    }))
 }
 
 /// The line that the text spells, where its word is one of these.

@@ -8,8 +8,9 @@ ghost use Rattle.spl_fraction.specs.Fractions.{field_of};
 ghost use Rattle.spl_fraction.specs.FractionsOver.{fractions_over};
 ghost use Rattle.spl_fraction.specs.CanonicalWords.{words_of};
 ghost use Rattle.spl_evidence.specs.Line.{fractions_text, line_text, lines_text};
-ghost use Rattle.spl_evidence.specs.Evidence.{tuple_line, multiplier_line, map_line, map_lines, unit_line, unit_lines};
-ghost use Rattle.spl_evidence.specs.Evidence.{kind_line};
+ghost use Rattle.spl_fraction.specs.declared.place.Place.TheVariants.{Finite};
+ghost use Rattle.spl_evidence.specs.Evidence.{fractions_line, multiplier_line, map_line, map_lines, unit_line};
+ghost use Rattle.spl_evidence.specs.Evidence.{unit_lines, place_line, kind_line};
 ghost use Rattle.spl_evidence.specs.declared.evidence.Evidence.TheVariants.{Triple};
 ghost use Rattle.spl_evidence.specs.declared.word.Word.TheVariants.{Ideal as IdealWord};
 
@@ -18,8 +19,10 @@ use itoa::Buffer;
 use spl_field::field::NoMemory;
 use spl_fraction::field::Fractions;
 use spl_fraction::fraction::Fraction;
+use spl_fraction::place::Place;
 use spl_fraction::tuples::Tuple;
 use spl_matrix::matrix::Matrix;
+use spl_text::writing::push_coefficients;
 use std::alloc::Global;
 
 /// A space and the number.
@@ -40,6 +43,29 @@ pub(crate) fn push_triple(out: &mut Vec<u8>, i: usize, j: usize, k: usize) -> Re
     push_number(out, i)?;
     push_number(out, j)?;
     push_number(out, k)?;
+    out.extend_from_slice(b"\n")?;
+    Ok(())
+}
+
+/// The line of a ramified place.
+pub(crate) fn push_place(place: &Place, out: &mut Vec<u8>) -> Result<(), NoMemory>
+    ensures { OnOk result (out.new.items ≡ out.old.items ++ line (line_text (place_line place.now))) }
+{
+    match place {
+        Place::Finite { poly } => push_polynomial(poly.as_slice(), out),
+        Place::Infinity => {
+            out.extend_from_slice(b"ramified infinity\n")?;
+            Ok(())
+        }
+    }
+}
+
+/// The line of the place of a polynomial with these coefficients.
+fn push_polynomial(c: &[u8], out: &mut Vec<u8>) -> Result<(), NoMemory>
+    ensures { OnOk result (out.new.items ≡ out.old.items ++ line (line_text (place_line (Finite c.now)))) }
+{
+    out.extend_from_slice(b"ramified ")?;
+    push_coefficients(out, c)?;
     out.extend_from_slice(b"\n")?;
     Ok(())
 }
@@ -86,35 +112,37 @@ fn push_fractions(
     Ok(())
 }
 
-/// The line of a tuple.
+/// The line of a tuple behind this word.
 pub(crate) fn push_tuple(
     alloc: Global,
     f: &Fractions,
+    word: Word,
     a: &Tuple,
     out: &mut Vec<u8>,
 ) -> Result<(), NoMemory>
     requires { All (IsElem (fractions_over (field_of f.now))) a.now }
-    ensures { OnOk result (out.new.items ≡ out.old.items ++ line (line_text (tuple_line a.now))) }
+    ensures { OnOk result (out.new.items ≡ out.old.items ++ line (line_text (fractions_line word a.now))) }
 {
-    out.extend_from_slice(b"tuple")?;
+    out.extend_from_slice(word.text())?;
     push_fractions(alloc, f, a.as_slice(), out)?;
     out.extend_from_slice(b"\n")?;
     Ok(())
 }
 
-/// The lines of the tuples.
+/// The lines of the tuples, each behind this word.
 pub(crate) fn push_tuples(
     alloc: Global,
     f: &Fractions,
+    word: Word,
     tuples: &[Tuple],
     out: &mut Vec<u8>,
 ) -> Result<(), NoMemory>
     requires { All (All (IsElem (fractions_over (field_of f.now)))) tuples.now }
     ensures { OnOk result (out.new.items
-        ≡ out.old.items ++ flat_map (λ a. line (line_text (tuple_line a))) tuples.now) }
+        ≡ out.old.items ++ flat_map (λ a. line (line_text (fractions_line word a))) tuples.now) }
 {
     for a in tuples {
-        push_tuple(alloc, f, a, out)?;
+        push_tuple(alloc, f, word, a, out)?;
     }
     Ok(())
 }

@@ -108,11 +108,15 @@ fn announced(line: &LineWords) -> u32
         Word::Triple => 0,
         Word::NoIdentity => 0,
         Word::Split => 0,
+        Word::Ramified => 0,
+        Word::RamifiedInfinity => 0,
         Word::Left => 0,
         Word::Right => 0,
         Word::Tuple => 0,
         Word::Map => 0,
         Word::Unit => 0,
+        Word::Order => 0,
+        Word::Radical => 0,
         Word::End => 0,
     }
 }

@@ -18,7 +18,7 @@ pub enum EvidenceKind {
     EvRange,
     /// The numbers of the line are not greater than those of the line before, or not the due ones.
     EvOrder,
-    /// A fraction is not canonical, or a multiplier is 0.
+    /// A fraction is not canonical, a multiplier is 0, or the polynomial of a place is not monic or has degree 0.
     EvTerms,
     /// A byte follows the line `end`.
     EvAfterEnd,

@@ -1,5 +1,6 @@
 // The lines of evidence behind the first, one at a time.
-ghost use Rattle.std.specs.Prelude.{◌≡◌, ◌≢◌, ◌⊎◌, ◌*◌, ◌<◌, ◌≤◌, ℕ, [], ◌∷◌, map, IfOk, IfErr, OnOk, MatchOption};
+ghost use Rattle.std.specs.Prelude.{◌≡◌, ◌≢◌, ◌⊎◌, ◌*◌, ◌<◌, ◌≤◌, ℕ, None, [], ◌∷◌, map, IfOk, IfErr, OnOk};
+ghost use Rattle.std.specs.Prelude.{MatchOption};
 ghost use Rattle.std.specs.List.{flat_map};
 ghost use Rattle.theory_rings.specs.Ops.{IsElem};
 ghost use Rattle.theory_spaces.specs.Tuples.{IsTuple};
@@ -9,21 +10,22 @@ ghost use Rattle.spl_fraction.specs.Fractions.{field_of};
 ghost use Rattle.spl_fraction.specs.FractionsOver.{fractions_over};
 ghost use Rattle.spl_fraction.specs.CanonicalWords.{words_of};
 ghost use Rattle.spl_evidence.specs.Line.{Line, fraction_count, lines_text};
-ghost use Rattle.spl_evidence.specs.Evidence.{multiplier_line, end_line};
+ghost use Rattle.spl_evidence.specs.Evidence.{PlaceFits, place_line, multiplier_line, end_line};
 ghost use Rattle.spl_evidence.specs.Refusal.{IsDue, NothingIsDue, due_words, behind};
-ghost use Rattle.spl_evidence.specs.Reading.{IfRefused, IsLineOf, IsFaultFrom, Reads, HasRoom};
+ghost use Rattle.spl_evidence.specs.Reading.{IfRefused, IsLineOf, IsFaultFrom, Reads, HasRoom, TakesTuple};
 ghost use Rattle.spl_evidence.specs.declared.word.Word.{Word};
-ghost use Rattle.spl_evidence.specs.declared.word.Word.TheVariants.{Left, Right, Tuple as TupleWord, Map};
-ghost use Rattle.spl_evidence.specs.declared.word.Word.TheVariants.{Unit as UnitTuple, End};
+ghost use Rattle.spl_evidence.specs.declared.word.Word.TheVariants.{Left, Right, Map, End};
+ghost use Rattle.spl_evidence.specs.declared.word.Word.TheVariants.{Ramified, RamifiedInfinity};
 
 use crate::due::{is_end, number_at};
 use crate::line::LineWords;
 use crate::reader::{Reader, line_at};
 use crate::refusal::{EvidenceFault, EvidenceKind};
-use crate::terms::{matrix_of, multiplier_of, tuple_of};
+use crate::terms::{matrix_of, multiplier_of, place_of_kind, tuple_of};
 use crate::word::Word;
 use spl_fraction::field::Fractions;
 use spl_fraction::fraction::Fraction;
+use spl_fraction::place::Place;
 use spl_fraction::tuples::Tuple;
 use spl_matrix::matrix::Matrix;
 use std::alloc::Global;
@@ -49,6 +51,31 @@ pub(crate) fn read_plain<'a>(
     Ok(line)
 }
 
+/// The words of the line of a kind, and the place where it is that of a ramified place.
+pub(crate) fn read_kind<'a>(
+    alloc: Global,
+    f: &Fractions,
+    n: u32,
+    reader: &mut Reader<'a>,
+) -> Result<(LineWords<'a>, Option<Place>), EvidenceFault>
+    requires low { 0 < n }
+    requires high { n ≤ 5 }
+    requires room { HasRoom reader.old }
+    requires start { reader.old.before ≡ None }
+    ensures ok { IfOk result (λ x. (l : Line) × Reads (field_of f.now) n reader.old (l ∷ []) reader.new
+        × (x.0.word ≡ l.word) × (x.0.numbers ≡ l.numbers)
+        × MatchOption x.1 ((l.fractions ≡ []) × (x.0.word ≢ Ramified) × (x.0.word ≢ RamifiedInfinity))
+        (λ place. PlaceFits (fractions_over (field_of f.now)) place × (l ≡ place_line place))) }
+    ensures fault { IfErr result (λ e. IfRefused e (IsFaultFrom (field_of f.now) n reader.old)) }
+{
+    let (line, after) = line_at(alloc, f, n, reader)?;
+    let Some(place) = place_of_kind(alloc, f, line.word, line.fractions)? else {
+        return Err(EvidenceFault::at(reader.number, EvidenceKind::EvTerms));
+    };
+    reader.pass(&line, after);
+    Ok((line, place))
+}
+
 /// The fractions of a line of n² fractions, the one line that is due.
 pub(crate) fn read_tuple(
     alloc: Global,
@@ -59,8 +86,7 @@ pub(crate) fn read_tuple(
     requires low { 0 < n }
     requires high { n ≤ 5 }
     requires room { HasRoom reader.old }
-    requires due { (word : Word) × (due_words (n * n) reader.old.before ≡ word ∷ [])
-        × ((word ≡ TupleWord) ⊎ (word ≡ UnitTuple)) }
+    requires due { (word : Word) × (due_words (n * n) reader.old.before ≡ word ∷ []) × TakesTuple (n * n) word }
     ensures ok { IfOk result (λ a. IsTuple (fractions_over (field_of f.now)) (n * n) a
         × ((l : Line) × Reads (field_of f.now) n reader.old (l ∷ []) reader.new × (l.fractions ≡ map words_of a))) }
     ensures fault { IfErr result (λ e. IfRefused e (IsFaultFrom (field_of f.now) n reader.old)) }

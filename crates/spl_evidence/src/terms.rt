@@ -1,5 +1,6 @@
 // The fractions of a line of evidence.
-ghost use Rattle.std.specs.Prelude.{◌≡◌, ◌≢◌, ◌⊎◌, ◌*◌, ◌<◌, ℕ, List, [], ◌∷◌, ◌++◌, length, map, IfOk, MatchOption};
+ghost use Rattle.std.specs.Prelude.{◌≡◌, ◌≢◌, ◌⊎◌, ◌↔◌, ◌*◌, ◌<◌, ℕ, None, List, [], ◌∷◌, ◌++◌, length, map, IsTrue};
+ghost use Rattle.std.specs.Prelude.{IfOk, MatchOption};
 ghost use Rattle.std.specs.List.{All, AllByRecursion, flat_map};
 ghost use Rattle.theory_rings.specs.Ops.{IsElem};
 ghost use Rattle.theory_fractions.specs.Fraction.{Pair};
@@ -9,14 +10,20 @@ ghost use Rattle.spl_text.specs.Text.{FractionText, IsFractionText};
 ghost use Rattle.spl_fraction.specs.Fractions.{field_of};
 ghost use Rattle.spl_fraction.specs.FractionsOver.{fractions_over};
 ghost use Rattle.spl_fraction.specs.CanonicalWords.{words_of};
-ghost use Rattle.spl_evidence.specs.Line.{fractions_text};
-ghost use Rattle.spl_evidence.specs.Refusal.{IsCanonical, zero_text};
+ghost use Rattle.spl_fraction.specs.declared.place.Place.TheVariants.{Finite};
+ghost use Rattle.spl_evidence.specs.Line.{Line, HasForm, fraction_count, fractions_text};
+ghost use Rattle.spl_evidence.specs.Evidence.{IsMonicOfPositiveDegree, PlaceFits, place_line};
+ghost use Rattle.spl_evidence.specs.Refusal.{IsCanonical, HasTerms, zero_text};
+ghost use Rattle.spl_evidence.specs.declared.word.Word.TheVariants.{Ramified, RamifiedInfinity};
 ghost use Rattle.spl_evidence.specs.Reading.{EndsWord};
 
 use crate::arguments::next_word;
+use crate::due::{is_infinity, is_ramified};
+use crate::word::Word;
 use spl_field::field::NoMemory;
 use spl_fraction::field::Fractions;
 use spl_fraction::fraction::Fraction;
+use spl_fraction::place::Place;
 use spl_fraction::tuples::Tuple;
 use spl_matrix::matrix::Matrix;
 use spl_text::word::strip_prefix;
@@ -112,4 +119,60 @@ pub(crate) fn multiplier_of(
         return Ok(None);
     }
     Ok(Some(x))
+}
+
+/// Whether the coefficients, of which the last is not 0, are those of a monic polynomial of degree at least 1.
+fn is_monic_of_positive_degree(c: &[u8]) -> bool
+    ensures { IsTrue result ↔ IsMonicOfPositiveDegree c.now }
+{
+    2 <= c.len() && c[c.len() - 1] == 1
+}
+
+/// The place of the polynomial whose text this is, with a space before it. None exactly where it isn't canonical, not
+/// monic or of degree 0.
+fn finite_place_of(alloc: Global, f: &Fractions, text: &[u8]) -> Result<Option<Place>, NoMemory>
+    ensures { IfOk result (λ o. (ts : List FractionText) → length ts ≡ 1 → AllByRecursion IsFractionText ts
+        → AllByRecursion (λ t. t.denominator ≡ None) ts → text.now ≡ fractions_text ts
+        → MatchOption o (AllByRecursion (IsCanonical (field_of f.now)) ts
+        → AllByRecursion (λ t. IsMonicOfPositiveDegree t.numerator) ts → ⊥)
+        (λ place. (p : List ℕ) × (place ≡ Finite p) × IsElem (fractions_over (field_of f.now)) (p, 1 ∷ [])
+        × IsMonicOfPositiveDegree p × (ts ≡ words_of (p, 1 ∷ []) ∷ []))) }
+{
+    let Some(word) = strip_prefix(text, b" ") else {
+        return Ok(None);
+    };
+    let Some(fraction) = f.read_fraction(alloc, word)? else {
+        return Ok(None);
+    };
+    if !is_monic_of_positive_degree(fraction.numerator().as_slice()) {
+        return Ok(None);
+    }
+    let poly = fraction.numerator().copy(alloc, f.field())?;
+    Ok(Some(Place::Finite { poly }))
+}
+
+/// The place that the line of a kind tells, where it is that of a ramified place. None exactly where its polynomial is
+/// none of a place.
+pub(crate) fn place_of_kind(
+    alloc: Global,
+    f: &Fractions,
+    word: Word,
+    text: &[u8],
+) -> Result<Option<Option<Place>>, NoMemory>
+    ensures { IfOk result (λ o. (m : ℕ) (l : Line) → HasForm m l → word ≡ l.word → text.now ≡ fractions_text l.fractions
+        → (word ≢ Ramified → fraction_count m word ≡ 0) → MatchOption o (HasTerms (field_of f.now) l → ⊥)
+        (λ p. HasTerms (field_of f.now) l
+        × MatchOption p ((l.fractions ≡ []) × (word ≢ Ramified) × (word ≢ RamifiedInfinity))
+        (λ place. PlaceFits (fractions_over (field_of f.now)) place × (l ≡ place_line place)))) }
+{
+    if is_infinity(word) {
+        return Ok(Some(Some(Place::Infinity)));
+    }
+    if !is_ramified(word) {
+        return Ok(Some(None));
+    }
+    let Some(place) = finite_place_of(alloc, f, text)? else {
+        return Ok(None);
+    };
+    Ok(Some(Some(place)))
 }

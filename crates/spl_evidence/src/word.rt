@@ -10,11 +10,17 @@ pub enum Word {
     Central,
     Ideal,
     Split,
+    /// Of a ramified place, whose polynomial follows.
+    Ramified,
+    /// Of infinity as a ramified place.
+    RamifiedInfinity,
     Left,
     Right,
     Tuple,
     Map,
     Unit,
+    Order,
+    Radical,
     End,
 }
 
@@ -41,11 +47,15 @@ impl Word {
             Word::Central => b"central",
             Word::Ideal => b"ideal",
             Word::Split => b"split",
+            Word::Ramified => b"ramified",
+            Word::RamifiedInfinity => b"ramified infinity",
             Word::Left => b"left",
             Word::Right => b"right",
             Word::Tuple => b"tuple",
             Word::Map => b"map",
             Word::Unit => b"unit",
+            Word::Order => b"order",
+            Word::Radical => b"radical",
             Word::End => b"end",
         }
     }
@@ -64,26 +74,34 @@ impl Word {
             Word::NoIdentity => 0,
             Word::Central => 0,
             Word::Split => 0,
+            Word::Ramified => 0,
+            Word::RamifiedInfinity => 0,
             Word::Tuple => 0,
+            Word::Order => 0,
+            Word::Radical => 0,
             Word::End => 0,
         }
     }
 
-    /// How many fractions follow them, over an algebra of dimension m.
+    /// How many fractions follow them, over an algebra of dimension m. The polynomial of a place counts as one.
     pub(crate) fn fraction_count(self, m: usize) -> usize
         ensures { result ≡ fraction_count m self }
     {
         match self {
             Word::Left => 1,
             Word::Right => 1,
+            Word::Ramified => 1,
             Word::Tuple => m,
             Word::Map => m,
             Word::Unit => m,
+            Word::Order => m,
+            Word::Radical => m,
             Word::Triple => 0,
             Word::NoIdentity => 0,
             Word::Central => 0,
             Word::Ideal => 0,
             Word::Split => 0,
+            Word::RamifiedInfinity => 0,
             Word::End => 0,
         }
     }

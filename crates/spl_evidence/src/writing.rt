@@ -7,15 +7,17 @@ ghost use Rattle.spl_fraction.specs.Fractions.{field_of};
 ghost use Rattle.spl_fraction.specs.FractionsOver.{fractions_over};
 ghost use Rattle.spl_evidence.specs.Line.{lines_text};
 ghost use Rattle.spl_evidence.specs.Evidence.{Fits, IsEvidenceText, kind_line, body_lines};
-ghost use Rattle.spl_evidence.specs.declared.evidence.Evidence.TheVariants.{NoIdentity, Ideal, Split};
+ghost use Rattle.spl_evidence.specs.declared.evidence.Evidence.TheVariants.{NoIdentity, Ideal, Split, Ramified};
 
 use crate::evidence::Evidence;
 use crate::lines::{
-    push_ideal_count, push_maps, push_multipliers, push_triple, push_tuple, push_tuples, push_units,
+    push_ideal_count, push_maps, push_multipliers, push_place, push_triple, push_tuple,
+    push_tuples, push_units,
 };
 use crate::word::Word;
 use spl_field::field::NoMemory;
 use spl_fraction::field::Fractions;
+use spl_fraction::place::Place;
 use spl_fraction::tuples::Tuples;
 use spl_matrix::lists::{Maps, Multipliers};
 use std::alloc::Global;
@@ -52,7 +54,7 @@ fn push_ideal(
         ≡ out.old.items ++ lines_text (kind_line (Ideal tuples.now) ∷ body_lines 0 (Ideal tuples.now))) }
 {
     push_ideal_count(out, tuples.len())?;
-    push_tuples(alloc, f, tuples.as_slice(), out)?;
+    push_tuples(alloc, f, Word::Tuple, tuples.as_slice(), out)?;
     Ok(())
 }
 
@@ -78,6 +80,27 @@ fn push_split(
     Ok(())
 }
 
+/// The place, the tuples of the order, and those of its radical.
+fn push_ramified(
+    alloc: Global,
+    f: &Fractions,
+    place: &Place,
+    order: &Tuples,
+    radical: &Tuples,
+    out: &mut Vec<u8>,
+) -> Result<(), NoMemory>
+    requires order { All (All (IsElem (fractions_over (field_of f.now)))) order.now }
+    requires radical { All (All (IsElem (fractions_over (field_of f.now)))) radical.now }
+    ensures { OnOk result (out.new.items
+        ≡ out.old.items ++ lines_text (kind_line (Ramified place.now order.now radical.now) ∷ body_lines 0
+        (Ramified place.now order.now radical.now))) }
+{
+    push_place(place, out)?;
+    push_tuples(alloc, f, Word::Order, order.as_slice(), out)?;
+    push_tuples(alloc, f, Word::Radical, radical.as_slice(), out)?;
+    Ok(())
+}
+
 /// The lines of the evidence between the first and `end`.
 fn push_body(
     alloc: Global,
@@ -95,10 +118,15 @@ fn push_body(
         Evidence::NoIdentity { left, right } => push_no_identity(alloc, f, left, right, out),
         Evidence::Central { tuple } => {
             out.extend_from_slice(b"central\n")?;
-            push_tuple(alloc, f, tuple, out)
+            push_tuple(alloc, f, Word::Tuple, tuple, out)
         }
         Evidence::Ideal { tuples } => push_ideal(alloc, f, tuples, out),
         Evidence::Split { maps, units } => push_split(alloc, f, n, maps, units, out),
+        Evidence::Ramified {
+            place,
+            order,
+            radical,
+        } => push_ramified(alloc, f, place, order, radical, out),
     }
 }
 

@@ -1,5 +1,5 @@
 -- One step of growth: the left order of the preimage of an ideal of the order modulo a place, by what the calls answer.
-use Rattle.std.specs.Prelude.{◌≡◌, ℕ, List}
+use Rattle.std.specs.Prelude.{ℕ, List}
 use Rattle.std.proofs.Common.{sym, subst}
 use Rattle.theory_rings.specs.Ops.{Ops, FieldLaws}
 use Rattle.theory_rings.specs.Elements.{Elem}
@@ -26,7 +26,7 @@ use Rattle.theory_growth.proofs.Elsewhere.{left_orders_are_steps}
 use Rattle.spl_field.specs.declared.small.SmallField.{SmallField}
 use Rattle.spl_field.specs.SmallField.{small_ops, small_laws}
 use Rattle.spl_residue.specs.declared.field.ResidueField.{ResidueField}
-use Rattle.spl_residue.specs.Residue.{field_of, polynomial_of, residue_ops}
+use Rattle.spl_residue.specs.Residue.{residue_ops}
 use Rattle.spl_fraction.specs.FractionsOver.{fractions_over}
 use Rattle.spl_order.specs.LeftOrders.{SpansIdealOver, SpansLeftOrder}
 use Rattle.spl_order.specs.Residues.{AreProductResidues, ArePreimages, IsResidueAlgebra, LiftsIdeal}

@@ -1,14 +1,11 @@
 -- What an order is at a place where no ideal of the order modulo the place grows, by what the calls answer.
-use Rattle.std.specs.Prelude.{◌≡◌, ◌≢◌, ◌<◌, ◌%◌, ℕ, List, [], ◌∷◌, length, get_or}
+use Rattle.std.specs.Prelude.{◌≡◌, ◌≢◌, ◌%◌, ℕ, List, [], length}
 use Rattle.std.specs.List.{All}
-use Rattle.std.proofs.Common.{refl, sym, ◌∙◌, ap, subst, arith}
+use Rattle.std.proofs.Common.{sym, ap, subst, arith}
 use Rattle.std.proofs.lemmas.List.Elements.{All-from_get_or}
 use Rattle.std.proofs.lemmas.Nat.Gcd.{mod-eq-zero_of_dvd}
 use Rattle.theory_rings.specs.Ops.{Ops, FieldLaws}
-use Rattle.theory_rings.specs.Sum.{at}
 use Rattle.theory_remainders.proofs.RemainderField.{remainder_laws}
-use Rattle.theory_spaces.specs.Tuples.{tuple_zero}
-use Rattle.theory_spaces.proofs.Tuples.Tuples.{at-table}
 use Rattle.theory_chains.specs.Radical.{SpansRadical}
 use Rattle.theory_tables.specs.Subspace.{Rows, IsReducedBasis, IsSubspace}
 use Rattle.theory_tables.specs.Structure.{Structure, IsOver, IsAssociative}

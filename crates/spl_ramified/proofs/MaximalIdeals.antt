@@ -42,7 +42,8 @@ module _ {E : Type 0} (o : Ops E) (L : FieldLaws o) (A : Structure E) (u : IsUni
     -- and it is not 0
     quotient_positive : length rows < A.dim → 1 ≤ B.dim
     quotient_positive l = ⊎_elim
-        (λ (none : B.dim < 1). absurd (proper l (λ v t. (q.kernel v t).1 (λ i i_in. absurd (omega (arith, none, i_in))))))
+        (λ (none : B.dim < 1). absurd (proper l (λ v t. (q.kernel v t).1
+        (λ i i_in. absurd (omega (arith, none, i_in))))))
         (λ (some : 1 ≤ B.dim). some)
         (cases_lt B.dim 1)
 

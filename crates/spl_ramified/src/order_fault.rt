@@ -69,8 +69,8 @@ fn holds_identity(
     requires one { IsIdentity (fractions_over (field_of f.now)) a.now one.now }
     requires place { IsMonicIrreducible (small_ops (field_of f.now)) place.now }
     requires basis { IsBasis (small_ops (field_of f.now)) (small_laws (field_of f.now)) a.now.dim order.now }
-    ensures { IfOk result (λ r. IsTrue r ↔ HoldsIdentity (small_ops (field_of f.now)) (small_laws (field_of f.now)) a.now
-        (Finite place.now) (tuples_of (small_ops (field_of f.now)) (small_laws (field_of f.now)) order.now)) }
+    ensures { IfOk result (λ r. IsTrue r ↔ HoldsIdentity (small_ops (field_of f.now)) (small_laws (field_of f.now))
+        a.now (Finite place.now) (tuples_of (small_ops (field_of f.now)) (small_laws (field_of f.now)) order.now)) }
 {
     let _ = a.constants();
     let held = holds_at(alloc, f, order, one.as_slice(), place)?;

@@ -90,8 +90,9 @@ fn left_order_fault(
         (tuples_of (small_ops (field_of f.now)) (small_laws (field_of f.now)) order.now)
         (tuples_of (small_ops (field_of f.now)) (small_laws (field_of f.now)) radical.now)
         (residue_ops residue.now.field) residue.now.algebra image.now.rows }
-    ensures { IfOk result (IsFirstFault (left_order_conditions (small_ops (field_of f.now)) (small_laws (field_of f.now))
-        a.now (Finite place.now) (tuples_of (small_ops (field_of f.now)) (small_laws (field_of f.now)) order.now)
+    ensures { IfOk result (IsFirstFault (left_order_conditions (small_ops (field_of f.now))
+        (small_laws (field_of f.now)) a.now (Finite place.now)
+        (tuples_of (small_ops (field_of f.now)) (small_laws (field_of f.now)) order.now)
         (tuples_of (small_ops (field_of f.now)) (small_laws (field_of f.now)) radical.now))) }
 {
     let _ = residue;
@@ -214,8 +215,8 @@ fn absorbs_products(
     Ok(right)
 }
 
-/// The first condition on a lattice at the place that fails, which is to be the radical of an order there. The one fault
-/// is want of memory.
+/// The first condition on a lattice at the place that fails, which is to be the radical of an order there. The one
+/// fault is want of memory.
 pub(crate) fn lattice_fault(
     alloc: Global,
     f: &Fractions,

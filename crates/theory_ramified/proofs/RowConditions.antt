@@ -21,7 +21,7 @@ use Rattle.theory_places.proofs.FractionPlaces.{fraction_places}
 use Rattle.theory_left_orders.specs.LeftOrders.{BasisLattice}
 use Rattle.theory_left_orders.specs.FractionResidues.{ResidueRingsBy}
 use Rattle.theory_left_orders.proofs.TupleLeftOrders.{B}
-use Rattle.theory_growth.specs.Settled.{residues}
+use Rattle.theory_growth.specs.Settled.{residues, residue_algebra}
 use Rattle.theory_ramified.specs.Conditions.{HoldsMultiple}
 use Rattle.theory_ramified.specs.RowConditions.{IsOrderAtPlace, IsPreimageAtPlace, IsIdealOverMultiple, AreResiduesOf}
 use Rattle.theory_ramified.specs.RowConditions.{ConditionsAreOnRows, ConditionsByRows, ResiduesAreRows}
@@ -87,7 +87,7 @@ module _ {E : Type 0} (o : Ops E) (L : FieldLaws o) (M : FieldLaws (fraction_ops
   )
 
   pub on_rows : IsIdealOverMultiple o L M m s N R A os js → IsPreimageAtPlace o L M m s N R A os rows js
-      → ConditionsAreOnRows o L M m s N R A os cs rows js
+      → ConditionsAreOnRows o L A m os js r (residue_algebra o L M m s N R A os cs) rows
   on_rows J pre = record {
     ideal = by_rows.spans_ideal k M P p q r N R.at_place A over assoc one O.order.is_one os O.order.basis O.order.order
         cs O.table rows shape js J.shape (uniformizer_at o (Finite m)) R.p_is J.inside J.absorbs.left J.absorbs.right

@@ -44,19 +44,6 @@ module _ {E : Type 0} (o : Ops E) (L : FieldLaws o) (M : FieldLaws (fraction_ops
     pub absorbs : AbsorbsProducts o L A (Finite m) os js
     pub over : HoldsMultiple o L A (Finite m) os js
 
-  -- the rows span an ideal of the residue algebra, and the conditions on js say this of it: it is nilpotent, maximal,
-  -- and not 0
-  pub record ConditionsAreOnRows (constants : List (List E)) (rows : List (List (List E)))
-      (js : List (List (Pair E))) : Type 0 where
-    pub ideal : SpansIdeal (residues o L M m s) (residue_algebra o L M m s N R A os constants) rows
-    pub power : SomePowerFalls o L A (Finite m) os js
-        ↔ PowerVanishes (residues o L M m s) (residue_algebra o L M m s N R A os constants) rows
-    pub simple : IsSimpleOver o L A (Finite m) os js
-        ↔ (let r = residues o L M m s in let C = residue_algebra o L M m s N R A os constants in
-        IsMaximalIdeal (tuple_ops r C) (IsTuple r C.dim) (Combinations r C.dim rows))
-    pub not_multiple : IsNotMultiple o L A (Finite m) os js
-        ↔ (AreZero (residues o L M m s) (residue_algebra o L M m s N R A os constants) rows → ⊥)
-
   -- the rows are the residues of the coordinates of js by os
   pub record AreResiduesOf (rows : List (List (List E))) (js : List (List (Pair E))) : Type 0 where
     pub coordinates : List (List (Pair E))
@@ -64,6 +51,17 @@ module _ {E : Type 0} (o : Ops E) (L : FieldLaws o) (M : FieldLaws (fraction_ops
         (let K = fractions o L M in K.inv R.p) (residues o L M m s) N R.at_place A os coordinates js
     pub each : AreResidueRows (fraction_ops o L) M (IsIntegralAt o (Finite m)) R.p
         (let K = fractions o L M in K.inv R.p) (residues o L M m s) N R.at_place A.dim coordinates rows
+
+-- the rows span an ideal of the algebra C over r, as which J becomes in the residue algebra of Λ, and the conditions on
+-- js say this of it: it is nilpotent, maximal, and not 0
+module _ {E : Type 0} (o : Ops E) (L : FieldLaws o) (A : Structure (Pair E)) (m : List E)
+    (os js : List (List (Pair E))) (r : Ops (List E)) (C : Structure (List E)) where
+  pub record ConditionsAreOnRows (rows : List (List (List E))) : Type 0 where
+    pub ideal : SpansIdeal r C rows
+    pub power : SomePowerFalls o L A (Finite m) os js ↔ PowerVanishes r C rows
+    pub simple : IsSimpleOver o L A (Finite m) os js
+        ↔ IsMaximalIdeal (tuple_ops r C) (IsTuple r C.dim) (Combinations r C.dim rows)
+    pub not_multiple : IsNotMultiple o L A (Finite m) os js ↔ (AreZero r C rows → ⊥)
 
 module _ {E : Type 0} (o : Ops E) (L : FieldLaws o) (M : FieldLaws (fraction_ops o L)) where
   -- of an order at a finite place and an ideal of it over its multiple, by rows that span what the ideal becomes
@@ -75,7 +73,7 @@ module _ {E : Type 0} (o : Ops E) (L : FieldLaws o) (M : FieldLaws (fraction_ops
       → (js : List (List (Pair E))) → IsIdealOverMultiple o L M m s N R A os js
       → (rows : List (List (List E))) → IsMatrix (residues o L M m s) A.dim rows
       → IsPreimageAtPlace o L M m s N R A os rows js
-      → ConditionsAreOnRows o L M m s N R A os constants rows js
+      → ConditionsAreOnRows o L A m os js (residues o L M m s) (residue_algebra o L M m s N R A os constants) rows
 
   -- the residues of the coordinates of js are such rows
   abbrev pub ResiduesAreRows : Type 0

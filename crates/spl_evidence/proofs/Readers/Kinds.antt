@@ -10,13 +10,14 @@ use Rattle.theory_tables.specs.Claims.{TripleFits}
 use Rattle.spl_field.specs.declared.small.SmallField.{SmallField}
 use Rattle.spl_fraction.specs.FractionsOver.{fractions_over}
 use Rattle.spl_text.specs.Text.{line}
-use Rattle.spl_evidence.specs.Line.{Line, lines_text, line_text, number_count}
+use Rattle.spl_evidence.specs.Line.{Line, lines_text, line_text, number_count, fraction_count}
 use Rattle.spl_evidence.specs.Evidence.{Fits, body_lines, end_line, lines_of}
 use Rattle.spl_evidence.specs.Refusal.{greatest, due_words, IsDue, IsRight}
 use Rattle.spl_evidence.specs.Reading.{Reads, IsBehindKind}
 use Rattle.spl_evidence.specs.declared.evidence.Evidence.{Evidence}
 use Rattle.spl_evidence.specs.declared.word.Word.{Word}
 use Rattle.spl_evidence.specs.declared.word.Word.TheVariants.{Triple, NoIdentity, Central, Ideal, Split}
+use Rattle.spl_evidence.specs.declared.word.Word.TheVariants.{Ramified, RamifiedInfinity}
 use Rattle.spl_evidence.specs.declared.word.Before.{Before}
 use Rattle.spl_evidence.specs.declared.reader.Reader.{Reader}
 use Rattle.spl_evidence.proofs.Readers.Passing.{spelled-append}
@@ -57,31 +58,49 @@ module _ (f : SmallField) (n : ℕ) where
 -- ---- the words of kinds
 
 abbrev pub IsKind : Word → Type 0
-IsKind w = (w ≡ Triple) ⊎ ((w ≡ NoIdentity) ⊎ ((w ≡ Central) ⊎ ((w ≡ Ideal) ⊎ (w ≡ Split))))
+IsKind w =
+    (w ≡ Triple) ⊎ ((w ≡ NoIdentity) ⊎ ((w ≡ Central) ⊎ ((w ≡ Ideal) ⊎ ((w ≡ Split) ⊎ ((w ≡ Ramified)
+    ⊎ (w ≡ RamifiedInfinity))))))
 
 pub kind_due : (m : ℕ) (before : Option Before) (w : Word) → before ≡ None → IsDue m before w → IsKind w
 kind_due m before w start due = at h.0 h.1 h.2
   where
-    h : Contains (Triple ∷ NoIdentity ∷ Central ∷ Ideal ∷ Split ∷ []) w
+    h : Contains (Triple ∷ NoIdentity ∷ Central ∷ Ideal ∷ Split ∷ Ramified ∷ RamifiedInfinity ∷ []) w
     h = subst (λ z. Contains (due_words m z) w) start due
 
-    at : (i : ℕ) → i < 5 → get_or (Triple ∷ NoIdentity ∷ Central ∷ Ideal ∷ Split ∷ []) i w ≡ w → IsKind w
+    at : (i : ℕ) → i < 7
+        → get_or (Triple ∷ NoIdentity ∷ Central ∷ Ideal ∷ Split ∷ Ramified ∷ RamifiedInfinity ∷ []) i w ≡ w → IsKind w
     at zero below e = inl (sym e)
     at (suc zero) below e = inr (inl (sym e))
     at (suc (suc zero)) below e = inr (inr (inl (sym e)))
     at (suc (suc (suc zero))) below e = inr (inr (inr (inl (sym e))))
-    at (suc (suc (suc (suc zero)))) below e = inr (inr (inr (inr (sym e))))
-    at (suc (suc (suc (suc (suc i))))) below e = absurd (omega arith)
+    at (suc (suc (suc (suc zero)))) below e = inr (inr (inr (inr (inl (sym e)))))
+    at (suc (suc (suc (suc (suc zero))))) below e = inr (inr (inr (inr (inr (inl (sym e))))))
+    at (suc (suc (suc (suc (suc (suc zero)))))) below e = inr (inr (inr (inr (inr (inr (sym e))))))
+    at (suc (suc (suc (suc (suc (suc (suc i))))))) below e = absurd (omega arith)
 
 pub some_kind : (m : ℕ) (before : Option Before) → before ≡ None → IsDue m before Split
 some_kind m before start = subst (λ z. IsDue m z Split) (sym start) (4, omega arith, refl)
 
-pub split_kind : (w : Word) → IsKind w → w ≢ Triple → w ≢ NoIdentity → w ≢ Central → w ≢ Ideal → w ≡ Split
-split_kind w (inl e) a b c d = absurd (a e)
-split_kind w (inr (inl e)) a b c d = absurd (b e)
-split_kind w (inr (inr (inl e))) a b c d = absurd (c e)
-split_kind w (inr (inr (inr (inl e)))) a b c d = absurd (d e)
-split_kind w (inr (inr (inr (inr e)))) a b c d = e
+pub split_kind : (w : Word) → IsKind w → w ≢ Triple → w ≢ NoIdentity → w ≢ Central → w ≢ Ideal → w ≢ Ramified
+    → w ≢ RamifiedInfinity → w ≡ Split
+split_kind w (inl e) a b c d g h = absurd (a e)
+split_kind w (inr (inl e)) a b c d g h = absurd (b e)
+split_kind w (inr (inr (inl e))) a b c d g h = absurd (c e)
+split_kind w (inr (inr (inr (inl e)))) a b c d g h = absurd (d e)
+split_kind w (inr (inr (inr (inr (inl e))))) a b c d g h = e
+split_kind w (inr (inr (inr (inr (inr (inl e)))))) a b c d g h = absurd (g e)
+split_kind w (inr (inr (inr (inr (inr (inr e)))))) a b c d g h = absurd (h e)
+
+-- no fraction follows the word of another kind than a finite place
+pub no_fraction_behind : (m : ℕ) (w : Word) → IsKind w → w ≢ Ramified → fraction_count m w ≡ 0
+no_fraction_behind m w (inl e) other = ap (fraction_count m) e
+no_fraction_behind m w (inr (inl e)) other = ap (fraction_count m) e
+no_fraction_behind m w (inr (inr (inl e))) other = ap (fraction_count m) e
+no_fraction_behind m w (inr (inr (inr (inl e)))) other = ap (fraction_count m) e
+no_fraction_behind m w (inr (inr (inr (inr (inl e))))) other = ap (fraction_count m) e
+no_fraction_behind m w (inr (inr (inr (inr (inr (inl e)))))) other = absurd (other e)
+no_fraction_behind m w (inr (inr (inr (inr (inr (inr e)))))) other = ap (fraction_count m) e
 
 three_items : (ns : List ℕ) → length ns ≡ 3 → ns ≡ get_or ns 0 0 ∷ get_or ns 1 0 ∷ get_or ns 2 0 ∷ []
 three_items [] e = absurd (omega arith)

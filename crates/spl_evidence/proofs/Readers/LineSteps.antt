@@ -7,9 +7,10 @@ use Rattle.spl_text.specs.Text.{FractionText}
 use Rattle.spl_fraction.specs.CanonicalWords.{words_of}
 use Rattle.spl_evidence.specs.Line.{Line, HasForm, number_count, fraction_count}
 use Rattle.spl_evidence.specs.Evidence.{multiplier_line, end_line}
-use Rattle.spl_evidence.specs.Refusal.{zero_text, IsNonzero}
+use Rattle.spl_evidence.specs.Reading.{TakesTuple}
+use Rattle.spl_evidence.specs.Refusal.{zero_text, IsAllowed}
 use Rattle.spl_evidence.specs.declared.word.Word.{Word}
-use Rattle.spl_evidence.specs.declared.word.Word.TheVariants.{Left, Right, Tuple, Map, Unit as UnitTuple, End}
+use Rattle.spl_evidence.specs.declared.word.Word.TheVariants.{Left, Right, Map, End}
 
 pub no_items : {X : Type 0} (xs : List X) → length xs ≡ 0 → xs ≡ []
 no_items [] e = refl
@@ -36,23 +37,12 @@ only_due ws w v e h = go (subst (λ vs. Contains vs v) e h)
 
 -- ---- lines with as many fractions as the dimension
 
--- so many fractions, of which none is a multiplier
-pub record HasPlainTerms (m : ℕ) (w : Word) : Type 0 where
-  pub count : fraction_count m w ≡ m
-  pub nonzero : (ts : List FractionText) → IsNonzero w ts
+pub tuple_due : (m : ℕ) (ws : List Word) (v : Word) → (w : Word) × (ws ≡ w ∷ []) × TakesTuple m w → Contains ws v
+    → TakesTuple m v
+tuple_due m ws v due h = subst (TakesTuple m) (sym (only_due ws due.0 v due.1 h)) due.2
 
-tuple_terms : (m : ℕ) (w : Word) → (w ≡ Tuple) ⊎ (w ≡ UnitTuple) → HasPlainTerms m w
-tuple_terms m w (inl e) = subst (HasPlainTerms m) (sym e) record { count = refl; nonzero = λ ts. tt }
-tuple_terms m w (inr e) = subst (HasPlainTerms m) (sym e) record { count = refl; nonzero = λ ts. tt }
-
-pub tuple_due : (m : ℕ) (ws : List Word) (v : Word)
-    → (w : Word) × (ws ≡ w ∷ []) × ((w ≡ Tuple) ⊎ (w ≡ UnitTuple)) → Contains ws v → HasPlainTerms m v
-tuple_due m ws v due h =
-    subst (HasPlainTerms m) (sym (only_due ws due.0 v due.1 h)) (tuple_terms m due.0 due.2)
-
-pub map_due : (m : ℕ) (ws : List Word) (v : Word) → ws ≡ Map ∷ [] → Contains ws v → HasPlainTerms m v
-map_due m ws v e h =
-    subst (HasPlainTerms m) (sym (only_due ws Map v e h)) record { count = refl; nonzero = λ ts. tt }
+pub map_due : (m : ℕ) (ws : List Word) (v : Word) → ws ≡ Map ∷ [] → Contains ws v → TakesTuple m v
+map_due m ws v e h = tuple_due m ws v (Map, e, record { count = refl; allowed = λ ts. tt }) h
 
 -- ---- the line `end`, and multipliers
 
@@ -77,13 +67,13 @@ side_counts m w (inr e) = rw e (refl, refl)
 pub side_fractions : (m : ℕ) (l : Line) → HasForm m l → IsSide l.word → length l.fractions ≡ 1
 side_fractions m l form side = form.fraction_count ∙ (side_counts m l.word side).1
 
-pub side_nonzero : (w : Word) (ts : List FractionText) → IsSide w → IsNonzero w ts → ts ≢ zero_text ∷ []
-side_nonzero w ts (inl e) h = subst (λ v. IsNonzero v ts) e h
-side_nonzero w ts (inr e) h = subst (λ v. IsNonzero v ts) e h
+pub side_allowed : (w : Word) (ts : List FractionText) → IsSide w → IsAllowed w ts → ts ≢ zero_text ∷ []
+side_allowed w ts (inl e) h = subst (λ v. IsAllowed v ts) e h
+side_allowed w ts (inr e) h = subst (λ v. IsAllowed v ts) e h
 
-pub nonzero_side : (w : Word) (ts : List FractionText) → IsSide w → ts ≢ zero_text ∷ [] → IsNonzero w ts
-nonzero_side w ts (inl e) h = subst (λ v. IsNonzero v ts) (sym e) h
-nonzero_side w ts (inr e) h = subst (λ v. IsNonzero v ts) (sym e) h
+pub allowed_side : (w : Word) (ts : List FractionText) → IsSide w → ts ≢ zero_text ∷ [] → IsAllowed w ts
+allowed_side w ts (inl e) h = subst (λ v. IsAllowed v ts) (sym e) h
+allowed_side w ts (inr e) h = subst (λ v. IsAllowed v ts) (sym e) h
 
 pub one_item : (ns : List ℕ) → length ns ≡ 1 → ns ≡ get_or ns 0 0 ∷ []
 one_item [] e = absurd (omega arith)

@@ -20,11 +20,12 @@ use Rattle.spl_fraction.specs.CanonicalText.{IsCanonicalText}
 use Rattle.spl_fraction.specs.CanonicalWords.{words_of}
 use Rattle.spl_fraction.proofs.CanonicalTexts.{text_words}
 use Rattle.spl_evidence.specs.Line.{Line, fractions_text}
-use Rattle.spl_evidence.specs.Refusal.{IsCanonical, zero_text, IsNonzero, HasTerms}
+use Rattle.spl_evidence.specs.Refusal.{IsCanonical, zero_text, IsAllowed, HasTerms}
 use Rattle.spl_evidence.specs.Reading.{EndsWord}
 use Rattle.spl_evidence.specs.declared.word.Word.{Word}
 use Rattle.spl_evidence.specs.declared.word.Word.TheVariants.{Triple, NoIdentity, Central, Ideal, Split, Left, Right}
 use Rattle.spl_evidence.specs.declared.word.Word.TheVariants.{Tuple, Map, Unit as UnitTuple, End}
+use Rattle.spl_evidence.specs.declared.word.Word.TheVariants.{Ramified, RamifiedInfinity, Order, Radical}
 use Rattle.spl_evidence.proofs.LineTexts.{spaced_unique, EndsWord-fractions}
 use Rattle.spl_evidence.proofs.SpacedWords.{rest_spelled, AllByRecursion-front, AllByRecursion-after}
 use Rattle.spl_evidence.proofs.CanonicalWords.{form, canonical_lacks, canonical_words_unique, length-map, TermsSoFar}
@@ -40,19 +41,23 @@ flat-push : {X : Type 0} (rows : List (List X)) (row : List X)
 flat-push rows row =
     flat_map-append (λ r. r) rows (row ∷ []) ∙ ap (λ t. flat_map (λ r. r) rows ++ t) (append-nil row)
 
--- no fraction is no multiplier 0
-nonzero_of_none : (w : Word) → IsNonzero w []
-nonzero_of_none Triple = tt
-nonzero_of_none NoIdentity = tt
-nonzero_of_none Central = tt
-nonzero_of_none Ideal = tt
-nonzero_of_none Split = tt
-nonzero_of_none Left = λ e. absurd cc
-nonzero_of_none Right = λ e. absurd cc
-nonzero_of_none Tuple = tt
-nonzero_of_none Map = tt
-nonzero_of_none UnitTuple = tt
-nonzero_of_none End = tt
+-- where there is no fraction, none is wrong
+allowed_of_none : (w : Word) → IsAllowed w []
+allowed_of_none Triple = tt
+allowed_of_none NoIdentity = tt
+allowed_of_none Central = tt
+allowed_of_none Ideal = tt
+allowed_of_none Split = tt
+allowed_of_none Left = λ e. absurd cc
+allowed_of_none Right = λ e. absurd cc
+allowed_of_none Tuple = tt
+allowed_of_none Map = tt
+allowed_of_none UnitTuple = tt
+allowed_of_none End = tt
+allowed_of_none Ramified = tt
+allowed_of_none RamifiedInfinity = tt
+allowed_of_none Order = tt
+allowed_of_none Radical = tt
 
 module _ (f : SmallField) where
   abbrev K : Ops (Pair ℕ)
@@ -173,20 +178,20 @@ module _ (f : SmallField) where
   pub plain_terms : (l : Line) → l.fractions ≡ [] → HasTerms f l
   plain_terms l none = record {
     canonical = subst (AllByRecursion (IsCanonical f)) (sym none) tt;
-    nonzero = subst (IsNonzero l.word) (sym none) (nonzero_of_none l.word);
+    allowed = subst (IsAllowed l.word) (sym none) (allowed_of_none l.word);
   }
 
   pub element_terms : (l : Line) (a : List (Pair ℕ)) → All (IsElem K) a → l.fractions ≡ map words_of a
-      → IsNonzero l.word l.fractions → HasTerms f l
-  element_terms l a elems are nonzero = record {
+      → IsAllowed l.word l.fractions → HasTerms f l
+  element_terms l a elems are allowed = record {
     canonical = subst (AllByRecursion (IsCanonical f)) (sym are) (word_terms f a elems);
-    nonzero = nonzero;
+    allowed = allowed;
   }
 
   pub multiplier_terms : (l : Line) (x : Pair ℕ) → IsElem K x → l.fractions ≡ words_of x ∷ []
-      → IsNonzero l.word l.fractions → HasTerms f l
-  multiplier_terms l x elem are nonzero =
-      element_terms l (x ∷ []) (All-push (IsElem K) [] x (λ k d below. absurd (omega arith)) elem) are nonzero
+      → IsAllowed l.word l.fractions → HasTerms f l
+  multiplier_terms l x elem are allowed =
+      element_terms l (x ∷ []) (All-push (IsElem K) [] x (λ k d below. absurd (omega arith)) elem) are allowed
 
   -- ---- one multiplier
 

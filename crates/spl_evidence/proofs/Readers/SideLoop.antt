@@ -225,7 +225,7 @@ module _ (f : SmallField) (n : ℕ) where
           reads = subst (λ ls. Reads f n old ls b) (lines right none)
               (Reads-append f n old a b (side_lines left right) (multiplier_line Left (j, k, x) ∷ []) so_far.reads p);
           lefts = AreMultipliers-push K (n * n) left so_far.lefts (j, k, x) range.0 range.1.0 elem
-              (nonzero_word b Left j k x p elem line.terms.nonzero)
+              (nonzero_word b Left j k x p elem line.terms.allowed)
               (λ some. goes_up so_far.ends (due b Left j k x p elem) (order b Left j k x p elem) some);
           rights = so_far.rights;
           last = Left;
@@ -273,7 +273,7 @@ module _ (f : SmallField) (n : ℕ) where
               (Reads-append f n old a b (side_lines left right) (multiplier_line Right (j, k, x) ∷ []) so_far.reads p);
           lefts = so_far.lefts;
           rights = AreMultipliers-push K (n * n) right so_far.rights (j, k, x) range.0 range.1.0 elem
-              (nonzero_word b Right j k x p elem line.terms.nonzero)
+              (nonzero_word b Right j k x p elem line.terms.allowed)
               (λ some. goes_up so_far.ends (order b Right j k x p elem) some);
           last = Right;
           j = j;

@@ -16,7 +16,17 @@ use Rattle.spl_fraction.specs.FractionsOver.{fractions_over, fractions_laws}
 use Rattle.spl_fraction.specs.CanonicalText.{canonical_text}
 use Rattle.spl_fraction.specs.CanonicalWords.{words_of, numbers_of}
 use Rattle.spl_fraction.proofs.CanonicalTexts.{text_words, is_fraction_text, canonical_unique, numbers_over}
+use Rattle.spl_evidence.specs.Evidence.{IsMonicOfPositiveDegree}
 use Rattle.spl_evidence.specs.Refusal.{IsCanonical, zero_text}
+
+-- the numbers of a polynomial that isn't 0 are its coefficients
+pub monic_numbers : (c : List ℕ) → IsMonicOfPositiveDegree c → IsMonicOfPositiveDegree (numbers_of c)
+monic_numbers [] is = absurd (omega (arith, is.positive))
+monic_numbers (c ∷ cs) is = is
+
+pub numbers_monic : (c : List ℕ) → IsMonicOfPositiveDegree (numbers_of c) → IsMonicOfPositiveDegree c
+numbers_monic [] is = absurd (omega (arith, is.positive))
+numbers_monic (c ∷ cs) is = is
 
 module _ (f : SmallField) where
   abbrev K : Ops (Pair ℕ)

@@ -44,11 +44,12 @@ module _ (f : SmallField) where
             numbers = (number f n few (count + 1) (omega arith), tt);
             fraction_count = length-words f entries ∙ many;
             fractions = word_forms f entries flat.0;
+            lists = tt;
           };
           due = due_more count (n * n) Map (up_to count (n * n + n * n) UnitTuple (end_at count (n * n + n * n))) below;
           range = record { numbers = ((omega arith, omega arith), tt); elements = word_ranges f entries flat.0 };
           order = refl;
-          terms = record { canonical = word_terms f entries flat.0; nonzero = tt };
+          terms = record { canonical = word_terms f entries flat.0; allowed = tt };
         }
 
     pub maps_whole : (count : ℕ) (last : Word) (j k : ℕ) (xs : List (List (List (Pair ℕ)))) (tail : List Line)
@@ -91,6 +92,7 @@ module _ (f : SmallField) where
             );
             fraction_count = length-words f a ∙ h.right_length;
             fractions = word_forms f a h.of_elements;
+            lists = tt;
           };
           due = due_next count (n * n) Map UnitTuple (up_to count (n * n + n * n) UnitTuple
               (end_at count (n * n + n * n))) (omega arith)
@@ -100,7 +102,7 @@ module _ (f : SmallField) where
             elements = word_ranges f a h.of_elements;
           };
           order = unit_order place;
-          terms = record { canonical = word_terms f a h.of_elements; nonzero = tt };
+          terms = record { canonical = word_terms f a h.of_elements; allowed = tt };
         }
       where
         le_square : (h : ℕ) → h ≤ h * h

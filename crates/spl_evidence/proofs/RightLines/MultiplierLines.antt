@@ -81,13 +81,14 @@ module _ (f : SmallField) where
             numbers = (one_form Left i j x xs h).0;
             fraction_count = refl;
             fractions = (one_form Left i j x xs h).1;
+            lists = tt;
           };
           due = due;
           range = record { numbers = one_range i j x xs h; elements = (words_elements f x elem, tt) };
           order = order;
           terms = record {
             canonical = ((x, elem, refl), tt);
-            nonzero = not_zero_words x elem (h.nonzero 0 (omega arith));
+            allowed = not_zero_words x elem (h.nonzero 0 (omega arith));
           };
         }
 
@@ -102,13 +103,14 @@ module _ (f : SmallField) where
             numbers = (one_form Right i j x xs h).0;
             fraction_count = refl;
             fractions = (one_form Right i j x xs h).1;
+            lists = tt;
           };
           due = due;
           range = record { numbers = one_range i j x xs h; elements = (words_elements f x elem, tt) };
           order = order;
           terms = record {
             canonical = ((x, elem, refl), tt);
-            nonzero = not_zero_words x elem (h.nonzero 0 (omega arith));
+            allowed = not_zero_words x elem (h.nonzero 0 (omega arith));
           };
         }
 

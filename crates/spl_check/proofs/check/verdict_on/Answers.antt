@@ -4,7 +4,7 @@ use Rattle.spl_fraction.specs.FractionsOver.{fractions_over}
 use Rattle.spl_fraction.specs.declared.field.Fractions.{Fractions}
 use Rattle.theory_tables.specs.Claims.{NoIdentityFits}
 use Rattle.spl_table.specs.Table.{fractions_of, degree_of, algebra_of, ops_of}
-use Rattle.spl_evidence.specs.declared.evidence.Evidence.TheVariants.{Triple, NoIdentity, Central, Ideal, Split}
+use Rattle.spl_evidence.specs.declared.evidence.Evidence.TheVariants.{Triple, NoIdentity, Central, Ideal, Split, Ramified}
 use Rattle.spl_evidence.specs.Evidence.{Fits}
 use Rattle.spl_check.proofs.Verdicts.{told}
 use Rattle.spl_check.proofs.check.verdict_on.Goals as goal
@@ -59,3 +59,11 @@ returns-in-Split c =
     (degree_of t) (Split c.as_slice-in-Split.result.now c.as_slice-in-Split-2.result.now) c.args.e.now
     c.check_split.result c.fractions-f.ensures c.algebra-algebra.ensures.algebra c.degree.ensures.degree
     (ap₂ Split c.as_slice-in-Split.ensures c.as_slice-in-Split-2.ensures ∙ sym c.in-Split.is) c.check_split.ensures
+
+pub returns-in-Ramified : goal.returns-in-Ramified
+returns-in-Ramified c =
+    let t = c.args.table.now in
+    let e = c.in-Ramified in
+    told c.fractions-f.result.now (fractions_of t) c.algebra-algebra.result.now (algebra_of t) (degree_of t)
+    (degree_of t) (Ramified e.place e.order e.radical) c.args.e.now c.check_ramified.result c.fractions-f.ensures
+    c.algebra-algebra.ensures.algebra refl (sym e.is) c.check_ramified.ensures

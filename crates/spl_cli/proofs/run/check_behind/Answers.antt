@@ -1,9 +1,10 @@
-use Rattle.std.proofs.Common.{◌∙◌, Err, refl, sym, ap}
-use Rattle.spl_table.specs.Table.{degree_of, algebra_of, ops_of}
+use Rattle.std.proofs.Common.{◌∙◌, Err, refl, ap}
+use Rattle.spl_table.specs.Table.{degree_of, algebra_of, field_of}
 use Rattle.spl_evidence.specs.declared.evidence.Evidence.{Evidence}
 use Rattle.spl_check.specs.declared.verdict.Verdict.TheVariants.{Yes}
 use Rattle.spl_check.proofs.Verdicts.{verdict_claim}
-use Rattle.spl_cli.specs.Report.{evidence_refusal_text, no_text}
+use Rattle.spl_cli.proofs.SameAnswers.{over_of}
+use Rattle.spl_cli.specs.Report.{evidence_refusal_text}
 use Rattle.spl_cli.proofs.Answering.{Answers-check-refused, Answers-yes, Answers-no, evidence_refused}
 use Rattle.spl_cli.proofs.run.check_behind.Goals as goal
 
@@ -25,7 +26,7 @@ returns-in-Ok-Yes g c = λ words form.
     let e : Evidence = w.0 in
     Answers-yes words c.args.input.now _ _ _ form _ c.args.read.now c.requires.within c.requires.front e
     c.behind-text.result.now c.behind-text.ensures text
-    ((verdict_claim (ops_of t) (algebra_of t) (degree_of t) e t.dim text.fits Yes w.2).0 refl) refl
+    ((verdict_claim (field_of t) (algebra_of t) (over_of t) (degree_of t) e t.dim text.fits Yes w.2).0 refl) refl
     c.finish-in-Ok-Yes.ensures
 
 pub returns-in-Ok-No : goal.returns-in-Ok-No

@@ -1,4 +1,4 @@
-use Rattle.std.proofs.Common.{ℕ, List, Some, ◌≡◌, ◌∙◌, sym, ap, subst}
+use Rattle.std.proofs.Common.{ℕ, List, ◌∙◌, sym, subst}
 use Rattle.spl_cli.specs.Finish.{sink_state, Answers}
 use Rattle.spl_cli.proofs.Running.{IsRun-usage, IsRun-answered, limit_of-form}
 use Rattle.spl_cli.proofs.run.run.Goals as goal

@@ -24,8 +24,8 @@ returns-in-Some c =
     (subst₂ (λ (f : Fractions) (A : Structure (Pair ℕ)). IsTraceIdeal (fractions_over (field_of f)) A c.in-Some.tuples)
     c.fractions.ensures c.algebra.ensures.algebra (rw c.in-Some.is at c.in_ok-tuples.ensures))
 
-pub returns-in-None : goal.returns-in-None
-returns-in-None c =
+pub of_no_fault-requires-clause-no_fault : goal.of_no_fault-requires-clause-no_fault
+of_no_fault-requires-clause-no_fault c =
     of_none c.args.table.now c.requires.associative c.requires.centre
     (subst₂ (λ (f : Fractions) (A : Structure (Pair ℕ)). IsNondegenerate
     (fractions_over (field_of f)) A)

@@ -1,4 +1,4 @@
-use Rattle.std.proofs.Common.{◌*◌, [], ◌∷◌, ap, inl, refl}
+use Rattle.std.proofs.Common.{◌*◌, [], ◌∷◌, ap, refl}
 use Rattle.std.proofs.lemmas.Result.{err_from_is_err_and}
 use Rattle.spl_fraction.specs.Fractions.{field_of}
 use Rattle.spl_evidence.specs.Refusal.{due_words}
@@ -7,7 +7,11 @@ use Rattle.spl_evidence.proofs.Readers.Passing.{refused_behind}
 use Rattle.spl_evidence.proofs.body.read_central.Goals as goal
 
 pub read_tuple-requires-clause-due : goal.read_tuple-requires-clause-due
-read_tuple-requires-clause-due c = (Tuple, ap (due_words (c.args.n * c.args.n)) c.requires.stands.is, inl refl)
+read_tuple-requires-clause-due c = (
+  Tuple,
+  ap (due_words (c.args.n * c.args.n)) c.requires.stands.is,
+  record { count = refl; allowed = λ ts. tt },
+)
 
 pub returns-in_err-read_end-clause-fault : goal.returns-in_err-read_end-clause-fault
 returns-in_err-read_end-clause-fault c =

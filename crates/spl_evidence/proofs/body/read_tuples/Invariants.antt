@@ -4,4 +4,4 @@ use Rattle.spl_evidence.proofs.body.read_tuples.Given as goal
 
 -- the tuples so far were read
 abbrev pub invariant-loop : goal.invariant-loop
-invariant-loop l = TuplesRead (field_of l.f) l.n l.fn.reader l.count l.counter l.tuples l.reader
+invariant-loop l = TuplesRead (field_of l.f) l.n l.fn.word l.fn.reader l.counter l.tuples l.reader

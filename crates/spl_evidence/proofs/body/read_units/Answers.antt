@@ -1,4 +1,4 @@
-use Rattle.std.proofs.Common.{◌+◌, ◌*◌, inr, refl, arith}
+use Rattle.std.proofs.Common.{◌+◌, ◌*◌, refl, arith}
 use Rattle.std.proofs.lemmas.Result.{err_from_is_err_and}
 use Rattle.spl_fraction.specs.Fractions.{field_of}
 use Rattle.spl_evidence.specs.Evidence.{unit_lines}
@@ -22,7 +22,7 @@ read_tuple-requires-clause-due c =
       UnitTuple,
       unit_in_split m (m + l.counter) l.reader.before l.invariant.stands (omega arith)
           (omega (arith, c.loop-test.true)),
-      inr refl,
+      record { count = refl; allowed = λ ts. tt },
     )
 
 pub returns-in_err-read_tuple-clause-fault : goal.returns-in_err-read_tuple-clause-fault

@@ -42,7 +42,7 @@ returns-clause-ok c =
         passed f n c.args.reader.now c.in_ok-line.line r.0 c.in_ok-line.after.now read r.2 c.pass.new.self
             c.pass.ensures.rest c.pass.ensures.number c.pass.ensures.before
             (element_terms f l (flat_map (λ row. row) c.in-Some.matrix)
-            (flat_over f n c.in-Some.matrix matrix.0.shape).0 matrix.1 (terms.nonzero l.fractions)),
+            (flat_over f n c.in-Some.matrix matrix.0.shape).0 matrix.1 (terms.allowed l.fractions)),
         matrix.1,
       ),
     )

@@ -6,7 +6,7 @@ use Rattle.spl_evidence.specs.Reading.{Reads}
 use Rattle.spl_evidence.proofs.Readers.Passing.{passed, terms_fault}
 use Rattle.spl_evidence.proofs.Readers.LineTerms.{plain_terms, multiplier_terms}
 use Rattle.spl_evidence.proofs.ReadLines.{not_false}
-use Rattle.spl_evidence.proofs.Readers.LineSteps.{IsSide, side_of, side_fractions, side_nonzero, nonzero_side}
+use Rattle.spl_evidence.proofs.Readers.LineSteps.{IsSide, side_of, side_fractions, side_allowed, allowed_side}
 use Rattle.spl_evidence.proofs.Readers.LineSteps.{end_line_is, multiplier_line_is}
 use Rattle.spl_evidence.proofs.steps.read_side.Goals as goal
 
@@ -23,7 +23,7 @@ returns-in_default-clause-fault c =
     (terms_fault (field_of c.args.f.now) n c.args.reader.now c.in_ok-line.line r.0 c.in_ok-line.after.now read r.2
     c.args.reader.now.number refl
     (λ t. none l.fractions (side_fractions (n * n) l read.form side) read.form.fractions read.words.fractions
-    t.canonical (side_nonzero l.word l.fractions side t.nonzero)))
+    t.canonical (side_allowed l.word l.fractions side t.allowed)))
 
 pub returns-clause-ok : goal.returns-clause-ok
 returns-clause-ok c =
@@ -44,7 +44,7 @@ returns-clause-ok c =
       subst (λ (k : Line). Reads f n c.args.reader.now (k ∷ []) c.pass-2.new.self) is
           (passed f n c.args.reader.now c.in_ok-line.line r.0 c.in_ok-line.after.now read r.2 c.pass-2.new.self
           c.pass-2.ensures.rest c.pass-2.ensures.number c.pass-2.ensures.before
-          (multiplier_terms f l x told.0 told.1 (nonzero_side l.word l.fractions side told.2))),
+          (multiplier_terms f l x told.0 told.1 (allowed_side l.word l.fractions side told.2))),
       told.0,
       subst IsSide (sym read.words.word) side,
     )

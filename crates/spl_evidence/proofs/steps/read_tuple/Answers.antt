@@ -39,7 +39,7 @@ returns-clause-ok c =
         l,
         passed f n c.args.reader.now c.in_ok-line.line r.0 c.in_ok-line.after.now read r.2 c.pass.new.self
             c.pass.ensures.rest c.pass.ensures.number c.pass.ensures.before
-            (element_terms f l c.in-Some.tuple tuple.0.of_elements tuple.1 (terms.nonzero l.fractions)),
+            (element_terms f l c.in-Some.tuple tuple.0.of_elements tuple.1 (terms.allowed l.fractions)),
         tuple.1,
       ),
     )

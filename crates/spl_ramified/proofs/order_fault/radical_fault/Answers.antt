@@ -20,10 +20,8 @@ of-requires c =
 pub returns-in-None : goal.returns-in-None
 returns-in-None c =
     let K = fractions_over (field_of c.args.f.now) in
-    inl (
-      are_dependent K c.args.a.now.dim c.args.radical.now c.requires.radical_count (c.in_ok-of.ensures.none c.in-None.is),
-      refl,
-    )
+    let none = c.in_ok-of.ensures.none c.in-None.is in
+    inl (are_dependent K c.args.a.now.dim c.args.radical.now c.requires.radical_count none, refl)
 
 pub lattice_fault-requires-clause-radical_basis : goal.lattice_fault-requires-clause-radical_basis
 lattice_fault-requires-clause-radical_basis c =
@@ -50,4 +48,5 @@ returns-in_ok-fault-in-Some c =
     first_holds faults.RadicalDependent (AreIndependentTuples (fractions_over F) A.dim rows)
     (lattice_conditions o L A place (tuples_of o L c.args.order.now) rows) fault
     (subst (AreIndependentTuples (fractions_over F) A.dim) is is_basis.independent)
-    (subst (λ z. IsFirstFault (lattice_conditions o L A place (tuples_of o L c.args.order.now) z) fault) is c.in_ok-fault-in-Some.ensures)
+    (subst (λ z. IsFirstFault (lattice_conditions o L A place (tuples_of o L c.args.order.now) z) fault) is
+    c.in_ok-fault-in-Some.ensures)

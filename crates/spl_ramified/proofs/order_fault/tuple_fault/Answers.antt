@@ -20,10 +20,8 @@ of-requires c =
 pub returns-in-None : goal.returns-in-None
 returns-in-None c =
     let K = fractions_over (field_of c.args.f.now) in
-    inl (
-      are_dependent K c.args.a.now.dim c.args.order.now c.requires.order_count (c.in_ok-of.ensures.none c.in-None.is),
-      refl,
-    )
+    let none = c.in_ok-of.ensures.none c.in-None.is in
+    inl (are_dependent K c.args.a.now.dim c.args.order.now c.requires.order_count none, refl)
 
 pub order_fault-requires-clause-basis : goal.order_fault-requires-clause-basis
 order_fault-requires-clause-basis c =
@@ -50,4 +48,5 @@ returns-in_ok-fault-in-Some c =
     first_holds faults.OrderDependent (AreIndependentTuples (fractions_over F) A.dim rows)
     (order_conditions o L A place rows c.args.radical.now) fault
     (subst (AreIndependentTuples (fractions_over F) A.dim) is is_basis.independent)
-    (subst (λ z. IsFirstFault (order_conditions o L A place z c.args.radical.now) fault) is c.in_ok-fault-in-Some.ensures)
+    (subst (λ z. IsFirstFault (order_conditions o L A place z c.args.radical.now) fault) is
+    c.in_ok-fault-in-Some.ensures)
