@@ -1,14 +1,21 @@
 // Calls on the table of a text.
 ghost use Rattle.theory_tables.specs.Structure.{IsAssociative};
 ghost use Rattle.theory_tables.specs.Algebras.{HasIdentity};
+ghost use Rattle.theory_bases.specs.Bases.{IsBasis};
+ghost use Rattle.spl_field.specs.SmallField.{small_ops, small_laws};
+ghost use Rattle.spl_fraction.specs.Fractions.{field_of};
 ghost use Rattle.spl_table.specs.Table.{algebra_of, ops_of};
+ghost use Rattle.spl_engine.specs.Kind.{HasNoFault};
 
 use spl_algebra::identity::One;
 use spl_centre::centre::{centre_fault, identity_or_refutation, trace_ideal};
 use spl_cli::report::refusal_line;
 use spl_engine::decide::decide;
+use spl_engine::everywhere::{Everywhere, settle_everywhere};
 use spl_evidence::evidence::Evidence;
+use spl_fraction::field::Fractions;
 use spl_fraction::place::Place;
+use spl_order::basis::Basis;
 use spl_table::reader::{read_front, read_table};
 use spl_table::refusal::{Refusal, TableFault};
 use spl_table::table::Table;
@@ -137,6 +144,55 @@ fn decision(alloc: Global, table: &Table, out: &mut Vec<u8>) -> Result<(), Fault
     }
 }
 
+/// The n tuples of a basis.
+fn tuples(
+    alloc: Global,
+    k: &Fractions,
+    n: usize,
+    basis: &Basis,
+    out: &mut Vec<u8>,
+) -> Result<(), Fault>
+    requires { IsBasis (small_ops (field_of k.now)) (small_laws (field_of k.now)) n basis.now }
+{
+    let _ = n;
+    let tuples = basis.tuples(alloc, k)?;
+    show::rows(alloc, out, k, tuples.as_slice())
+}
+
+/// Of an algebra without a fault: the first place at which it is ramified, with the numbers of tuples, or `unimodular`
+/// and the tuples of the orders over the polynomials and at infinity.
+fn everywhere(alloc: Global, table: &Table, out: &mut Vec<u8>) -> Result<(), Fault>
+    requires { HasNoFault (ops_of table.now) (algebra_of table.now) }
+{
+    match settle_everywhere(alloc, table)? {
+        Everywhere::Ramified {
+            place,
+            order,
+            radical,
+        } => {
+            ramified(out, &place)?;
+            show::count(out, order.len())?;
+            show::count(out, radical.len())
+        }
+        Everywhere::Unimodular { finite, infinite } => {
+            show::word(out, "unimodular")?;
+            let k = table.fractions();
+            let n = table.algebra().dim();
+            tuples(alloc, k, n, &finite, out)?;
+            tuples(alloc, k, n, &infinite, out)
+        }
+    }
+}
+
+/// `settle_everywhere T`: as `everywhere`, and `fault` where the algebra has one.
+fn settled(alloc: Global, table: &Table, out: &mut Vec<u8>) -> Result<(), Fault> {
+    match decide(alloc, table)? {
+        None => everywhere(alloc, table, out),
+        Some(Evidence::Ramified { .. }) => everywhere(alloc, table, out),
+        Some(_) => show::word(out, "fault"),
+    }
+}
+
 /// The answer of a call on a table.
 fn on_table(alloc: Global, call: &str, table: &Table, out: &mut Vec<u8>) -> Result<(), Fault> {
     match call {
@@ -146,6 +202,7 @@ fn on_table(alloc: Global, call: &str, table: &Table, out: &mut Vec<u8>) -> Resu
         "identity_or_refutation" => identity(alloc, table, out),
         "faults" => faults(alloc, table, out),
         "decide" => decision(alloc, table, out),
+        "settle_everywhere" => settled(alloc, table, out),
         _ => Err(Fault::BadLine),
     }
 }
