@@ -20,6 +20,7 @@ pub mod ListSteps
 pub mod RefinedLists
 pub mod MaximalResidue
 pub mod Ranks
+pub mod Quotients
 pub mod FieldCentres
 pub mod ReducedCentres
 pub mod RankResidue

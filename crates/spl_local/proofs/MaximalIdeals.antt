@@ -8,7 +8,7 @@ use Rattle.theory_rings.specs.Sum.{at, sum_of}
 use Rattle.theory_rings.proofs.Sums.Lists.{length-table, get_or-table, All-table}
 use Rattle.theory_spaces.specs.Tuples.{IsTuple}
 use Rattle.theory_spaces.proofs.Tuples.Tuples.{at-table}
-use Rattle.theory_tables.specs.Matrix.{entry, IsMatrix, image}
+use Rattle.theory_tables.specs.Matrix.{entry, IsMatrix}
 use Rattle.theory_tables.specs.Subspace.{Rows, InSpan}
 use Rattle.theory_tables.specs.Structure.{Structure}
 use Rattle.theory_tables.specs.Quotient.{IsQuotient, QuotientKeeps}
@@ -29,17 +29,7 @@ module _ {E : Type 0} (o : Ops E) (L : FieldLaws o) (A : Structure E) (u : IsUni
   keeps : QuotientKeeps o A radical B project
   keeps = quotient_keeps o L A u.over radical B project lifts q
 
-  -- the quotient is associative with one, and has no nilpotent ideal but 0
-  pub quotient_unital : IsUnital o B
-  quotient_unital = record {
-    over = q.over;
-    associative = keeps.associative u.associative;
-    identity = record {
-      one = image o B.dim A.dim project u.identity.one;
-      is_one = keeps.identity u.identity.one u.identity.is_one;
-    };
-  }
-
+  -- the quotient has no nilpotent ideal but 0
   pub quotient_semisimple : HasNoNilpotentIdeal o B
   quotient_semisimple e e_id rows shape nil = nothing_nilpotent_over_radical o L A u.over u.associative u.identity.one
       u.identity.is_one radical S B project lifts q e e_id rows shape nil

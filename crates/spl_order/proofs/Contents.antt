@@ -4,15 +4,16 @@ use Rattle.std.specs.List.{All}
 use Rattle.std.proofs.Common.{refl, sym, ◌∙◌, ap, subst, arith}
 use Rattle.std.proofs.lemmas.List.Elements.{All-cons, All-tail, All-get_or, All-from_get_or}
 use Rattle.theory_rings.specs.Ops.{Ops, FieldLaws}
-use Rattle.theory_rings.specs.Elements.{Elem}
+use Rattle.theory_rings.specs.Elements.{Elem, Elem-path}
 use Rattle.theory_rings.specs.Sum.{at}
 use Rattle.theory_rings.specs.Polynomial.{IsTrimmed, degree}
 use Rattle.theory_rings.proofs.Rings.Elements.{at-elem}
-use Rattle.theory_fractions.specs.PolynomialLists.{IsOver, IsPolynomialList, IsDivision, Divides}
+use Rattle.theory_rings.proofs.Rings.Fields.{field_mul-ne-zero}
+use Rattle.theory_fractions.specs.PolynomialLists.{IsOver, IsPolynomialList, IsProduct, IsDivision, Divides}
 use Rattle.theory_fractions.specs.Fraction.{Pair}
 use Rattle.theory_fractions.specs.CommonDenominator.{as_fraction}
-use Rattle.theory_fractions.proofs.ElementClauses.{zero_is}
-use Rattle.theory_fractions.proofs.PolynomialFractions.{as_fraction-elem}
+use Rattle.theory_fractions.proofs.ElementClauses.{zero_is, ne_zero}
+use Rattle.theory_fractions.proofs.PolynomialFractions.{as_fraction-elem, as_fraction-mul}
 use Rattle.theory_tables.proofs.Rows.Terms.{zero-mul, mul-zero}
 use Rattle.theory_rows.specs.Rows.{IsPolynomialRow, IsPolynomialMatrix}
 use Rattle.theory_rows.proofs.LiftedRows.{entry-over, entry-trimmed}
@@ -22,6 +23,7 @@ use Rattle.theory_bases.proofs.FractionsOver.{K, M}
 use Rattle.theory_bases.proofs.PolynomialSums.{as_fraction-sum}
 use Rattle.theory_bases.proofs.Denominators.{All-joined, joined-All}
 use Rattle.theory_bases.proofs.PolynomialDivisors.{IsUnitMultiple, unit_multiple_of_scaled, quotient_of_divides}
+use Rattle.theory_bases.proofs.PolynomialDivisors.{fraction_field, up}
 use Rattle.theory_bases.proofs.LeastDenominators.{CombinesTo, combines_of_sum, denominator_by_divisor}
 use Rattle.spl_poly.specs.Operations.{IsMonicOf}
 use Rattle.spl_lattice.specs.Ideal.{IsGenerator}
@@ -51,6 +53,16 @@ module _ {E : Type 0} (o : Ops E) (L : FieldLaws o) where
       → g ≢ []
   right_nonzero c p g hp n e z = n (nil_of_fraction c (e ∙ ap (k.mul (as_fraction o p)) (fraction_nil g z)
       ∙ mul-zero k (M o L) (as_fraction o p) (as_fraction-elem o L p hp)))
+
+  -- a product of others than 0 is not 0
+  pub product_nonzero : (a b c : List E) → Is a → Is b → Is c → IsProduct o a b c → a ≢ [] → b ≢ [] → c ≢ []
+  product_nonzero a b c ha hb hc product na nb z =
+      let F = fraction_field o L in
+      field_mul-ne-zero F (up o L a ha) (up o L b hb)
+      (λ e. ne_zero o L (as_fraction o a) na (ap (λ (t : Elem k). t.0) e))
+      (λ e. ne_zero o L (as_fraction o b) nb (ap (λ (t : Elem k). t.0) e))
+      (Elem-path k (F.◌⊗◌ (up o L a ha) (up o L b hb)) F.zero
+      (sym (as_fraction-mul o L a b c ha hb hc product) ∙ fraction_nil c z))
 
   -- a polynomial divided by its leading coefficient
   monic_multiple : (q e : List E) → Is q → Is e → IsMonicOf o q e → IsUnitMultiple o L q e

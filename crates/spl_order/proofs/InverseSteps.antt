@@ -5,13 +5,12 @@ use Rattle.std.proofs.Common.{refl, sym, ◌∙◌, ap, subst, arith, length-app
 use Rattle.std.proofs.lemmas.List.Elements.{All-nil, All-cons, All-append}
 use Rattle.theory_rings.specs.Ring.{FieldOn}
 use Rattle.theory_rings.specs.Ops.{Ops, IsElem, FieldLaws}
-use Rattle.theory_rings.specs.Elements.{Elem, Elem-path}
-use Rattle.theory_rings.proofs.Rings.Fields.{field_mul-ne-zero}
+use Rattle.theory_rings.specs.Elements.{Elem}
 use Rattle.theory_rings.proofs.Sums.Lists.{get_or-table}
 use Rattle.theory_fractions.specs.PolynomialLists.{IsProduct, IsPolynomialList}
 use Rattle.theory_fractions.specs.Fraction.{Pair}
 use Rattle.theory_fractions.specs.CommonDenominator.{as_fraction}
-use Rattle.theory_fractions.proofs.ElementClauses.{zero_is, ne_zero}
+use Rattle.theory_fractions.proofs.ElementClauses.{zero_is}
 use Rattle.theory_fractions.proofs.PolynomialFractions.{as_fraction-elem, as_fraction-mul}
 use Rattle.theory_tables.proofs.Rows.Terms.{mul-zero}
 use Rattle.theory_tables.specs.Matrix.{width_of}
@@ -51,13 +50,6 @@ module _ {E : Type 0} (o : Ops E) (L : FieldLaws o) (n : ℕ) (basis : List (Lis
     zero_product = product_of_fractions o L s [] [] hs nil-is nil-is
         (sym (zero_is o L) ∙ sym (mul-zero k (M o L) (as_fraction o s) (as_fraction-elem o L s hs))
         ∙ ap (k.mul (as_fraction o s)) (zero_is o L))
-
-    pub product_nonzero : d ≢ [] → s ≢ [] → r ≢ []
-    product_nonzero nd ns z = field_mul-ne-zero F (up o L d hd) (up o L s hs)
-        (λ e. ne_zero o L (as_fraction o d) nd (ap (λ (t : Elem k). t.0) e))
-        (λ e. ne_zero o L (as_fraction o s) ns (ap (λ (t : Elem k). t.0) e))
-        (Elem-path k (F.◌⊗◌ (up o L d hd) (up o L s hs)) F.zero
-        (sym value ∙ ap (as_fraction o) z ∙ sym (zero_is o L)))
 
     unit_multiple : (j : ℕ) → IsMultipleOf o L n basis hb s (scaled_unit d n j) (scaled_unit r n j)
     unit_multiple j t t_in =

@@ -23,7 +23,11 @@ pub mod BlockProducts
 pub mod ProductEntries
 pub mod ProductItems
 pub mod ProductRows
+pub mod Shifts
+pub mod RemainderLists
+pub mod PlaceResidues
 pub mod ResidueTables
+pub mod CoordinateRemainders
 pub mod IdealPreimages
 pub mod LiftedIdeals
 pub mod FieldResidues

@@ -21,8 +21,9 @@ use Rattle.theory_bases.specs.TupleLattices.{TupleLattice, AreIndependentTuples,
 use Rattle.theory_bases.specs.Bases.{fraction_over}
 use Rattle.theory_left_orders.specs.FractionResidues.{ResidueRingsBy}
 use Rattle.theory_left_orders.proofs.FractionResidues.{residue_rings}
-use Rattle.spl_order.specs.Coordinates.{AreCoordinatesOver}
+use Rattle.spl_order.specs.Coordinates.{AreCoordinatesOver, AreCoordinatesAt}
 use Rattle.spl_order.specs.Residues.{AreProductResidues, AreResiduesOver}
+use Rattle.spl_order.proofs.PlaceResidues.{integral_of_congruent, residue_of_congruent}
 use Rattle.spl_order.proofs.ProductCoordinates.{products_inside, coordinates_allowed, laws_of_residues}
 
 -- a number below n³ by its three digits to the base n
@@ -84,7 +85,7 @@ module _ {E : Type 0} (o : Ops E) (L : FieldLaws o) (m : List E) where
     }
 
   module _ (s : IsMonicIrreducible o m) (A : Structure (Pair E)) (tuples : List (List (Pair E))) (scale : List E)
-      (items : List (List E)) (C : AreCoordinatesOver o L A tuples scale items) where
+      (items : List (List E)) (C : AreCoordinatesAt o L m A tuples scale items) where
     abbrev k : Ops (Pair E)
     k = fraction_ops o L
 
@@ -94,39 +95,55 @@ module _ {E : Type 0} (o : Ops E) (L : FieldLaws o) (m : List E) where
     abbrev n : ℕ
     n = A.dim
 
+    abbrev X : AreCoordinatesOver o L A tuples scale C.exact
+    X = C.coordinates
+
     abbrev coordinate : ℕ → ℕ → ℕ → Pair E
-    coordinate i j l = fraction_over o L scale (get_or items ((i * n + j) * n + l) [])
+    coordinate i j l = fraction_over o L scale (get_or C.exact ((i * n + j) * n + l) [])
 
-    -- the coordinates are integral where the products of the tuples are in their lattice
-    pub integral_items : AreIndependentTuples k n tuples
-        → ((i j : ℕ) → i < n → j < n
-        → TupleLattice k (IsIntegralAt o (Finite m)) n tuples (product_of k A (get_or tuples i []) (get_or tuples j [])))
-        → (p : ℕ) → p < n * n * n → IsIntegralAt o (Finite m) (fraction_over o L scale (get_or items p []))
-    integral_items independent inside p l =
-        let N = remainder_laws o L m s.irreducible in
-        let r = remainder_ops o L m (monic o L m s.irreducible) in
-        let R : ResidueRingsBy o L laws m r N = residue_rings o L laws m s N in
-        subst (λ q. IsIntegralAt o (Finite m) (fraction_over o L scale (get_or items q []))) (by_digits n p l)
-        (coordinates_allowed k laws (IsIntegralAt o (Finite m)) R.p (let F = fractions o L laws in F.inv R.p) r N
-        R.at_place A tuples independent inside coordinate C.coordinates (first_digit n p l)
-        (second_digit n p l) (third_digit n p l) (first_in n p l) (second_in n p l) (third_in n p l))
+    module _ (independent : AreIndependentTuples k n tuples)
+        (inside : (i j : ℕ) → i < n → j < n
+        → TupleLattice k (IsIntegralAt o (Finite m)) n tuples (product_of k A (get_or tuples i []) (get_or tuples j []))) where
+      -- the coordinates are integral where the products of the tuples are in their lattice
+      coordinates_integral : (p : ℕ) → p < n * n * n
+          → IsIntegralAt o (Finite m) (fraction_over o L scale (get_or C.exact p []))
+      coordinates_integral p l =
+          let N = remainder_laws o L m s.irreducible in
+          let r = remainder_ops o L m (monic o L m s.irreducible) in
+          let R : ResidueRingsBy o L laws m r N = residue_rings o L laws m s N in
+          subst (λ q. IsIntegralAt o (Finite m) (fraction_over o L scale (get_or C.exact q []))) (by_digits n p l)
+          (coordinates_allowed k laws (IsIntegralAt o (Finite m)) R.p (let F = fractions o L laws in F.inv R.p) r N
+          R.at_place A tuples independent inside coordinate X.coordinates (first_digit n p l)
+          (second_digit n p l) (third_digit n p l) (first_in n p l) (second_in n p l) (third_in n p l))
 
-    -- and their residues are those of the products
-    pub product_residues : (r : Ops (List E)) (residues : List (List E))
-        → AreResiduesOver o L m r scale items (n * n * n) residues → AreProductResidues o L m r A tuples residues
-    product_residues r residues H = record {
-      shape = record {
-        right_length = H.count;
-        of_elements = All-from_get_or (IsElem r) residues [] (λ p l. H.elements p (omega (arith, l, H.count)));
-      };
-      coordinate = coordinate;
-      coordinates = C.coordinates;
-      residues = λ i j l i_in j_in l_in.
-          let p = (i * n + j) * n + l in
-          let p_in : p < n * n * n = pair-lt (n * n) n (i * n + j) l (pair-lt n n i j i_in j_in) l_in in
-          subst (IsResidueOf o m r (coordinate i j l))
-          (get_or_default residues p [] r.zero (omega (arith, p_in, H.count))) (H.values p p_in);
-    }
+      -- and so is what is congruent to them
+      pub integral_items : (p : ℕ) → p < n * n * n
+          → IsIntegralAt o (Finite m) (fraction_over o L scale (get_or items p []))
+      integral_items p l = integral_of_congruent o L m s scale X.polynomial X.nonzero (get_or items p [])
+          (get_or C.exact p []) (C.polynomials p l) (X.polynomials p l) (C.congruent p l) (coordinates_integral p l)
+
+      -- whose residues are those of the products
+      pub product_residues : (r : Ops (List E)) → remainder_ops o L m (monic o L m s.irreducible) ≡ r
+          → (residues : List (List E))
+          → AreResiduesOver o L m r scale items (n * n * n) residues → AreProductResidues o L m r A tuples residues
+      product_residues r e residues H = record {
+        shape = record {
+          right_length = H.count;
+          of_elements = All-from_get_or (IsElem r) residues [] (λ p l. H.elements p (omega (arith, l, H.count)));
+        };
+        coordinate = coordinate;
+        coordinates = X.coordinates;
+        residues = λ i j l i_in j_in l_in.
+            let p = (i * n + j) * n + l in
+            let p_in : p < n * n * n = pair-lt (n * n) n (i * n + j) l (pair-lt n n i j i_in j_in) l_in in
+            let z = get_or residues p [] in
+            subst (IsResidueOf o m r (coordinate i j l))
+            (get_or_default residues p [] r.zero (omega (arith, p_in, H.count)))
+            (subst (λ r. IsResidueOf o m r (coordinate i j l) z) e
+            (residue_of_congruent o L m s scale X.polynomial X.nonzero (get_or items p []) (get_or C.exact p [])
+            (C.polynomials p p_in) (X.polynomials p p_in) (C.congruent p p_in) (coordinates_integral p p_in) z
+            (subst (λ r. IsResidueOf o m r (fraction_over o L scale (get_or items p [])) z) (sym e) (H.values p p_in))));
+      }
 
   -- an order holds the products of its tuples
   pub order_products : (s : IsMonicIrreducible o m) (A : Structure (Pair E)) (tuples : List (List (Pair E)))

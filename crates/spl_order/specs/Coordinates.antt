@@ -1,15 +1,25 @@
 -- The coordinates of the products of a basis of tuples in this basis, as polynomials over one denominator.
 use Rattle.std.specs.Prelude.{◌≡◌, ◌<◌, ◌+◌, ◌*◌, ◌/◌, ◌%◌, ℕ, List, [], length, get_or, map, take, drop}
-use Rattle.theory_rings.specs.Ops.{Ops, FieldLaws}
-use Rattle.theory_rings.specs.Sum.{sum_of}
+use Rattle.theory_rings.specs.Ops.{Ops, IsElem, FieldLaws}
+use Rattle.theory_rings.specs.Sum.{at, sum_of}
 use Rattle.theory_tables.specs.Structure.{Structure, product_of}
 use Rattle.theory_fractions.specs.PolynomialLists.{IsPolynomialList}
 use Rattle.theory_fractions.specs.Fraction.{Pair}
 use Rattle.theory_fractions.specs.FractionOps.{fraction_ops}
 use Rattle.theory_fractions.specs.CommonDenominator.{as_fraction}
+use Rattle.theory_remainders.specs.RemainderLaws.{IsRemainder, IsRemainderOf}
+use Rattle.theory_places.specs.Places.{Finite}
+use Rattle.theory_places.specs.FractionPlaces.{IsIntegralAt}
 use Rattle.theory_bases.specs.Bases.{fraction_over}
 use Rattle.theory_left_orders.specs.TupleResidues.{AreProductCoordinates}
 use Rattle.spl_numerators.specs.Sums.{fraction_at, sum_of_products}
+
+module _ {E : Type 0} (o : Ops E) where
+  -- the remainders by m of the first n polynomials of a list
+  pub record AreRemainders (m : List E) (items : List (List E)) (n : ℕ) (remainders : List (List E)) : Type 0 where
+    pub count : length remainders ≡ n
+    pub small : (p : ℕ) → p < n → IsRemainder o m (get_or remainders p [])
+    pub values : (p : ℕ) → p < n → IsRemainderOf o (at o (get_or items p [])) m (get_or remainders p [])
 
 -- the row i, where n items stand in each row of a list
 abbrev pub row_at : {X : Type 0} → ℕ → List X → ℕ → List X
@@ -60,6 +70,24 @@ module _ {E : Type 0} (o : Ops E) (L : FieldLaws o) where
     pub polynomials : (p : ℕ) → p < A.dim * A.dim * A.dim → IsPolynomialList o (get_or items p [])
     pub coordinates : AreProductCoordinates (fraction_ops o L) A tuples
         (λ i j l. fraction_over o L scale (get_or items ((i * A.dim + j) * A.dim + l) []))
+
+  -- t/d is s/d and a multiple of m by what is integral at m
+  pub record AreCongruentOver (m d s t : List E) : Type 0 where
+    pub quotient : Pair E
+    pub elem : IsElem (fraction_ops o L) quotient
+    pub integral : IsIntegralAt o (Finite m) quotient
+    pub value : (let K : Ops (Pair E) = fraction_ops o L in
+        fraction_over o L d t ≡ K.add (fraction_over o L d s) (K.mul (as_fraction o m) quotient))
+
+  -- the polynomials over scale, which is not 0, are congruent at m to the coordinates of the products of the tuples
+  pub record AreCoordinatesAt (m : List E) (A : Structure (Pair E)) (tuples : List (List (Pair E))) (scale : List E)
+      (items : List (List E)) : Type 0 where
+    pub exact : List (List E)
+    pub coordinates : AreCoordinatesOver A tuples scale exact
+    pub count : length items ≡ A.dim * A.dim * A.dim
+    pub polynomials : (p : ℕ) → p < A.dim * A.dim * A.dim → IsPolynomialList o (get_or items p [])
+    pub congruent : (p : ℕ) → p < A.dim * A.dim * A.dim
+        → AreCongruentOver m scale (get_or items p []) (get_or exact p [])
 
   -- the tuple of the row i over scale
   abbrev pub tuple_at : List E → ℕ → List (List E) → ℕ → List (Pair E)

@@ -1,5 +1,6 @@
--- Coordinates, in a basis of tuples, of rows of polynomials over a denominator, and tests of them by a divisor.
-use Rattle.std.specs.Prelude.{◌≡◌, ◌<◌, ℕ, List, [], length, get_or, map}
+-- Coordinates, in a basis of tuples, of rows of polynomials over a denominator, the part of a denominator at a place, and
+-- tests by a divisor.
+use Rattle.std.specs.Prelude.{◌≡◌, ◌≢◌, ◌↔◌, ◌<◌, ℕ, List, [], length, get_or, map}
 use Rattle.theory_rings.specs.Ops.{Ops, FieldLaws}
 use Rattle.theory_rings.specs.Sum.{at, sum_of}
 use Rattle.theory_tables.specs.Matrix.{entry}
@@ -7,11 +8,20 @@ use Rattle.theory_fractions.specs.PolynomialLists.{IsPolynomialList, Divides}
 use Rattle.theory_fractions.specs.Fraction.{Pair}
 use Rattle.theory_fractions.specs.FractionOps.{fraction_ops}
 use Rattle.theory_fractions.specs.CommonDenominator.{as_fraction}
+use Rattle.theory_places.specs.Places.{Finite}
+use Rattle.theory_places.specs.FractionPlaces.{IsIntegralAt}
 use Rattle.theory_rows.specs.Rows.{IsPolynomialRow, IsPolynomialMatrix}
 use Rattle.theory_bases.specs.Bases.{fraction_over}
 use Rattle.spl_order.specs.Values.{HasRow, fraction_entry}
 
 module _ {E : Type 0} (o : Ops E) (L : FieldLaws o) where
+  -- p divides exactly the numerators of those fractions over s that are integral at m
+  pub record IsPartAt (m s p : List E) : Type 0 where
+    pub polynomial : IsPolynomialList o p
+    pub nonzero : p ≢ []
+    pub tells : (u : List E) → IsPolynomialList o u
+        → Divides o p u ↔ IsIntegralAt o (Finite m) (fraction_over o L s u)
+
   -- the items of the product of a row and a matrix
   abbrev pub row_product : (row : List (List E)) → (columns : List (List (List E))) → ℕ → Pair E
   row_product row columns j =

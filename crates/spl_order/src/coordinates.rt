@@ -6,15 +6,18 @@ ghost use Rattle.theory_fractions.specs.CommonDenominator.{as_fraction};
 ghost use Rattle.theory_rows.specs.Rows.{IsPolynomialMatrix};
 ghost use Rattle.spl_fraction.specs.FractionsOver.{fractions_over};
 ghost use Rattle.theory_tables.specs.Structure.{IsOver};
+ghost use Rattle.theory_places.specs.FractionPlaces.{IsMonicIrreducible};
 ghost use Rattle.theory_bases.specs.Bases.{IsBasis, tuples_of};
 ghost use Rattle.spl_numerators.specs.Numerators.{AreNumerators};
 ghost use Rattle.spl_order.specs.Values.{HasRow, fraction_entry};
 ghost use Rattle.spl_order.specs.Coordinates.{block_item, AreRowProducts, AreProductsOver};
-ghost use Rattle.spl_order.specs.Coordinates.{AreScaledCoordinates, AreCoordinatesOver};
+ghost use Rattle.spl_order.specs.Coordinates.{AreScaledCoordinates, AreCoordinatesAt};
 
 use crate::basis::Basis;
 use crate::inverse::inverse_rows;
 use crate::matrices::entry;
+use crate::place_parts::place_part;
+use crate::remainders::remainders;
 use spl_algebra::algebra::Algebra;
 use spl_field::field::NoMemory;
 use spl_field::small::SmallField;
@@ -165,19 +168,22 @@ fn scaled_coordinates(
     Ok(items)
 }
 
-/// The coordinates, where the constants are those polynomials over one denominator.
+/// The coordinates at a place, where the constants are those polynomials over one denominator. They are computed modulo a
+/// power of the place's polynomial m: that of the denominator of the coordinates, and one more.
 pub(crate) fn product_coordinates(
     alloc: Global,
     f: &SmallField,
     a: &Algebra<Fractions>,
     numerators: &Numerators,
     order: &Basis,
+    m: &Poly,
 ) -> Result<Coordinates, NoMemory>
     requires over { IsOver (fractions_over f.now) a.now }
     requires numerators { AreNumerators (small_ops f.now) (small_laws f.now) numerators.now.denominator a.now
         numerators.now.entries }
     requires order { IsBasis (small_ops f.now) (small_laws f.now) a.now.dim order.now }
-    ensures { IfOk result (λ r. AreCoordinatesOver (small_ops f.now) (small_laws f.now) a.now
+    requires place { IsMonicIrreducible (small_ops f.now) m.now }
+    ensures { IfOk result (λ r. AreCoordinatesAt (small_ops f.now) (small_laws f.now) m.now a.now
         (tuples_of (small_ops f.now) (small_laws f.now) order.now) r.scale r.items) }
 {
     let _ = a.constants();
@@ -185,15 +191,20 @@ pub(crate) fn product_coordinates(
     let inverse = inverse_rows(alloc, f, order.numerators())?;
     let denominator = numerators.denominator.mul(alloc, f, order.denominator())?;
     let scale = denominator.mul(alloc, f, &inverse.scale)?;
-    let rows = flat(alloc, f, order.numerators().as_slice(), n)?;
-    let columns = flat(alloc, f, inverse.rows.as_slice(), n)?;
+    let part = place_part(alloc, f, m, &scale)?;
+    let modulus = part.mul(alloc, f, m)?;
+    let flat_rows = flat(alloc, f, order.numerators().as_slice(), n)?;
+    let flat_columns = flat(alloc, f, inverse.rows.as_slice(), n)?;
+    let rows = remainders(alloc, f, &modulus, flat_rows.as_slice())?;
+    let columns = remainders(alloc, f, &modulus, flat_columns.as_slice())?;
+    let constants = remainders(alloc, f, &modulus, numerators.entries.as_slice())?;
     let items = scaled_coordinates(
         alloc,
         f,
         n,
         rows.as_slice(),
         columns.as_slice(),
-        numerators.entries.as_slice(),
+        constants.as_slice(),
     )?;
     Ok(Coordinates { scale, items })
 }

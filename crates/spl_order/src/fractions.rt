@@ -15,12 +15,7 @@ use spl_poly::poly::Poly;
 use std::alloc::Global;
 
 /// The fraction num / den.
-pub(crate) fn fraction(
-    alloc: Global,
-    f: &Fractions,
-    num: &Poly,
-    den: &Poly,
-) -> Result<Fraction, NoMemory>
+fn fraction(alloc: Global, f: &Fractions, num: &Poly, den: &Poly) -> Result<Fraction, NoMemory>
     requires num { IsPolynomialList (small_ops (field_of f.now)) num.now }
     requires den { IsPolynomialList (small_ops (field_of f.now)) den.now }
     requires nonzero { den.now ≢ [] }

@@ -38,6 +38,7 @@ fn residue_rows(
     n: usize,
 ) -> Result<Vec<Vector<ResidueField>>, NoMemory>
     requires field { small_ops (residue_field_of k.now) ≡ small_ops (field_of f.now) }
+    requires place { IsMonicIrreducible (small_ops (field_of f.now)) (polynomial_of k.now) }
     requires d { IsPolynomialList (small_ops (field_of f.now)) d.now }
     requires nonzero { d.now ≢ [] }
     requires rows { IsPolynomialMatrix (small_ops (field_of f.now)) n rows.now }

@@ -27,6 +27,7 @@ mod place_parts;
 pub mod powers;
 mod product_matrices;
 pub mod reduction;
+mod remainders;
 pub mod residue_algebra;
 pub mod start;
 pub mod swap;

@@ -2,9 +2,8 @@
 ghost use Rattle.std.specs.Prelude.{◌≡◌, ◌≢◌, ◌<◌, ◌↔◌, ℕ, List, [], length, get_or, IfOk, IfSome, None, IsTrue};
 ghost use Rattle.spl_field.specs.SmallField.{small_ops, small_laws};
 ghost use Rattle.theory_fractions.specs.PolynomialLists.{IsPolynomialList, IsProduct, Divides};
-ghost use Rattle.theory_places.specs.Places.{Finite};
-ghost use Rattle.theory_places.specs.FractionPlaces.{IsIntegralAt, IsMonicIrreducible};
-ghost use Rattle.theory_bases.specs.Bases.{fraction_over};
+ghost use Rattle.theory_places.specs.FractionPlaces.{IsMonicIrreducible};
+ghost use Rattle.spl_order.specs.Members.{IsPartAt};
 
 use spl_field::field::NoMemory;
 use spl_field::small::SmallField;
@@ -59,11 +58,7 @@ pub(crate) fn place_part(
     requires m { IsMonicIrreducible (small_ops f.now) m.now }
     requires s { IsPolynomialList (small_ops f.now) s.now }
     requires nonzero { s.now ≢ [] }
-    ensures polynomial { IfOk result (IsPolynomialList (small_ops f.now)) }
-    ensures nonzero { IfOk result (λ p. p ≢ []) }
-    ensures tells { IfOk result (λ p. (u : List ℕ) → IsPolynomialList (small_ops f.now) u
-        → Divides (small_ops f.now) p u ↔ IsIntegralAt (small_ops f.now) (Finite m.now)
-        (fraction_over (small_ops f.now) (small_laws f.now) s.now u)) }
+    ensures { IfOk result (IsPartAt (small_ops f.now) (small_laws f.now) m.now s.now) }
 {
     let mut part = Poly::from_slice(alloc, &[1])?;
     'steps: while let Some(next) = next_part(alloc, f, m, s, &part)? {

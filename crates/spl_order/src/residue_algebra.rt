@@ -15,10 +15,9 @@ ghost use Rattle.spl_order.specs.Residues.{AreProductResidues, AreResiduesOver, 
 
 use crate::basis::Basis;
 use crate::coordinates::product_coordinates;
-use crate::fractions::fraction;
-use crate::reduction::reduce;
+use crate::place_parts::place_part;
 use spl_algebra::algebra::Algebra;
-use spl_field::field::NoMemory;
+use spl_field::field::{Field, NoMemory};
 use spl_field::list::{List, Vector};
 use spl_fraction::field::Fractions;
 use spl_numerators::numerators::numerators_of;
@@ -26,7 +25,8 @@ use spl_poly::poly::Poly;
 use spl_residue::field::ResidueField;
 use std::alloc::Global;
 
-/// The residues of the polynomials over the denominator, which are integral.
+/// The residues of the polynomials over the denominator, which are integral: the part of the denominator at the place
+/// divides each, and what it leaves of the denominator is a unit there.
 pub(crate) fn residues_over(
     alloc: Global,
     f: &Fractions,
@@ -35,6 +35,7 @@ pub(crate) fn residues_over(
     items: &[Poly],
 ) -> Result<Vector<ResidueField>, NoMemory>
     requires field { small_ops (residue_field_of k.now) ≡ small_ops (field_of f.now) }
+    requires place { IsMonicIrreducible (small_ops (field_of f.now)) (polynomial_of k.now) }
     requires d { IsPolynomialList (small_ops (field_of f.now)) d.now }
     requires nonzero { d.now ≢ [] }
     requires items { (p : ℕ) → p < length items.now
@@ -45,10 +46,15 @@ pub(crate) fn residues_over(
     ensures { IfOk result (AreResiduesOver (small_ops (field_of f.now)) (small_laws (field_of f.now))
         (polynomial_of k.now) (residue_ops k.now) d.now items.now (length items.now)) }
 {
+    let part = place_part(alloc, f.field(), k.modulus(), d)?;
+    let unit = d.divide(alloc, f.field(), &part)?.quotient;
+    let lower = k.reduce_poly(alloc, &unit)?;
+    let inverse = k.inv(alloc, &lower)?.unwrap();
     let mut residues = List::new(alloc);
     for p in 0..items.len() {
-        let quotient = fraction(alloc, f, &items[p], d)?;
-        residues.push(reduce(alloc, f, k, &quotient)?)?;
+        let quotient = items[p].divide(alloc, f.field(), &part)?.quotient;
+        let upper = k.reduce_poly(alloc, &quotient)?;
+        residues.push(k.mul(alloc, &upper, &inverse)?)?;
     }
     Ok(residues)
 }
@@ -78,7 +84,7 @@ pub(crate) fn residue_constants(
         (tuples_of (small_ops (field_of f.now)) (small_laws (field_of f.now)) order.now)) }
 {
     let numerators = numerators_of(alloc, f, a)?;
-    let found = product_coordinates(alloc, f.field(), a, &numerators, order)?;
+    let found = product_coordinates(alloc, f.field(), a, &numerators, order, k.modulus())?;
     let constants = residues_over(alloc, f, k, &found.scale, found.items.as_slice())?;
     Ok(constants)
 }

@@ -4,12 +4,10 @@ use Rattle.std.specs.Prelude.{◌↔◌, ◌<◌, ◌≤◌, List, length}
 use Rattle.std.proofs.Common.{⊎_elim, arith}
 use Rattle.std.proofs.lemmas.Bool.{cases_lt}
 use Rattle.theory_rings.specs.Ops.{Ops, FieldLaws}
-use Rattle.theory_tables.specs.Matrix.{image}
 use Rattle.theory_tables.specs.Subspace.{IsReducedBasis}
 use Rattle.theory_tables.specs.Structure.{Structure}
 use Rattle.theory_tables.specs.Algebras.{SpansIdeal, SpansAll}
 use Rattle.theory_tables.specs.Quotient.{IsQuotient}
-use Rattle.theory_tables.proofs.Algebras.Quotients.{quotient_keeps}
 use Rattle.theory_growth.proofs.Quotients.{ideals_by_quotients}
 use Rattle.spl_blocks.specs.Blocks.{IsUnital, IsSimple, SpansMaximalIdeal}
 use Rattle.spl_blocks.proofs.SplitLists.{spans_all, all_spanned, maximal_proper}
@@ -25,21 +23,7 @@ module _ {E : Type 0} (o : Ops E) (L : FieldLaws o) (A : Structure E) (u : IsUni
   proper l h = let g = all_spanned o L A u rows I.shape h in omega (arith, l, g)
 
   module _ (B : Structure E) (project lifts : List (List E)) (q : IsQuotient o A rows B project lifts) where
-    -- the quotient is an associative algebra with identity
-    pub quotient_unital : IsUnital o B
-    quotient_unital =
-        let keeps = quotient_keeps o L A u.over rows B project lifts q in
-        let one = u.identity in
-        record {
-          over = q.over;
-          associative = keeps.associative u.associative;
-          identity = record {
-            one = image o B.dim A.dim project one.one;
-            is_one = keeps.identity one.one one.is_one;
-          };
-        }
-
-    -- and it is not 0
+    -- the quotient is not 0
     quotient_positive : length rows < A.dim → 1 ≤ B.dim
     quotient_positive l = ⊎_elim
         (λ (none : B.dim < 1). absurd (proper l (λ v t. (q.kernel v t).1

@@ -1,29 +1,28 @@
 -- The polynomials among the fractions, and what is integral at a finite place: the second is carried into the first by
 -- denominators, and the residues are the same. A number that is 0 among the coefficients is 0 among the fractions.
-use Rattle.std.specs.Prelude.{◌≡◌, ◌≢◌, ◌<◌, ◌≤◌, ℕ, zero, suc, List, []}
+use Rattle.std.specs.Prelude.{◌≡◌, ◌≢◌, ◌≤◌, ℕ, zero, suc, List, []}
 use Rattle.std.proofs.Common.{refl, sym, ◌∙◌, ap, ap₂, subst, arith, ⊎_elim}
-use Rattle.std.proofs.lemmas.Bool.{cases_lt}
 use Rattle.theory_rings.specs.Ring.{FieldOn, CommRingOn}
 use Rattle.theory_rings.specs.Ops.{Ops, FieldLaws}
 use Rattle.theory_rings.specs.Elements.{Elem, Elem-path, elements}
 use Rattle.theory_rings.specs.Power.{power, times, times_of}
 use Rattle.theory_rings.specs.Homomorphism.{IsRingHom}
-use Rattle.theory_rings.specs.Polynomial.{Poly, IsMonic, degree, lead}
-use Rattle.theory_rings.specs.Division.{Divides, IsIrreducible}
+use Rattle.theory_rings.specs.Polynomial.{Poly, degree}
+use Rattle.theory_rings.specs.Division.{Divides}
 use Rattle.theory_rings.specs.Fraction.{IsLowest}
-use Rattle.theory_rings.proofs.Rings.RingLaws.{zero-mul, left_ne_zero_of_mul, right_ne_zero_of_mul}
+use Rattle.theory_rings.proofs.Rings.RingLaws.{zero-mul, left_ne_zero_of_mul}
 use Rattle.theory_rings.proofs.Rings.Elements.{times_of-elements}
 use Rattle.theory_rings.proofs.Rings.Fields.{mul_left_cancel, mul-inv}
 use Rattle.theory_rings.proofs.Rings.Homomorphisms.{map-zero}
 use Rattle.theory_rings.proofs.Powers.Times.{map-times}
 use Rattle.theory_rings.proofs.Polynomials.PolynomialRing.{constant}
 use Rattle.theory_rings.proofs.Polynomials.Constants.{constant-zero, constant-one, constant_hom}
-use Rattle.theory_rings.proofs.Polynomials.Bezout.{field_polynomials, field_degree-mul, degree_zero_inverse}
+use Rattle.theory_rings.proofs.Polynomials.Bezout.{field_polynomials, field_degree-mul}
 use Rattle.theory_rings.proofs.Polynomials.Irreducible.{irreducible-ne-zero, divides_or, degree_le_of_divides}
 use Rattle.theory_rings.proofs.Rings.Solver.{◌⊠◌, ring3, ring4}
 use Rattle.theory_rings.proofs.Polynomials.ElementLists.{values}
 use Rattle.theory_rings.proofs.Fractions.Fractions.{fraction_of_value, value_same}
-use Rattle.theory_rings.proofs.Fractions.Lowest.{monic_eq_of_divides, polynomial_reduction, rational_functions}
+use Rattle.theory_rings.proofs.Fractions.Lowest.{polynomial_reduction, rational_functions}
 use Rattle.theory_rings.proofs.Fractions.Lowest.{is_rational_functions}
 use Rattle.theory_spaces.specs.Lattice.{IsSubring}
 use Rattle.theory_lattices.specs.RationalFunctions.{Rational, of_polynomial}
@@ -35,6 +34,7 @@ use Rattle.theory_fractions.specs.CommonDenominator.{as_fraction}
 use Rattle.theory_fractions.proofs.ListPolynomials.{degree-polynomial_of, IsPolynomialList-values, values_back}
 use Rattle.theory_fractions.proofs.RationalFractions.{fractions_are_rational}
 use Rattle.theory_fractions.proofs.FractionField.{rational_function_injective, polynomial_of-values, polynomial_of-nil}
+use Rattle.theory_factors.proofs.Unique.{same_of_divides}
 use Rattle.theory_remainders.specs.RemainderOps.{remainder_ops}
 use Rattle.theory_remainders.proofs.RemainderField.{is_remainder-nil, monic}
 use Rattle.theory_places.specs.Places.{Finite}
@@ -47,31 +47,6 @@ use Rattle.theory_left_orders.specs.FractionResidues.{ResidueRingsBy}
 use Rattle.theory_left_orders.proofs.FractionResidues.{over_one, over_one_is, num_is, poly_of_value, rest, rest_small}
 use Rattle.theory_left_orders.proofs.FractionResidues.{rest_is, poly_loc}
 use Rattle.theory_growth.proofs.Localized.{Multiplier, Localizes}
-
--- of two monic irreducible polynomials one divides the other only if they are the same
-irreducible_eq_of_divides : {K : Type 0} (F : FieldOn K) (m l : Poly F.cring)
-    → IsMonic F.cring m × IsIrreducible F.cring (field_polynomials F) m
-    → IsMonic F.cring l × IsIrreducible F.cring (field_polynomials F) l
-    → Divides (field_polynomials F) m l → m ≡ l
-irreducible_eq_of_divides F m l hm hl d =
-    let P = field_polynomials F in
-    let c = d.0 in
-    let l_ne = irreducible-ne-zero F l hl.1 in
-    let n : P.◌⊗◌ c m ≢ P.zero = λ e. l_ne (d.1 ∙ e) in
-    let sum = field_degree-mul F c m (left_ne_zero_of_mul P.ring c m n) (right_ne_zero_of_mul P.ring c m n) in
-    let same : degree l.0 ≡ degree (P.◌⊗◌ c m).0 = ap (λ (x : Poly F.cring). degree x.0) d.1 in
-    let pm = hm.1.positive in
-    let large : degree l.0 ≤ degree m.0 = ⊎_elim
-    (λ (g : degree m.0 < degree l.0). absurd (hl.1.no_factors c m (omega arith) g d.1))
-    (λ (g : degree l.0 ≤ degree m.0). g)
-    (cases_lt (degree m.0) (degree l.0)) in
-    let z : degree c.0 ≡ 0 = omega arith in
-    let i = degree_zero_inverse F c (left_ne_zero_of_mul P.ring c m n) z in
-    let inv = constant F.cring F.zero_test (F.inv (lead F.cring c)) in
-    monic_eq_of_divides F m l hm.0 hl.0 d (
-      inv,
-      sym (ap (P.◌⊗◌ inv) d.1 ∙ sym (P.mul_assoc inv c m) ∙ ap (λ x. P.◌⊗◌ x m) i ∙ P.one-mul m),
-    )
 
 module _ {E : Type 0} (o : Ops E) (L : FieldLaws o) (M : FieldLaws (fraction_ops o L)) where
   infixl 70 ◌⊗◌
@@ -265,10 +240,12 @@ module _ {E : Type 0} (o : Ops E) (L : FieldLaws o) (M : FieldLaws (fraction_ops
 
       not_divided : Divides P poly v → ⊥
       unfolding v
-      not_divided d = other
-          (sym (values_back o L l sl.polynomial)
-          ∙ ap (λ (x : Poly F.cring). values o L x.0) (sym (irreducible_eq_of_divides F poly v
-          (is_place_of o L (Finite m) s) (is_place_of o L (Finite l) sl) d))
+      not_divided d =
+          let is_place = is_place_of o L (Finite m) s in
+          let other_place = is_place_of o L (Finite l) sl in
+          other (sym (values_back o L l sl.polynomial)
+          ∙ ap (λ (x : Poly F.cring). values o L x.0) (sym (same_of_divides F poly v
+          is_place.0 other_place.0 is_place.1 other_place.1 d))
           ∙ values_back o L m s.polynomial)
 
       pub place_multiplier : Multiplier (fraction_ops o L) M (IsPolynomialFraction o) (IsIntegralAt o (Finite m))

@@ -5,8 +5,9 @@ use Rattle.theory_tables.specs.Subspace.{Rows}
 use Rattle.theory_growth.proofs.Quotients.{radical_is_proper}
 use Rattle.spl_residue.specs.Residue.{residue_ops}
 use Rattle.spl_residue.specs.ResidueOver.{residues_laws}
+use Rattle.spl_blocks.proofs.Quotients.{quotient_unital}
 use Rattle.spl_local.specs.PulledBack.{AreAllPulledBack}
-use Rattle.spl_local.proofs.MaximalIdeals.{quotient_unital, quotient_semisimple, maximal_ideals, are_matrices}
+use Rattle.spl_local.proofs.MaximalIdeals.{quotient_semisimple, maximal_ideals, are_matrices}
 use Rattle.spl_local.proofs.ideals.radical_and_ideals.Goals as goal
 
 pub quotient-requires-clause-proper : goal.quotient-requires-clause-proper
@@ -23,8 +24,8 @@ maximal_ideals-requires-clause-unital c =
     let A = c.args.b.now in
     let r = c.in_ok-radical.radical.rows in
     let z = c.in_ok-algebra in
-    quotient_unital o (residues_laws k.field k.modulus k.irreducible) A c.requires.unital r c.in_ok-radical.ensures.radical
-    z.field-0.algebra z.field-0.project z.field-0.lifts z.ensures
+    quotient_unital o (residues_laws k.field k.modulus k.irreducible) A c.requires.unital r z.field-0.algebra
+    z.field-0.project z.field-0.lifts z.ensures
 
 pub maximal_ideals-requires-clause-semisimple : goal.maximal_ideals-requires-clause-semisimple
 maximal_ideals-requires-clause-semisimple c =

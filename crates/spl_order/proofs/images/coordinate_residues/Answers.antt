@@ -72,6 +72,7 @@ residue_rows-requires c =
     c.in_ok-rows.ensures in
     record {
       field = c.requires.field;
+      place = c.requires.place;
       d = A.polynomial;
       nonzero = A.nonzero;
       rows = subst (IsPolynomialMatrix o n) (sym c.as_slice-3.ensures)

@@ -21,6 +21,7 @@ residues_over-requires c =
     let h = c.requires.rows i [] t in
     record {
       field = c.requires.field;
+      place = c.requires.place;
       d = c.requires.d;
       nonzero = c.requires.nonzero;
       items = subst (λ (z : List (List ℕ)). (p : ℕ) → p < length z → IsPolynomialList o (get_or z p [])) (sym e)

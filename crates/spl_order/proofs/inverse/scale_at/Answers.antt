@@ -5,7 +5,8 @@ use Rattle.theory_tables.specs.Matrix.{width_of}
 use Rattle.theory_rows.specs.Rows.{IsPolynomialMatrix, IsLatticeBasis, InRowKernel}
 use Rattle.spl_order.proofs.Values.{read_is}
 use Rattle.spl_order.proofs.InverseSteps.{more-length, more-wide, relation_in, relation-row, relation_kills, weight-is}
-use Rattle.spl_order.proofs.InverseSteps.{weight_nonzero, product_nonzero, others_in, unit_in}
+use Rattle.spl_order.proofs.Contents.{product_nonzero}
+use Rattle.spl_order.proofs.InverseSteps.{weight_nonzero, others_in, unit_in}
 use Rattle.spl_order.proofs.inverse.scale_at.Goals as goal
 
 pub kernel-requires : goal.kernel-requires
@@ -103,7 +104,7 @@ returns c =
     let rest = subst (λ t. get_or (get_or ker 0 []) t [] ≡ s) (sym c.requires.count) (sym item) in
     record {
       polynomial = hr;
-      nonzero = product_nonzero o L n basis c.requires.basis d s r c.requires.d hs hr p.value c.requires.nonzero
+      nonzero = product_nonzero o L d s r c.requires.d hs hr p.value c.requires.nonzero
           (λ z. weight_nonzero o L n basis c.requires.basis c.requires.count c.requires.independent d c.requires.d i ker B (sym item ∙ z));
       member = unit_in o L n basis c.requires.basis d s r c.requires.d hs hr p.value i (get_or ker 0 []) row
           (relation_kills o L n basis c.requires.basis c.requires.count c.requires.independent d c.requires.d i ker B) rest;

@@ -3,7 +3,8 @@ use Rattle.std.proofs.lemmas.Bool.{both_ways}
 use Rattle.theory_tables.specs.Subspace.{IsReducedBasis}
 use Rattle.spl_residue.specs.Residue.{residue_ops}
 use Rattle.spl_residue.specs.ResidueOver.{residues_laws}
-use Rattle.spl_ramified.proofs.MaximalIdeals.{not_maximal, proper, quotient_unital, maximal_where_simple}
+use Rattle.spl_blocks.proofs.Quotients.{quotient_unital}
+use Rattle.spl_ramified.proofs.MaximalIdeals.{not_maximal, proper, maximal_where_simple}
 use Rattle.spl_ramified.proofs.maximal.is_maximal_ideal.Goals as goal
 
 pub returns-then-dim : goal.returns-then-dim
@@ -32,8 +33,7 @@ is_simple_by_rank-requires c =
     let z = c.in_ok-algebra in
     record {
       unital = quotient_unital (residue_ops k) (residues_laws k.field k.modulus k.irreducible) c.args.b.now
-          c.requires.unital c.args.ideal.now.rows c.requires.ideal z.field-0.algebra z.field-0.project z.field-0.lifts
-          z.ensures;
+          c.requires.unital c.args.ideal.now.rows z.field-0.algebra z.field-0.project z.field-0.lifts z.ensures;
     }
 
 pub returns : goal.returns
